@@ -1,15 +1,20 @@
 -- Runs of copies of a character, and what is written of them.
 use Rattle.std.proofs.Common.{◌≡◌, ℕ, zero, suc, ◌≤◌, ◌-◌, ◌+◌, ◌*◌, ◌^◌, min, ◌++◌, refl, arith}
 use Rattle.std.proofs.Common.{replicate, IsUtf8, chars, encode_utf8, encode_utf8_all, slice_range}
+use Rattle.std.proofs.Common.{◌<◌, List, length, take, drop, append_assoc}
 use Rattle.std.specs.Str.{IsCharBoundary}
 use Rattle.std.specs.Char.{IsScalar, len_utf8}
 use Rattle.std.proofs.lemmas.Str.{IsCharBoundary-at_seam, encodes-append, chars_from_encodes}
 use Rattle.std.proofs.lemmas.Str.{IsUtf8-append, IsUtf8-encode, IsUtf8-nil, len_utf8_bounds}
+use Rattle.std.proofs.lemmas.Str.{IsUtf8-from_ascii, chars-append, chars-IsAscii}
+use Rattle.std.proofs.Math.Seq.{take-append-add}
+use Rattle.std.proofs.lemmas.List.{length-replicate, take-replicate, drop-replicate}
 use Rattle.std.proofs.lemmas.List.{replicate-append-replicate, take_at}
 use Rattle.std.proofs.lemmas.Nat.{mul-le}
+use Rattle.interpolator_render.specs.Padding.{between_fill}
 use Rattle.interpolator_render.specs.Written.{Written, byte_count, Appends, RefusesLong}
 use Rattle.interpolator_render.proofs.LayoutLemmas.{appends_both, bytes_of_copies, refuses_in_first}
-use Rattle.interpolator_render.proofs.LayoutLemmas.{refuses_in_second}
+use Rattle.interpolator_render.proofs.LayoutLemmas.{IsAscii-replicate, refuses_in_second}
 
 -- copies of a character are UTF-8
 pub IsUtf8-copies : (n c : ℕ) → IsScalar c → IsUtf8 (encode_utf8_all (replicate n c))
@@ -73,3 +78,59 @@ copies_stop a b d count left k c done taken all m l n e p q =
     grind (arith, replicate-append-replicate) in
     rw (← whole, ← copies_split count left k c m l)
     (refuses_in_first a d _ _ all (refuses_in_second a b d _ _ done taken all n e p q))
+
+-- a text over the places of copies
+pub around_copies : (fill before : ℕ) (text : List ℕ) → before + length text ≤ 64 →
+    (take before (replicate 64 fill) ++ text) ++ drop (before + length text) (replicate 64 fill)
+    ≡ replicate before fill ++ (text ++ replicate (64 - (before + length text)) fill)
+around_copies fill before text h =
+    rw (
+      take-replicate before 64 fill (omega arith),
+      drop-replicate (before + length text) 64 fill,
+      append_assoc,
+    ) refl
+
+-- and its first places
+block_front : (fill before after : ℕ) (text : List ℕ) → before + length text + after ≤ 64 →
+    take (before + length text + after)
+    (replicate before fill ++ (text ++ replicate (64 - (before + length text)) fill))
+    ≡ between_fill fill before after text
+block_front fill before after text h =
+    let rest = replicate (64 - (before + length text)) fill in
+    let size : before + length text + after ≡ length (replicate before fill) + (length text + after)
+    = omega (arith, length-replicate before fill) in
+    rw (
+      size,
+      take-append-add (replicate before fill) (text ++ rest) (length text + after),
+      take-append-add text rest after,
+      take-replicate after (64 - (before + length text)) fill (omega arith),
+    ) refl
+
+-- they are a text
+pub block_utf8 : (fill before after : ℕ) (text block : List ℕ) → fill < 128 → IsUtf8 text →
+    before + length text + after ≤ 64 →
+    block ≡ replicate before fill ++ (text ++ replicate (64 - (before + length text)) fill) →
+    IsUtf8 (take (before + length text + after) block)
+block_utf8 fill before after text block a u h e = rw (e, block_front fill before after text h)
+    (IsUtf8-append (replicate before fill) _
+    (IsUtf8-from_ascii _ (IsAscii-replicate before fill a))
+    (IsUtf8-append text (replicate after fill) u
+    (IsUtf8-from_ascii _ (IsAscii-replicate after fill a))))
+
+-- with these characters
+pub block_chars : (fill before after : ℕ) (text block : List ℕ) → fill < 128 → IsUtf8 text →
+    before + length text + after ≤ 64 →
+    block ≡ replicate before fill ++ (text ++ replicate (64 - (before + length text)) fill) →
+    chars (take (before + length text + after) block)
+    ≡ between_fill fill before after (chars text)
+block_chars fill before after text block a u h e =
+    let front = IsAscii-replicate before fill a in
+    let back = IsAscii-replicate after fill a in
+    rw (
+      e,
+      block_front fill before after text h,
+      chars-append (replicate before fill) (text ++ replicate after fill) (IsUtf8-from_ascii _ front),
+      chars-append text (replicate after fill) u,
+      chars-IsAscii (replicate before fill) front,
+      chars-IsAscii (replicate after fill) back,
+    ) refl

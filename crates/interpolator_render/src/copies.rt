@@ -1,6 +1,6 @@
 //! Copies of a character, alone and on both sides of a text, written by slices.
 ghost use Rattle.std.specs.Prelude.{◌≡◌, ◌+◌, ◌-◌, ◌*◌, ◌++◌, ◌^◌, ◌<◌, ◌≤◌, min, replicate};
-ghost use Rattle.std.specs.Prelude.{encode_utf8, encode_utf8_all};
+ghost use Rattle.std.specs.Prelude.{encode_utf8, encode_utf8_all, length};
 ghost use Rattle.std.specs.Char.{len_utf8};
 ghost use Rattle.std.specs.Str.{chars};
 ghost use Rattle.interpolator_render.specs.Characters.{space, zero_digit};
@@ -9,6 +9,7 @@ ghost use Rattle.interpolator_render.specs.Padding.{between_fill};
 ghost use Rattle.interpolator_render.specs.Written.{Puts, byte_count};
 
 use crate::layout::{byte_len, put_text};
+use crate::places::block_around;
 use crate::text_write::{Refusal, TextWrite};
 
 /// How many copies of a character are written by one call.
@@ -229,6 +230,25 @@ pub(crate) fn put_between<W: TextWrite>(
     }
 }
 
+/// Writes a text between copies of an ASCII character, made in one block and written by one call.
+#[inline(always)]
+pub(crate) fn put_in_block<W: TextWrite>(
+    out: &mut W,
+    text: &str,
+    fill: u8,
+    before: usize,
+    after: usize,
+) -> Result<(), Refusal>
+    requires ascii { fill < 128 }
+    requires fits { before + length text.now + after ≤ 64 }
+    ensures { Puts (W.written out.old) (between_fill fill before after (chars text.now)) result
+        (W.written out.new) }
+{
+    let block = block_around(text.as_bytes(), fill, before);
+    let shown = &block[..before + text.len() + after];
+    put_text(out, unsafe { str::from_utf8_unchecked(shown) })
+}
+
 /// A run of spaces.
 fn spaces() -> Run<'static>
     ensures run { IsRun result }
@@ -254,6 +274,7 @@ fn zeros() -> Run<'static>
 }
 
 /// Writes a text between spaces.
+#[inline(never)]
 pub(crate) fn put_between_spaces<W: TextWrite>(
     out: &mut W,
     text: &str,

@@ -10,6 +10,7 @@ ghost use Rattle.interpolator_render.specs.Texts.{Renders, has_text};
 ghost use Rattle.interpolator_render.specs.Written.{Puts};
 
 use crate::digit_buffer::{BUFFER_WIDTH, DigitBuffer};
+use crate::digits::GREATEST_U64;
 use crate::layout::put_ascii;
 use crate::number_form::NumberForm;
 use crate::number_parts::{NumberParts, put_padded, sign_str};
@@ -94,16 +95,15 @@ fn put_in_row<W: TextWrite>(
     put_ascii(out, buffer.as_str())
 }
 
-/// Writes a number in exponent form part by part, which serves any width and precision.
-#[cold]
-#[inline(never)]
+/// Writes what exponent form shows part by part, which serves any width and precision.
+#[inline(always)]
 #[tactic(auto, using(crate::proofs::ExponentRowLemmas::part_steps))]
-fn put_in_parts<W: TextWrite>(
+fn put_shown_parts<W: TextWrite>(
     out: &mut W,
-    upper: bool,
     spec: &Spec,
-    negative: bool,
     shown: Shown,
+    negative: bool,
+    upper: bool,
 ) -> Result<(), Refusal>
     requires { shown.exponent ≤ 39 }
     ensures { Puts (W.written out.old) (padded_number spec.now (sign_text negative spec.now.sign)
@@ -123,9 +123,63 @@ fn put_in_parts<W: TextWrite>(
     put_padded(out, spec, number)
 }
 
-/// Writes a number in exponent form.
+/// Writes a number in exponent form part by part. It finds anew what is shown, so that this need
+/// not be in memory for its sake.
+#[cold]
 #[inline(never)]
 #[tactic(auto, using(crate::proofs::ExponentRowLemmas::shown_exponent))]
+fn put_in_parts<W: TextWrite>(
+    out: &mut W,
+    spec: &Spec,
+    n: u128,
+    negative: bool,
+    upper: bool,
+) -> Result<(), Refusal>
+    ensures { Puts (W.written out.old) (number_text (NumberForm.Exponent upper) spec.now negative n)
+        result (W.written out.new) }
+{
+    let shown = shown_of(n, spec.precision);
+    put_shown_parts(out, spec, shown, negative, upper)
+}
+
+/// Writes a number in exponent form, made in one buffer if it fits.
+#[inline(always)]
+#[tactic(auto, using(crate::proofs::ExponentRowLemmas::shown_exponent))]
+fn put_fitting<W: TextWrite>(
+    out: &mut W,
+    spec: &Spec,
+    n: u128,
+    negative: bool,
+    upper: bool,
+) -> Result<(), Refusal>
+    ensures { Puts (W.written out.old) (number_text (NumberForm.Exponent upper) spec.now negative n)
+        result (W.written out.new) }
+{
+    let shown = shown_of(n, spec.precision);
+    if shown.zeros <= BUFFER_WIDTH && fits_buffer(spec) {
+        put_in_row(out, upper, spec, negative, shown)
+    } else {
+        put_in_parts(out, spec, n, negative, upper)
+    }
+}
+
+/// As [`put_exponent`], for a number that may have more than 64 bits.
+#[inline(never)]
+fn put_wide<W: TextWrite>(
+    out: &mut W,
+    spec: &Spec,
+    n: u128,
+    negative: bool,
+    upper: bool,
+) -> Result<(), RenderFault>
+    ensures { Renders (has_text (number_text (NumberForm.Exponent upper) spec.now negative n))
+        (W.written out.old) result (W.written out.new) }
+{
+    refused(put_fitting(out, spec, n, negative, upper))
+}
+
+/// Writes a number in exponent form. That of a number of 64 bits is compiled for these alone.
+#[inline(never)]
 pub(crate) fn put_exponent<W: TextWrite>(
     out: &mut W,
     spec: &Spec,
@@ -136,10 +190,10 @@ pub(crate) fn put_exponent<W: TextWrite>(
     ensures { Renders (has_text (number_text (NumberForm.Exponent upper) spec.now negative n))
         (W.written out.old) result (W.written out.new) }
 {
-    let shown = shown_of(n, spec.precision);
-    if shown.zeros <= BUFFER_WIDTH && fits_buffer(spec) {
-        refused(put_in_row(out, upper, spec, negative, shown))
+    if n <= GREATEST_U64 {
+        let short = n as u64;
+        refused(put_fitting(out, spec, short as u128, negative, upper))
     } else {
-        refused(put_in_parts(out, upper, spec, negative, shown))
+        put_wide(out, spec, n, negative, upper)
     }
 }

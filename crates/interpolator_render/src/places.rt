@@ -1,5 +1,6 @@
 //! A row of bytes with places that are ready for more.
-ghost use Rattle.std.specs.Prelude.{◌≡◌, ◌+◌, ◌<◌, ◌≤◌, ◌++◌, length, take, drop, vec_capacity};
+ghost use Rattle.std.specs.Prelude.{◌≡◌, ◌+◌, ◌-◌, ◌<◌, ◌≤◌, ◌++◌, length, replicate, take, drop};
+ghost use Rattle.std.specs.Prelude.{vec_capacity};
 
 /// How many places are made ready at once. A text that grows by little then seldom asks for more,
 /// and a buffer with much room is not written as a whole.
@@ -83,6 +84,31 @@ fn copy_text(to: &mut [u8], from: &[u8])
 }
 
 /// Writes a text over the places from `at` on.
+#[inline(always)]
+fn put_over(row: &mut [u8], at: usize, text: &[u8])
+    requires { at + length text.now ≤ length row.old }
+    ensures { row.new ≡ take at row.old ++ text.now ++ drop (at + length text.now) row.old }
+{
+    copy_text(&mut row[at..at + text.len()], text);
+}
+
+/// How many bytes a block has.
+pub(crate) const BLOCK: usize = 64;
+
+/// A block of a text between copies of an ASCII character.
+#[tactic(auto, using(crate::proofs::CopyLemmas::around_copies))]
+#[inline(always)]
+pub(crate) fn block_around(text: &[u8], fill: u8, before: usize) -> [u8; BLOCK]
+    requires { before + length text.now ≤ 64 }
+    ensures { result ≡ replicate before fill
+        ++ (text.now ++ replicate (64 - (before + length text.now)) fill) }
+{
+    let mut block = [fill; BLOCK];
+    put_over(&mut block, before, text);
+    block
+}
+
+/// Writes a text over the places of a row from `at` on.
 #[inline(always)]
 pub(crate) fn put_at(row: &mut Vec<u8>, at: usize, text: &[u8])
     requires { at + length text.now ≤ length row.old.items }

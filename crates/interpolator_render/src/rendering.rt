@@ -1,5 +1,5 @@
 //! The text of a view, written.
-ghost use Rattle.std.specs.Prelude.{◌≡◌, ◌∷◌, [], ◌<◌, ◌≤◌, Some};
+ghost use Rattle.std.specs.Prelude.{◌≡◌, ◌+◌, ◌∷◌, [], ◌<◌, ◌≤◌, Some, length, true};
 ghost use Rattle.std.specs.Str.{chars};
 ghost use Rattle.interpolator_render.specs.Characters.{single_quote};
 ghost use Rattle.interpolator_render.specs.Padding.{displayed_text};
@@ -14,13 +14,14 @@ ghost use Rattle.interpolator_render.specs.Views.{IsInRange, shown_by, unsigned_
 ghost use Rattle.interpolator_render.specs.Written.{Puts};
 
 use crate::characters::cut;
-use crate::copies::{put_between, put_between_spaces};
+use crate::copies::{put_between, put_between_spaces, put_in_block};
 use crate::decimal::put_decimal;
 use crate::decimal_exponent::put_decimal_exponent;
 use crate::digits::GREATEST_U64;
 use crate::layout::{fill_before, put_text};
 use crate::number::{put_bare, put_bare_signed, put_integer, put_natural, put_number};
 use crate::number_form::{NumberForm, number_form, sign_and_magnitude};
+use crate::places::BLOCK;
 use crate::quoting::put_quoted;
 use crate::text_write::{Refusal, TextWrite, refused};
 use crate::view::{RenderFault, Spec, Trait, View};
@@ -53,6 +54,14 @@ pub fn pad<W: TextWrite>(out: &mut W, text: &str, spec: &Spec) -> Result<(), Ref
     }
 }
 
+/// Whether a text and its padding of ASCII characters fit in a block.
+#[inline(always)]
+fn fits_block(text: &str, missing: usize) -> bool
+    ensures { result ≡ true → length text.now + missing ≤ 64 }
+{
+    text.len() <= BLOCK && missing <= BLOCK - text.len()
+}
+
 /// As [`pad`], with a precision or a width.
 #[tactic(auto, unfolding(crate::specs::Padding::padded_text))]
 #[inline(never)]
@@ -65,7 +74,11 @@ fn put_cut<W: TextWrite>(out: &mut W, text: &str, spec: &Spec) -> Result<(), Ref
     }
     let (shown, missing) = cut(text, spec.precision, spec.width);
     let before = fill_before(spec.alignment, missing, 0);
-    put_between_spaces(out, shown, before, missing - before)
+    if fits_block(shown, missing) {
+        put_in_block(out, shown, b' ', before, missing - before)
+    } else {
+        put_between_spaces(out, shown, before, missing - before)
+    }
 }
 
 /// As [`pad`], with a given fill.
@@ -78,7 +91,11 @@ fn put_filled<W: TextWrite>(out: &mut W, text: &str, spec: &Spec, fill: char) ->
 {
     let (shown, missing) = cut(text, spec.precision, spec.width);
     let before = fill_before(spec.alignment, missing, 0);
-    put_between(out, shown, fill, before, missing - before)
+    if fill.is_ascii() && fits_block(shown, missing) {
+        put_in_block(out, shown, fill as u8, before, missing - before)
+    } else {
+        put_between(out, shown, fill, before, missing - before)
+    }
 }
 
 fn truth_str(truth: bool) -> &'static str
