@@ -163,9 +163,25 @@ fn put_fitting<W: TextWrite>(
     }
 }
 
-/// As [`put_exponent`], for a number that may have more than 64 bits.
+/// Writes a number of 64 bits in exponent form. It is a call of its own, so that the compiler knows
+/// of each number that follows from it how short it is.
 #[inline(never)]
-fn put_wide<W: TextWrite>(
+fn put_short<W: TextWrite>(
+    out: &mut W,
+    spec: &Spec,
+    n: u64,
+    negative: bool,
+    upper: bool,
+) -> Result<(), RenderFault>
+    ensures { Renders (has_text (number_text (NumberForm.Exponent upper) spec.now negative n))
+        (W.written out.old) result (W.written out.new) }
+{
+    refused(put_fitting(out, spec, n as u128, negative, upper))
+}
+
+/// Writes a number of any width in exponent form.
+#[inline(never)]
+fn put_long<W: TextWrite>(
     out: &mut W,
     spec: &Spec,
     n: u128,
@@ -178,8 +194,8 @@ fn put_wide<W: TextWrite>(
     refused(put_fitting(out, spec, n, negative, upper))
 }
 
-/// Writes a number in exponent form. That of a number of 64 bits is compiled for these alone.
-#[inline(never)]
+/// Writes a number in exponent form.
+#[inline(always)]
 pub(crate) fn put_exponent<W: TextWrite>(
     out: &mut W,
     spec: &Spec,
@@ -191,9 +207,8 @@ pub(crate) fn put_exponent<W: TextWrite>(
         (W.written out.old) result (W.written out.new) }
 {
     if n <= GREATEST_U64 {
-        let short = n as u64;
-        refused(put_fitting(out, spec, short as u128, negative, upper))
+        put_short(out, spec, n as u64, negative, upper)
     } else {
-        put_wide(out, spec, n, negative, upper)
+        put_long(out, spec, n, negative, upper)
     }
 }

@@ -1,5 +1,5 @@
 //! The text of a view, written.
-ghost use Rattle.std.specs.Prelude.{◌≡◌, ◌+◌, ◌∷◌, [], ◌<◌, ◌≤◌, Some, length, true};
+ghost use Rattle.std.specs.Prelude.{◌≡◌, ◌+◌, ◌∷◌, [], ◌<◌, ◌≤◌, None, Some, length, true};
 ghost use Rattle.std.specs.Str.{chars};
 ghost use Rattle.interpolator_render.specs.Characters.{single_quote};
 ghost use Rattle.interpolator_render.specs.Padding.{displayed_text};
@@ -63,15 +63,28 @@ fn fits_block(text: &str, missing: usize) -> bool
 }
 
 /// As [`pad`], with a precision or a width.
-#[tactic(auto, unfolding(crate::specs::Padding::padded_text))]
 #[inline(never)]
 fn put_cut<W: TextWrite>(out: &mut W, text: &str, spec: &Spec) -> Result<(), Refusal>
     ensures { Puts (W.written out.old) (displayed_text spec.now (chars text.now)) result
         (W.written out.new) }
 {
-    if let Some(fill) = spec.fill {
-        return put_filled(out, text, spec, fill);
+    let Some(fill) = spec.fill else {
+        return put_spaced(out, text, spec);
+    };
+    if fill.is_ascii() {
+        return put_filled(out, text, spec, fill as u8);
     }
+    put_filled_widely(out, text, spec, fill)
+}
+
+/// As [`pad`], without a fill.
+#[tactic(auto, unfolding(crate::specs::Padding::padded_text))]
+#[inline(never)]
+fn put_spaced<W: TextWrite>(out: &mut W, text: &str, spec: &Spec) -> Result<(), Refusal>
+    requires { spec.now.fill ≡ None }
+    ensures { Puts (W.written out.old) (displayed_text spec.now (chars text.now)) result
+        (W.written out.new) }
+{
     let (shown, missing) = cut(text, spec.precision, spec.width);
     let before = fill_before(spec.alignment, missing, 0);
     if fits_block(shown, missing) {
@@ -81,21 +94,40 @@ fn put_cut<W: TextWrite>(out: &mut W, text: &str, spec: &Spec) -> Result<(), Ref
     }
 }
 
-/// As [`pad`], with a given fill.
+/// As [`pad`], with a fill that is ASCII.
 #[tactic(auto, unfolding(crate::specs::Padding::padded_text))]
 #[inline(never)]
-fn put_filled<W: TextWrite>(out: &mut W, text: &str, spec: &Spec, fill: char) -> Result<(), Refusal>
+fn put_filled<W: TextWrite>(out: &mut W, text: &str, spec: &Spec, fill: u8) -> Result<(), Refusal>
+    requires given { spec.now.fill ≡ Some fill }
+    requires ascii { fill < 128 }
+    ensures { Puts (W.written out.old) (displayed_text spec.now (chars text.now)) result
+        (W.written out.new) }
+{
+    let (shown, missing) = cut(text, spec.precision, spec.width);
+    let before = fill_before(spec.alignment, missing, 0);
+    if fits_block(shown, missing) {
+        put_in_block(out, shown, fill, before, missing - before)
+    } else {
+        put_between(out, shown, fill as char, before, missing - before)
+    }
+}
+
+/// As [`pad`], with a fill of one byte or more.
+#[tactic(auto, unfolding(crate::specs::Padding::padded_text))]
+#[inline(never)]
+fn put_filled_widely<W: TextWrite>(
+    out: &mut W,
+    text: &str,
+    spec: &Spec,
+    fill: char,
+) -> Result<(), Refusal>
     requires { spec.now.fill ≡ Some fill }
     ensures { Puts (W.written out.old) (displayed_text spec.now (chars text.now)) result
         (W.written out.new) }
 {
     let (shown, missing) = cut(text, spec.precision, spec.width);
     let before = fill_before(spec.alignment, missing, 0);
-    if fill.is_ascii() && fits_block(shown, missing) {
-        put_in_block(out, shown, fill as u8, before, missing - before)
-    } else {
-        put_between(out, shown, fill, before, missing - before)
-    }
+    put_between(out, shown, fill, before, missing - before)
 }
 
 fn truth_str(truth: bool) -> &'static str
