@@ -12,7 +12,7 @@ use Rattle.interpolator_render.specs.Decimals.{decimal_exponent_text, scale_of, 
 use Rattle.interpolator_render.specs.Digits.{digit_text}
 use Rattle.interpolator_render.specs.DigitBuffers.{Buffered, put_before}
 use Rattle.interpolator_render.specs.Exponent.{exponent_tail, mark, scientific}
-use Rattle.interpolator_render.specs.Padding.{IsNumberLayout, IsNumberRow, fill_of, number_fill}
+use Rattle.interpolator_render.specs.Padding.{IsNumberLayout, IsNumberRow, fill_of, row_fill}
 use Rattle.interpolator_render.specs.Padding.{padded_number}
 use Rattle.interpolator_render.proofs.DecimalLemmas.{length-placed, placed_none, placed_some}
 use Rattle.interpolator_render.proofs.DigitBufferLemmas.{grown_twice}
@@ -66,7 +66,7 @@ pub ruleset after_steps = (nothing_after, after_pieces, length-placed, length-re
 -- a decimal alone in a row
 pub decimal_row : (spec : Spec) (whole part places zeros : ℕ) (empty row : Buffered) (fill : ℕ) →
     unwrap_or spec.width 0 ≤ 40 → whole < 2 ^ 128 → part < 10 ^ places → places + zeros ≤ 40 →
-    fill ≡ number_fill spec → empty ≡ record { before = 88; text = []; after = 40; fill = fill } →
+    fill ≡ row_fill spec → empty ≡ record { before = 88; text = []; after = 40; fill = fill } →
     row ≡ put_before (split_text whole part places zeros) empty → IsNumberRow spec row
 decimal_row spec whole part places zeros empty row fill w d p z f e r =
     grind (arith, decimal_digits, few_after, length-append)
@@ -137,7 +137,7 @@ length-scaled_tail upper exponent scale s h =
 pub scaled_row : (spec : Spec) (digits zeros exponent scale : ℕ) (upper : Bool)
     (empty row : Buffered) (fill : ℕ) → unwrap_or spec.width 0 ≤ 40 → digits < 2 ^ 128 →
     zeros ≤ 30 → exponent ≤ 39 → scale < 2 ^ 32 →
-    fill ≡ number_fill spec → empty ≡ record { before = 88; text = []; after = 40; fill = fill } →
+    fill ≡ row_fill spec → empty ≡ record { before = 88; text = []; after = 40; fill = fill } →
     row ≡ put_before (shown_scaled upper digits zeros exponent scale) empty → IsNumberRow spec row
 scaled_row spec digits zeros exponent scale upper empty row fill w d z s h f e r =
     grind (arith, common_steps, length-scaled_tail, digits_row)

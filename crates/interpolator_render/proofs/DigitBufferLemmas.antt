@@ -12,7 +12,7 @@ use Rattle.interpolator_render.specs.declared.number_form.Radix.{Radix}
 use Rattle.interpolator_render.specs.declared.view.Spec.{Spec}
 use Rattle.interpolator_render.specs.Digits.{digit_text}
 use Rattle.interpolator_render.specs.Numbers.{base_of, is_upper}
-use Rattle.interpolator_render.specs.Padding.{IsNumberRow, number_fill}
+use Rattle.interpolator_render.specs.Padding.{IsNumberRow, row_fill}
 use Rattle.interpolator_render.proofs.DigitLemmas.{length-digit_text-le}
 use Rattle.interpolator_render.specs.DigitBuffers.{Buffered, IsBuffered, buffer_row, put_before, put_after}
 use Rattle.interpolator_render.proofs.LayoutLemmas.{IsAscii-replicate}
@@ -133,7 +133,7 @@ few_decimals n s = short_digits 10 n false (omega arith) s
 
 -- the digits of 64 bits alone in a row
 pub number_row : (spec : Spec) (radix : Radix) (n : ℕ) (empty row : Buffered) (fill : ℕ) →
-    unwrap_or spec.width 0 ≤ 40 → n < 2 ^ 64 → fill ≡ number_fill spec →
+    unwrap_or spec.width 0 ≤ 40 → n < 2 ^ 64 → fill ≡ row_fill spec →
     empty ≡ record { before = 88; text = []; after = 40; fill = fill } →
     row ≡ put_before (digit_text (base_of radix) (is_upper radix) n) empty → IsNumberRow spec row
 number_row spec radix n empty row fill w s f e r =

@@ -7,7 +7,7 @@ use Rattle.std.proofs.lemmas.Bool.Decides.{nat_tests}
 use Rattle.std.proofs.lemmas.List.{length-replicate}
 use Rattle.interpolator_render.specs.Digits.{digit_text}
 use Rattle.interpolator_render.specs.declared.view.Spec.{Spec}
-use Rattle.interpolator_render.specs.Padding.{IsNumberRow, number_fill}
+use Rattle.interpolator_render.specs.Padding.{IsNumberRow, row_fill}
 use Rattle.interpolator_render.specs.Exponent.{exponent_tail, exponent_text, leading, with_point}
 use Rattle.interpolator_render.specs.Exponent.{scientific, shown_text}
 use Rattle.interpolator_render.specs.DigitBuffers.{Buffered, put_before}
@@ -87,7 +87,7 @@ shown_pieces upper digits zeros exponent row tail padded all a b c =
 -- digits, zeros and a text after them alone in a row
 pub digits_row : (spec : Spec) (digits zeros : ℕ) (after : List ℕ) (empty row : Buffered)
     (fill : ℕ) → unwrap_or spec.width 0 ≤ 40 → digits < 2 ^ 128 → zeros + length after ≤ 45 →
-    fill ≡ number_fill spec → empty ≡ record { before = 88; text = []; after = 40; fill = fill } →
+    fill ≡ row_fill spec → empty ≡ record { before = 88; text = []; after = 40; fill = fill } →
     row ≡ put_before (with_point (digit_text 10 false digits ++ replicate zeros 48) ++ after) empty →
     IsNumberRow spec row
 digits_row spec digits zeros after empty row fill w d z f e r =
@@ -98,7 +98,7 @@ digits_row spec digits zeros after empty row fill w d z f e r =
 -- an exponent form alone in a row
 pub exponent_row : (spec : Spec) (digits zeros exponent : ℕ) (upper : Bool) (empty row : Buffered)
     (fill : ℕ) → unwrap_or spec.width 0 ≤ 40 → digits < 2 ^ 128 → zeros ≤ 40 → exponent ≤ 39 →
-    fill ≡ number_fill spec → empty ≡ record { before = 88; text = []; after = 40; fill = fill } →
+    fill ≡ row_fill spec → empty ≡ record { before = 88; text = []; after = 40; fill = fill } →
     row ≡ put_before (shown_text upper digits zeros exponent) empty → IsNumberRow spec row
 exponent_row spec digits zeros exponent upper empty row fill w d z s f e r =
     digits_row spec digits zeros (exponent_tail upper exponent) empty row fill w d

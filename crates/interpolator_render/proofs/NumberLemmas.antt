@@ -60,6 +60,12 @@ unfolding padded_number
 nothing_padded spec front body z m =
     grind (arith, before_within spec.alignment 0 0, append-nil)
 
+-- a number without a width
+pub unpadded : (spec : Spec) (front body : List ℕ) → spec.width ≡ None →
+    front ++ body ≡ padded_number spec front body
+unfolding padded_number
+unpadded spec front body w = grind (arith, before_within spec.alignment 0 0, append-nil)
+
 -- a number that is written by its digits alone, after a minus if it is negative
 pub bare_number : (spec : Spec) (negative : Bool) (n : ℕ) → spec.width ≡ None →
     spec.zero ≡ false → spec.alternate ≡ false → spec.sign ≡ NoSign →
@@ -77,4 +83,4 @@ bare_body spec negative body w z s =
 
 pub ruleset bare_texts = (bare_number, bare_body)
 
-pub ruleset row_paddings = (fill_padded, length-append, nothing_padded, zero_padded)
+pub ruleset row_paddings = (fill_padded, length-append, nothing_padded, unpadded, zero_padded)

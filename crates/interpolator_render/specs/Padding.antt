@@ -1,6 +1,6 @@
 -- Padding: numbers and other texts, brought to their width.
 use Rattle.std.specs.Prelude.{◌≡◌, ℕ, ◌+◌, ◌-◌, ◌/◌, ◌^◌, ◌<◌, ◌≤◌, true, false, List, ◌++◌, length}
-use Rattle.std.specs.Prelude.{None, replicate, unwrap_or, if◌then◌else◌}
+use Rattle.std.specs.Prelude.{Option, None, Some, replicate, unwrap_or, if◌then◌else◌}
 use Rattle.interpolator_render.specs.declared.view.Alignment.{Alignment}
 use Rattle.interpolator_render.specs.declared.view.Alignment.TheVariants.{Unset, Left, Center}
 use Rattle.interpolator_render.specs.declared.view.Alignment.TheVariants.{Right}
@@ -74,10 +74,18 @@ pub record IsNumberLayout (spec : Spec) (count before zeros after : ℕ) : Type 
 abbrev pub number_fill : Spec → ℕ
 number_fill spec = if spec.zero then zero_digit else fill_of spec
 
+-- what is around a number in a row: what pads it, if there is a width
+abbrev pub fill_to : Option ℕ → ℕ → ℕ
+fill_to None fill = space
+fill_to (Some width) fill = fill
+
+abbrev pub row_fill : Spec → ℕ
+row_fill spec = fill_to spec.width (number_fill spec)
+
 -- a row that holds a number's body alone, with room for what comes before and after it
 pub record IsNumberRow (spec : Spec) (row : Buffered) : Type 0 where
   pub narrow : unwrap_or spec.width 0 ≤ 40
-  pub fill : row.fill ≡ number_fill spec
+  pub fill : row.fill ≡ row_fill spec
   pub before : row.before + length row.text ≡ 88
   pub front : length row.text ≤ 85
   pub after : row.after ≡ 40

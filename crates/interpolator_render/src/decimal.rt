@@ -8,7 +8,7 @@ ghost use Rattle.interpolator_render.specs.DigitBuffers.{put_before};
 ghost use Rattle.interpolator_render.specs.Digits.{digit_text};
 ghost use Rattle.interpolator_render.specs.Numbers.{IsShortAscii, distance_from_zero, is_negative};
 ghost use Rattle.interpolator_render.specs.Numbers.{sign_text};
-ghost use Rattle.interpolator_render.specs.Padding.{number_fill, padded_number};
+ghost use Rattle.interpolator_render.specs.Padding.{row_fill, padded_number};
 ghost use Rattle.interpolator_render.specs.Written.{Puts};
 
 use crate::decimal_digits::{DecimalDigits, GREATEST_SHORT_SCALE, decimal_digits, short_split};
@@ -82,7 +82,7 @@ fn put_in_row<W: TextWrite>(
     shown: DecimalDigits,
 ) -> Result<(), Refusal>
     requires narrow { unwrap_or spec.now.width 0 ≤ 40 }
-    requires ascii { number_fill spec.now < 128 }
+    requires ascii { row_fill spec.now < 128 }
     requires fits { shown.part < 10 ^ shown.places }
     requires few { shown.places + shown.zeros ≤ 40 }
     ensures { Puts (W.written out.old) (padded_number spec.now (sign_text negative spec.now.sign)

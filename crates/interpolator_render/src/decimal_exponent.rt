@@ -4,7 +4,7 @@ ghost use Rattle.interpolator_render.specs.Decimals.{decimal_exponent_text, scal
 ghost use Rattle.interpolator_render.specs.Decimals.{scale_of, shown_scaled};
 ghost use Rattle.interpolator_render.specs.DigitBuffers.{put_before};
 ghost use Rattle.interpolator_render.specs.Numbers.{distance_from_zero, is_negative, sign_text};
-ghost use Rattle.interpolator_render.specs.Padding.{number_fill, padded_number};
+ghost use Rattle.interpolator_render.specs.Padding.{row_fill, padded_number};
 ghost use Rattle.interpolator_render.specs.Written.{Puts};
 
 use crate::digit_buffer::DigitBuffer;
@@ -92,7 +92,7 @@ fn put_in_row<W: TextWrite>(
     number: ScaledShown,
 ) -> Result<(), Refusal>
     requires narrow { unwrap_or spec.now.width 0 ≤ 40 }
-    requires ascii { number_fill spec.now < 128 }
+    requires ascii { row_fill spec.now < 128 }
     requires small { number.shown.exponent ≤ 39 }
     requires few { number.shown.zeros ≤ 30 }
     ensures { Puts (W.written out.old) (padded_number spec.now (sign_text negative spec.now.sign)

@@ -27,7 +27,8 @@ const START: usize = 88;
 #[derive(Drop)]
 pub(crate) struct DigitBuffer {
     bytes: [u8; BUFFER_BYTES],
-    fill: u8,
+    /// A byte, held as wide as the places, so that no gap between them has to be cleared.
+    fill: usize,
     start: usize,
     end: usize,
 }
@@ -51,7 +52,7 @@ impl DigitBuffer {
     {
         DigitBuffer {
             bytes: [fill; BUFFER_BYTES],
-            fill,
+            fill: fill as usize,
             start: START,
             end: START,
         }
@@ -144,7 +145,7 @@ impl DigitBuffer {
         requires { count ≤ self.old.before }
         ensures { self.new ≡ put_before (replicate count zero_digit) self.old }
     {
-        if self.fill == b'0' {
+        if self.fill == b'0' as usize {
             self.pad_before(count);
         } else {
             self.push_zeros(count);

@@ -4,7 +4,7 @@ ghost use Rattle.interpolator_render.specs.Characters.{zero_digit};
 ghost use Rattle.interpolator_render.specs.Digits.{digit_text};
 ghost use Rattle.interpolator_render.specs.Exponent.{exponent_tail, leading, mark, shown_text};
 ghost use Rattle.interpolator_render.specs.Numbers.{number_text, sign_text};
-ghost use Rattle.interpolator_render.specs.Padding.{number_fill, padded_number};
+ghost use Rattle.interpolator_render.specs.Padding.{row_fill, padded_number};
 ghost use Rattle.interpolator_render.specs.DigitBuffers.{put_before};
 ghost use Rattle.interpolator_render.specs.Texts.{Renders, has_text};
 ghost use Rattle.interpolator_render.specs.Written.{Puts};
@@ -83,7 +83,7 @@ fn put_in_row<W: TextWrite>(
     shown: Shown,
 ) -> Result<(), Refusal>
     requires narrow { unwrap_or spec.now.width 0 ≤ 40 }
-    requires ascii { number_fill spec.now < 128 }
+    requires ascii { row_fill spec.now < 128 }
     requires small { shown.exponent ≤ 39 }
     requires few { shown.zeros ≤ 40 }
     ensures { Puts (W.written out.old) (padded_number spec.now (sign_text negative spec.now.sign)

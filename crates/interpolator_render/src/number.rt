@@ -6,7 +6,7 @@ ghost use Rattle.interpolator_render.specs.Digits.{digit_text};
 ghost use Rattle.interpolator_render.specs.declared.view.Sign.TheVariants.{Unset};
 ghost use Rattle.interpolator_render.specs.Numbers.{base_of, distance_from_zero, is_negative};
 ghost use Rattle.interpolator_render.specs.Numbers.{is_upper, number_text, sign_text};
-ghost use Rattle.interpolator_render.specs.Padding.{number_fill, padded_number};
+ghost use Rattle.interpolator_render.specs.Padding.{row_fill, padded_number};
 ghost use Rattle.interpolator_render.specs.Texts.{Renders, has_text};
 ghost use Rattle.interpolator_render.specs.Written.{Puts};
 
@@ -73,7 +73,7 @@ fn put_short<W: TextWrite>(
     n: u64,
 ) -> Result<(), Refusal>
     requires narrow { unwrap_or spec.now.width 0 ≤ 40 }
-    requires ascii { number_fill spec.now < 128 }
+    requires ascii { row_fill spec.now < 128 }
     ensures { Puts (W.written out.old)
         (number_text (NumberForm.Digits radix) spec.now negative n)
         result (W.written out.new) }

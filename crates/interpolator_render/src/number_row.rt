@@ -2,7 +2,7 @@
 ghost use Rattle.std.specs.Prelude.{◌≡◌, ◌<◌, ◌≤◌, length, true, unwrap_or};
 ghost use Rattle.interpolator_render.specs.DigitBuffers.{put_before};
 ghost use Rattle.interpolator_render.specs.Numbers.{front_text, prefix_of, sign_text};
-ghost use Rattle.interpolator_render.specs.Padding.{IsNumberRow, number_fill, padded_number};
+ghost use Rattle.interpolator_render.specs.Padding.{IsNumberRow, number_fill, padded_number, row_fill};
 
 use crate::digit_buffer::{BUFFER_WIDTH, DigitBuffer};
 use crate::layout::{fill_before, fill_char};
@@ -21,17 +21,24 @@ fn number_fill(spec: &Spec) -> char
 #[inline(always)]
 pub(crate) fn fits_buffer(spec: &Spec) -> bool
     ensures narrow { result ≡ true → unwrap_or spec.now.width 0 ≤ 40 }
-    ensures ascii { result ≡ true → number_fill spec.now < 128 }
+    ensures ascii { result ≡ true → row_fill spec.now < 128 }
 {
-    spec.width.unwrap_or(0) <= BUFFER_WIDTH && number_fill(spec).is_ascii()
+    match spec.width {
+        None => true,
+        Some(width) => width <= BUFFER_WIDTH && number_fill(spec).is_ascii(),
+    }
 }
 
-/// What pads a number in a buffer.
+/// What is around a number in a buffer: what pads it, if there is a width.
+#[inline(always)]
 pub(crate) fn fill_byte(spec: &Spec) -> u8
-    requires { number_fill spec.now < 128 }
-    ensures { result ≡ number_fill spec.now }
+    requires { row_fill spec.now < 128 }
+    ensures { result ≡ row_fill spec.now }
 {
-    number_fill(spec) as u8
+    match spec.width {
+        None => b' ',
+        Some(_) => number_fill(spec) as u8,
+    }
 }
 
 #[inline(always)]
@@ -100,7 +107,10 @@ pub(crate) fn put_around(buffer: &mut DigitBuffer, form: NumberForm, spec: &Spec
     ensures { buffer.new.text
         ≡ padded_number spec.now (front_text form spec.now negative) buffer.old.text }
 {
-    let width = spec.width.unwrap_or(0);
+    let Some(width) = spec.width else {
+        put_front(buffer, form, spec, negative);
+        return;
+    };
     if spec.zero {
         let count = front_len(form, spec, negative) + buffer.len();
         buffer.pad_before(width.saturating_sub(count));
