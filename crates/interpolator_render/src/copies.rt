@@ -183,6 +183,13 @@ fn put_amid<W: TextWrite>(
     Ok(())
 }
 
+/// How many copies go before a text and after it.
+#[derive(Clone, Copy)]
+struct Sides {
+    before: usize,
+    after: usize,
+}
+
 /// Writes a text between copies of a character that has these bytes.
 #[inline(always)]
 fn put_amid_copies<W: TextWrite, const N: usize>(
@@ -190,13 +197,12 @@ fn put_amid_copies<W: TextWrite, const N: usize>(
     text: &str,
     c: char,
     bytes: [u8; N],
-    before: usize,
-    after: usize,
+    sides: Sides,
 ) -> Result<(), Refusal>
     requires bytes { bytes ≡ encode_utf8 c }
     requires unit { N ≡ len_utf8 c }
-    ensures { Puts (W.written out.old) (between_fill c before after (chars text.now)) result
-        (W.written out.new) }
+    ensures { Puts (W.written out.old) (between_fill c sides.before sides.after (chars text.now))
+        result (W.written out.new) }
 {
     let copies = [bytes; RUN];
     let run = Run {
@@ -204,7 +210,7 @@ fn put_amid_copies<W: TextWrite, const N: usize>(
         unit: N,
         copies: unsafe { str::from_utf8_unchecked(copies.as_flattened()) },
     };
-    put_amid(out, text, run, before, after)
+    put_amid(out, text, run, sides.before, sides.after)
 }
 
 /// Writes a text between copies of any character. In each of its calls the compiler knows how many
@@ -220,12 +226,13 @@ pub(crate) fn put_between<W: TextWrite>(
     ensures { Puts (W.written out.old) (between_fill c before after (chars text.now)) result
         (W.written out.new) }
 {
+    let sides = Sides { before, after };
     let mut bytes = [0u8; 4];
     match c.encode_utf8(&mut bytes).as_bytes() {
-        [a] => put_amid_copies(out, text, c, [*a], before, after),
-        [a, b] => put_amid_copies(out, text, c, [*a, *b], before, after),
-        [a, b, d] => put_amid_copies(out, text, c, [*a, *b, *d], before, after),
-        [a, b, d, e] => put_amid_copies(out, text, c, [*a, *b, *d, *e], before, after),
+        [a] => put_amid_copies(out, text, c, [*a], sides),
+        [a, b] => put_amid_copies(out, text, c, [*a, *b], sides),
+        [a, b, d] => put_amid_copies(out, text, c, [*a, *b, *d], sides),
+        [a, b, d, e] => put_amid_copies(out, text, c, [*a, *b, *d, *e], sides),
         _ => unreachable!(),
     }
 }

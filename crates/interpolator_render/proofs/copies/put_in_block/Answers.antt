@@ -11,6 +11,6 @@ returns g c =
     rw (
       c.from_utf8_unchecked.ensures,
       block_chars c.args.fill c.args.before c.args.after c.args.text.now
-      c.block_around-block.result c.requires.ascii c.utf8.text c.requires.fits
-      (rw c.as_bytes.ensures.value at c.block_around-block.ensures),
+          c.block_around-block.result c.requires.ascii c.utf8.text c.requires.fits
+          (rw c.as_bytes.ensures.value at c.block_around-block.ensures),
     ) at c.put_text.ensures
