@@ -3,13 +3,12 @@ use Rattle.std.specs.Prelude.{◌≡◌, ℕ, ◌-◌, false, ◌||◌, if◌the
 use Rattle.std.specs.Prelude.{Option, Some, None, Result, Ok, Err}
 use Rattle.std.specs.Char.{is_ascii_digit}
 use Rattle.interpolator_render.specs.declared.view.Trait.{Trait}
-use Rattle.interpolator_render.specs.declared.view.HexDebug.{HexDebug}
 use Rattle.interpolator_render.specs.declared.view.Sign.TheVariants as signs
 use Rattle.interpolator_render.specs.declared.view.Spec.{Spec}
 use Rattle.interpolator_syntax.specs.At.{At, at}
 use Rattle.interpolator_syntax.specs.Classes.{zero_digit}
 use Rattle.interpolator_syntax.specs.Readers.{Reader, ◌>>=◌, give}
-use Rattle.interpolator_syntax.specs.SpecTexts.{Wanted, Request, trait_at, kind_at}
+use Rattle.interpolator_syntax.specs.SpecTexts.{Request, trait_at, kind_at}
 use Rattle.interpolator_syntax.specs.Faults.{Fault, argument_fault_of}
 use Rattle.interpolator_syntax.specs.declared.argument_fault.ArgumentFault.{ArgumentFault}
 use Rattle.interpolator_syntax.specs.declared.cursor.Cursor.{Cursor}
@@ -35,11 +34,11 @@ abbrev pub part_or_broken : {A : Type 0} → Result A ArgumentFault → (end : A
 part_or_broken (Ok x) end = Ok (x, end)
 part_or_broken (Err broken) end = Err (argument_fault_of broken)
 
--- a trait that the code read, and how debug writes numbers; or why it is broken
-abbrev pub wanted_read : Result (Trait × HexDebug) ArgumentFault → (end : At)
-    → Result (Wanted × At) Fault
-wanted_read (Ok x) end = Ok (record { slot = x.0; hex_debug = x.1 }, end)
-wanted_read (Err broken) end = Err (argument_fault_of broken)
+-- a part that the code read into x, up to `end`; or why it is broken
+abbrev pub part_left : {A : Type 0} → Result (Unit {0}) ArgumentFault → A → (end : At)
+    → Result (A × At) Fault
+part_left (Ok _) x end = Ok (x, end)
+part_left (Err broken) x end = Err (argument_fault_of broken)
 
 -- the rest of a spec after its trait: its kind
 abbrev pub kind_left : (start : ℕ) → Spec → Trait → Reader Request

@@ -13,12 +13,12 @@ ghost use Rattle.interpolator_syntax.specs.Arguments.{argument_of, named_argumen
 use crate::argument_fault::ArgumentFault;
 use crate::class::Class;
 use crate::cursor::Cursor;
-use crate::error::{Error, ParseError};
+use crate::error::Error;
 use crate::group::Group;
 use crate::list::{ListForm, take_list};
 use crate::range::Range;
-use crate::spec::take_spec;
-use interpolator_render::{Spec, Trait};
+use crate::spec::{take_spec, unclosed};
+use interpolator_render::{Alignment, HexDebug, Sign, Spec, Trait};
 
 /// What an argument writes: a value, or a list.
 #[derive(Clone, Copy, Debug, PartialEq)]
@@ -98,14 +98,24 @@ pub struct Request<'a> {
 impl<'a> Request<'a> {
     ghost use Rattle.interpolator_syntax.specs.Arguments.{IsPlain};
 
-    /// Returns the request for plain display.
+    /// Returns the request for plain display. Its spec is written out, since that of a call would
+    /// be made first and then copied.
     #[inline(always)]
     pub fn plain() -> Self
         ensures { IsPlain result }
     {
         Request {
             slot: Trait::Display,
-            spec: Spec::default(),
+            spec: Spec {
+                fill: None,
+                alignment: Alignment::Unset,
+                sign: Sign::Unset,
+                alternate: false,
+                zero: false,
+                width: None,
+                precision: None,
+                hex_debug: HexDebug::No,
+            },
             list: ListForm::plain(),
         }
     }
@@ -114,7 +124,7 @@ impl<'a> Request<'a> {
 /// Reads how the value is written, after the name of the argument that begins at `start`, if no
 /// closing brace follows that name; goes past the spec. `asked` is filled in place, since returning
 /// it would copy the whole of it.
-#[inline(always)]
+#[inline(never)]
 pub fn take_request<'a>(
     here: &mut Cursor<'a>,
     asked: &mut Request<'a>,
@@ -124,12 +134,13 @@ pub fn take_request<'a>(
     requires plain { IsPlain asked.old }
     ensures { asked_read result asked.new (at here.new) ≡ asked_at start (at here.old) }
 {
-    if !here.eat(b':') {
-        return Err(ArgumentFault::Text(ParseError::FormatSpecUnclosed(start)));
-    }
-    take_spec(here, &mut asked.spec, &mut asked.slot, start)?;
+    let Some(mut rest) = here.strip(b':') else {
+        return unclosed(start);
+    };
+    take_spec(&mut rest, &mut asked.spec, &mut asked.slot, start)?;
+    *here = rest;
     if let Trait::Iter = asked.slot {
-        take_list(here, &mut asked.list, start)?;
+        return take_list(here, &mut asked.list, start);
     }
     Ok(())
 }

@@ -42,7 +42,7 @@ impl<'a> ListForm<'a> {
 /// Reads what follows the letter, in the argument that begins at `start`, and goes past it. `list`
 /// is filled in place, since returning it would copy the whole of it.
 #[tactic(auto, unfolding(crate::specs::Lists::list_at))]
-#[inline(never)]
+#[inline(always)]
 pub(crate) fn take_list<'a>(
     here: &mut Cursor<'a>,
     list: &mut ListForm<'a>,

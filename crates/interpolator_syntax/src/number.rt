@@ -2,21 +2,30 @@
 ghost use Rattle.std.specs.Prelude.{◌≡◌, ◌+◌, ◌*◌, ◌^◌, ◌<◌, ◌≤◌, IfOk, MatchOption};
 ghost use Rattle.interpolator_syntax.specs.At.{at, after};
 ghost use Rattle.interpolator_syntax.specs.Classes.{in_class, front_of};
-ghost use Rattle.interpolator_syntax.specs.Numbers.{digits_or, natural, negation, integer};
+ghost use Rattle.interpolator_syntax.specs.Numbers.{digits_after, digits_or, natural, negation};
+ghost use Rattle.interpolator_syntax.specs.Numbers.{integer};
 ghost use Rattle.interpolator_syntax.specs.declared.class.Class.TheVariants.{Number};
 
 use crate::class::Class;
 use crate::cursor::Cursor;
 use crate::error::NumberError;
 
-/// Goes past the rest of a run.
+/// Returns the text after the rest of a run.
 #[cold]
 #[inline(never)]
-fn skip_run(here: Cursor<'_>) -> Cursor<'_>
+fn after_run(here: Cursor<'_>) -> Cursor<'_>
     ensures { at result ≡ after (in_class Number) (at here.entry) }
 {
     let (_, rest) = here.take_class(Class::Number);
     rest
+}
+
+/// Goes past the rest of a run. Here alone is the space zeroed for what [`after_run`] returns.
+#[inline(always)]
+fn skip_run(here: &mut Cursor<'_>)
+    ensures { at here.new ≡ after (in_class Number) (at here.old) }
+{
+    *here = after_run(*here);
 }
 
 /// Appends a digit to a number, if the result is at most `most`.
@@ -34,10 +43,43 @@ fn append_digit(n: usize, digit: usize, most: usize) -> Option<usize>
     Some(n * 10 + digit)
 }
 
+/// Reads the digits of the run here as those that follow the digits of `n`, if the number of all of
+/// them is at most `most`. Goes past the run.
+#[inline(always)]
+pub(crate) fn take_digits(
+    here: &mut Cursor<'_>,
+    n: usize,
+    most: usize,
+    overflow: NumberError,
+) -> Result<usize, NumberError>
+    requires room { 9 ≤ most }
+    requires in_range { n ≤ most }
+    ensures number { result
+        ≡ digits_after (most + 1) overflow n (front_of (in_class Number) (at here.old).text) }
+    ensures in_range { IfOk result (λ n. n ≤ most) }
+    ensures after { at here.new ≡ after (in_class Number) (at here.old) }
+{
+    let mut number = n;
+    while let Some(digit) = here.eat_digit() {
+        match append_digit(number, digit, most) {
+            Some(more) => number = more,
+            None => {
+                skip_run(here);
+                return Err(overflow);
+            }
+        }
+    }
+    if here.strip(b'-').is_some() {
+        skip_run(here);
+        return Err(NumberError::InvalidDigit);
+    }
+    Ok(number)
+}
+
 /// Reads the number that the digits of the run here spell, if it is at most `most`; the fault is
 /// `empty` if there are none. Goes past the run.
 #[inline(always)]
-fn take_digits(
+fn take_number(
     here: &mut Cursor<'_>,
     most: usize,
     empty: NumberError,
@@ -50,24 +92,11 @@ fn take_digits(
     ensures after { at here.new ≡ after (in_class Number) (at here.old) }
 {
     let start = here.place;
-    let mut n: usize = 0;
-    while let Some(digit) = here.eat_digit() {
-        match append_digit(n, digit, most) {
-            Some(more) => n = more,
-            None => {
-                *here = skip_run(*here);
-                return Err(overflow);
-            }
-        }
-    }
-    if here.strip(b'-').is_some() {
-        *here = skip_run(*here);
-        return Err(NumberError::InvalidDigit);
-    }
+    let number = take_digits(here, 0, most, overflow);
     if here.place == start {
         return Err(empty);
     }
-    Ok(n)
+    number
 }
 
 /// Reads the number that the run here spells, and goes past the run.
@@ -76,7 +105,7 @@ pub(crate) fn take_natural(here: &mut Cursor<'_>) -> Result<usize, NumberError>
     ensures number { result ≡ natural (front_of (in_class Number) (at here.old).text) }
     ensures after { at here.new ≡ after (in_class Number) (at here.old) }
 {
-    take_digits(
+    take_number(
         here,
         usize::MAX,
         NumberError::Empty,
@@ -102,7 +131,7 @@ pub(crate) fn take_integer(here: &mut Cursor<'_>) -> Result<isize, NumberError>
 {
     if here.eat(b'-') {
         let most = 1 << 63;
-        return match take_digits(
+        return match take_number(
             here,
             most,
             NumberError::InvalidDigit,
@@ -113,7 +142,7 @@ pub(crate) fn take_integer(here: &mut Cursor<'_>) -> Result<isize, NumberError>
         };
     }
     let most = isize::MAX as usize;
-    match take_digits(here, most, NumberError::Empty, NumberError::PosOverflow) {
+    match take_number(here, most, NumberError::Empty, NumberError::PosOverflow) {
         Ok(n) => Ok(n as isize),
         Err(kind) => Err(kind),
     }

@@ -1,102 +1,131 @@
 //! The spec after the colon of an argument, up to and including the letter of a list.
-ghost use Rattle.std.specs.Prelude.{◌≡◌, Err, Ok, Some};
-ghost use Rattle.interpolator_syntax.specs.At.{at, first, strip};
+ghost use Rattle.std.specs.Prelude.{◌≡◌, ◌<◌, ℕ, Err, Ok, None, Some, false};
+ghost use Rattle.interpolator_syntax.specs.At.{At, at, first, strip};
 ghost use Rattle.interpolator_syntax.specs.Classes.{question_mark};
-ghost use Rattle.interpolator_syntax.specs.Readers.{letter};
+ghost use Rattle.interpolator_syntax.specs.Readers.{flag, letter};
 ghost use Rattle.interpolator_syntax.specs.SpecTexts.{alignment_letter, sign_letter, width_at};
-ghost use Rattle.interpolator_syntax.specs.SpecTexts.{precision_at, trait_at, trait_letter};
+ghost use Rattle.interpolator_syntax.specs.SpecTexts.{no_trait, precision_at, trait_letter};
 ghost use Rattle.interpolator_syntax.specs.SpecTexts.{hexadecimal, plain_spec, spec_from_sign};
 ghost use Rattle.interpolator_syntax.specs.SpecTexts.{fill_at, spec_from_alignment, spec_after};
-ghost use Rattle.interpolator_syntax.specs.SpecReads.{part_read, part_or_broken, wanted_read};
+ghost use Rattle.interpolator_syntax.specs.SpecReads.{part_read, part_left, trait_left};
 ghost use Rattle.interpolator_syntax.specs.SpecReads.{HasNoOptions, options_left, spec_left};
 ghost use Rattle.interpolator_syntax.specs.declared.argument_fault.ArgumentFault.TheVariants as faults;
 ghost use Rattle.interpolator_syntax.specs.declared.error.ParseError.TheVariants as errors;
 ghost use Rattle.interpolator_render.specs.declared.view.Alignment.TheVariants as alignments;
+ghost use Rattle.interpolator_render.specs.declared.view.HexDebug.TheVariants as hex_debugs;
 ghost use Rattle.interpolator_render.specs.declared.view.Sign.TheVariants as signs;
+ghost use Rattle.interpolator_render.specs.declared.view.Spec.{Spec};
+ghost use Rattle.interpolator_render.specs.declared.view.Trait.{Trait};
 ghost use Rattle.interpolator_render.specs.declared.view.Trait.TheVariants as traits;
 
 use crate::argument_fault::ArgumentFault;
 use crate::cursor::Cursor;
 use crate::error::{NumberError, ParseError};
-use crate::number::take_natural;
+use crate::number::{take_digits, take_natural};
 use interpolator_render::{Alignment, HexDebug, Sign, Spec, Trait};
 
-/// Reads the alignment here, if there is one.
-fn take_alignment(here: &mut Cursor<'_>) -> Alignment
-    ensures { part_read (result, here.new)
+/// Reads the alignment here, if there is one. Here and below, what is read is filled in place: what
+/// is not there takes no time, and a spec that is returned would be copied.
+fn take_alignment(here: &mut Cursor<'_>, alignment: &mut Alignment)
+    requires unset { alignment.old ≡ alignments.Unset }
+    ensures { part_read (alignment.new, here.new)
         ≡ letter alignment_letter alignments.Unset (at here.old) }
 {
+    match here.byte() {
+        Some(b'<'..=b'^') => {}
+        _ => return,
+    }
     if here.eat(b'<') {
-        Alignment::Left
+        *alignment = Alignment::Left;
     } else if here.eat(b'^') {
-        Alignment::Center
+        *alignment = Alignment::Center;
     } else if here.eat(b'>') {
-        Alignment::Right
-    } else {
-        Alignment::Unset
+        *alignment = Alignment::Right;
     }
 }
 
 /// Reads the sign here, if there is one.
-fn take_sign(here: &mut Cursor<'_>) -> Sign
-    ensures { part_read (result, here.new) ≡ letter sign_letter signs.Unset (at here.old) }
+fn take_sign(here: &mut Cursor<'_>, sign: &mut Sign)
+    requires unset { sign.old ≡ signs.Unset }
+    ensures { part_read (sign.new, here.new) ≡ letter sign_letter signs.Unset (at here.old) }
 {
     if here.eat(b'+') {
-        Sign::Plus
+        *sign = Sign::Plus;
     } else if here.eat(b'-') {
-        Sign::Minus
-    } else {
-        Sign::Unset
+        *sign = Sign::Minus;
     }
 }
 
-/// The fault of the argument that begins at `start`, whose text ends with a number. It and the next
-/// two are functions of their own, since a function zeroes the space for its faults on entry.
-fn unclosed(start: usize) -> Result<Option<usize>, ArgumentFault>
+/// Reads this character, if it is here.
+fn take_flag(here: &mut Cursor<'_>, wanted: u8, found: &mut bool)
+    requires ascii { wanted < 128 }
+    requires unset { found.old ≡ false }
+    ensures { part_read (found.new, here.new) ≡ flag wanted (at here.old) }
+{
+    if here.eat(wanted) {
+        *found = true;
+    }
+}
+
+/// The fault of the argument that begins at `start`, whose text ends too early. It and the next two
+/// are functions of their own, since a function zeroes the space for its faults on entry.
+pub(crate) fn unclosed(start: usize) -> Result<(), ArgumentFault>
     ensures { result ≡ Err (faults.Text (errors.FormatSpecUnclosed start)) }
 {
     Err(ArgumentFault::Text(ParseError::FormatSpecUnclosed(start)))
 }
 
 /// The fault of a width that begins at `place`.
-fn bad_width(kind: NumberError, place: usize) -> Result<Option<usize>, ArgumentFault>
+fn bad_width(kind: NumberError, place: usize) -> Result<(), ArgumentFault>
     ensures { result ≡ Err (faults.Text (errors.InvalidWidth kind place)) }
 {
     Err(ArgumentFault::Text(ParseError::InvalidWidth(kind, place)))
 }
 
 /// The fault of a precision that begins at `place`.
-fn bad_precision(kind: NumberError, place: usize) -> Result<Option<usize>, ArgumentFault>
+fn bad_precision(kind: NumberError, place: usize) -> Result<(), ArgumentFault>
     ensures { result ≡ Err (faults.Text (errors.InvalidPrecision kind place)) }
 {
     Err(ArgumentFault::Text(ParseError::InvalidPrecision(kind, place)))
 }
 
 /// Reads the width here, if there is one, in the argument that begins at `start`.
-fn take_width(here: &mut Cursor<'_>, start: usize) -> Result<Option<usize>, ArgumentFault>
-    ensures { part_or_broken result (at here.new) ≡ width_at start (at here.old) }
+fn take_width(
+    here: &mut Cursor<'_>,
+    width: &mut Option<usize>,
+    start: usize,
+) -> Result<(), ArgumentFault>
+    requires unset { width.old ≡ None }
+    ensures { part_left result width.new (at here.new) ≡ width_at start (at here.old) }
 {
     let place = here.place;
-    match here.byte() {
-        Some(b'0'..=b'9') => {}
-        _ => return Ok(None),
-    }
-    let number = take_natural(here);
+    let Some(digit) = here.eat_digit() else {
+        return Ok(());
+    };
+    let number = take_digits(here, digit, usize::MAX, NumberError::PosOverflow);
     if here.is_at_end() {
         return unclosed(start);
     }
     match number {
-        Ok(n) => Ok(Some(n)),
+        Ok(n) => {
+            *width = Some(n);
+            Ok(())
+        }
         Err(kind) => bad_width(kind, place),
     }
 }
 
 /// Reads the precision here, if there is one, in the argument that begins at `start`.
-fn take_precision(here: &mut Cursor<'_>, start: usize) -> Result<Option<usize>, ArgumentFault>
-    ensures { part_or_broken result (at here.new) ≡ precision_at start (at here.old) }
+fn take_precision(
+    here: &mut Cursor<'_>,
+    precision: &mut Option<usize>,
+    start: usize,
+) -> Result<(), ArgumentFault>
+    requires unset { precision.old ≡ None }
+    ensures { part_left result precision.new (at here.new) ≡ precision_at start (at here.old) }
 {
     if !here.eat(b'.') {
-        return Ok(None);
+        return Ok(());
     }
     let place = here.place;
     let number = take_natural(here);
@@ -104,28 +133,31 @@ fn take_precision(here: &mut Cursor<'_>, start: usize) -> Result<Option<usize>, 
         return unclosed(start);
     }
     match number {
-        Ok(n) => Ok(Some(n)),
+        Ok(n) => {
+            *precision = Some(n);
+            Ok(())
+        }
         Err(kind) => bad_precision(kind, place),
     }
 }
 
-/// Reads those of sign, flags, width and precision that are here, in this order. Here and below,
-/// `spec` is filled in place, since returning it would copy the whole of it.
+/// Reads those of sign, flags, width and precision that are here, in this order.
 #[tactic(auto, unfolding(crate::specs::SpecTexts::spec_from_sign))]
 fn take_each_option(
     here: &mut Cursor<'_>,
     spec: &mut Spec,
     start: usize,
 ) -> Result<(), ArgumentFault>
-    ensures { options_left start result spec.new (at here.new)
+    requires { HasNoOptions spec.old }
+    ensures read { options_left start result spec.new (at here.new)
         ≡ spec_from_sign start spec.old.fill spec.old.alignment (at here.old) }
+    ensures hex_debug { spec.new.hex_debug ≡ spec.old.hex_debug }
 {
-    spec.sign = take_sign(here);
-    spec.alternate = here.eat(b'#');
-    spec.zero = here.eat(b'0');
-    spec.width = take_width(here, start)?;
-    spec.precision = take_precision(here, start)?;
-    Ok(())
+    take_sign(here, &mut spec.sign);
+    take_flag(here, b'#', &mut spec.alternate);
+    take_flag(here, b'0', &mut spec.zero);
+    take_width(here, &mut spec.width, start)?;
+    take_precision(here, &mut spec.precision, start)
 }
 
 /// As [`take_each_option`], but looks only if the byte here is at most `9`: each option begins with
@@ -133,8 +165,9 @@ fn take_each_option(
 #[tactic(auto, unfolding(crate::specs::SpecTexts::spec_from_sign))]
 fn take_options(here: &mut Cursor<'_>, spec: &mut Spec, start: usize) -> Result<(), ArgumentFault>
     requires { HasNoOptions spec.old }
-    ensures { options_left start result spec.new (at here.new)
+    ensures read { options_left start result spec.new (at here.new)
         ≡ spec_from_sign start spec.old.fill spec.old.alignment (at here.old) }
+    ensures hex_debug { spec.new.hex_debug ≡ spec.old.hex_debug }
 {
     match here.byte() {
         Some(0..=b'9') => take_each_option(here, spec, start),
@@ -157,53 +190,72 @@ fn trait_of(letter: u8) -> Option<Trait>
     }
 }
 
-/// Reads the `?` here, if there is one, after the letter of a hexadecimal trait: debug with such
-/// numbers if there is, else the trait alone.
-fn hexadecimal_or_debug(here: &mut Cursor<'_>, alone: Trait, debug: HexDebug) -> (Trait, HexDebug)
-    ensures { wanted_read (Ok result) (at here.new)
-        ≡ hexadecimal alone debug (at here.old) (strip question_mark (at here.old)) }
+/// The fault of a character at `place` that begins no trait, by its first byte.
+fn no_trait(first: u8, place: usize) -> Result<(), ArgumentFault>
+    ensures { (argument : ℕ) (x : Spec) (t : Trait) (end : At)
+        → spec_left argument result x t end ≡ Err (no_trait first place) }
+{
+    if first == b'p' {
+        return Err(ArgumentFault::Pointer(place));
+    }
+    Err(ArgumentFault::Text(ParseError::Expected("}", place)))
+}
+
+/// Reads the `?` here, if there is one, after the letter of a hexadecimal trait: it stands for
+/// debug with such numbers.
+fn take_debug(here: &mut Cursor<'_>, slot: &mut Trait, hex_debug: &mut HexDebug, debug: HexDebug)
+    requires unset { hex_debug.old ≡ hex_debugs.No }
+    ensures { Ok (record { slot = slot.new; hex_debug = hex_debug.new }, at here.new)
+        ≡ hexadecimal slot.old debug (at here.old) (strip question_mark (at here.old)) }
 {
     if here.eat(b'?') {
-        (Trait::Debug, debug)
-    } else {
-        (alone, HexDebug::No)
+        *slot = Trait::Debug;
+        *hex_debug = debug;
     }
 }
 
-/// Reads the trait here, and how debug writes numbers. `flagged` says whether `#` or `0` was read.
+/// Reads the trait here, and how debug writes numbers, after the other options.
 fn take_trait(
     here: &mut Cursor<'_>,
+    spec: &mut Spec,
+    slot: &mut Trait,
     start: usize,
-    flagged: bool,
-) -> Result<(Trait, HexDebug), ArgumentFault>
-    ensures { wanted_read result (at here.new) ≡ trait_at start flagged (at here.old) }
+) -> Result<(), ArgumentFault>
+    requires unset { spec.old.hex_debug ≡ hex_debugs.No }
+    requires display { slot.old ≡ traits.Display }
+    ensures { spec_left start result spec.new slot.new (at here.new)
+        ≡ trait_left start spec.old (at here.old) }
 {
     let Some(letter) = here.byte() else {
-        if flagged {
-            return Err(ArgumentFault::Text(ParseError::FormatSpecUnclosed(start)));
+        if spec.alternate || spec.zero {
+            return unclosed(start);
         }
-        return Ok((Trait::Display, HexDebug::No));
+        return Ok(());
     };
     if letter == b'}' {
-        return Ok((Trait::Display, HexDebug::No));
+        return Ok(());
+    }
+    // With this test between them, a `}` is not looked up in the table of the letters.
+    if !letter.is_ascii() {
+        return no_trait(letter, here.place);
     }
     if here.eat(b'x') {
-        return Ok(hexadecimal_or_debug(here, Trait::LowerHex, HexDebug::Lower));
+        *slot = Trait::LowerHex;
+        take_debug(here, slot, &mut spec.hex_debug, HexDebug::Lower);
+        return Ok(());
     }
     if here.eat(b'X') {
-        return Ok(hexadecimal_or_debug(here, Trait::UpperHex, HexDebug::Upper));
+        *slot = Trait::UpperHex;
+        take_debug(here, slot, &mut spec.hex_debug, HexDebug::Upper);
+        return Ok(());
     }
     match trait_of(letter) {
         Some(wanted) => {
             here.eat(letter);
-            Ok((wanted, HexDebug::No))
+            *slot = wanted;
+            Ok(())
         }
-        None => {
-            if letter == b'p' {
-                return Err(ArgumentFault::Pointer(here.place));
-            }
-            Err(ArgumentFault::Text(ParseError::Expected("}", here.place)))
-        }
+        None => no_trait(letter, here.place),
     }
 }
 
@@ -216,42 +268,45 @@ fn take_parts(
     start: usize,
 ) -> Result<(), ArgumentFault>
     requires plain { HasNoOptions spec.old }
+    requires alignment { spec.old.alignment ≡ alignments.Unset }
+    requires hex_debug { spec.old.hex_debug ≡ hex_debugs.No }
+    requires display { slot.old ≡ traits.Display }
     ensures { spec_left start result spec.new slot.new (at here.new)
         ≡ spec_from_alignment start spec.old.fill (at here.old) }
 {
-    spec.alignment = take_alignment(here);
+    take_alignment(here, &mut spec.alignment);
     take_options(here, spec, start)?;
-    let (wanted, hex_debug) = take_trait(here, start, spec.alternate || spec.zero)?;
-    *slot = wanted;
-    spec.hex_debug = hex_debug;
-    Ok(())
+    take_trait(here, spec, slot, start)
 }
 
 /// Reads the fill here, if there is one: the first character `c`, if an alignment begins the text
 /// `after` it.
 fn take_fill<'a>(
     here: &mut Cursor<'a>,
+    fill: &mut Option<char>,
     c: char,
     after: Cursor<'a>,
-) -> Result<Option<char>, ArgumentFault>
+) -> Result<(), ArgumentFault>
     requires first { first (at here.old) ≡ Some (c, at after) }
-    ensures { part_or_broken result (at here.new) ≡ fill_at (at here.old) }
+    requires unset { fill.old ≡ None }
+    ensures { part_left result fill.new (at here.new) ≡ fill_at (at here.old) }
 {
     match after.byte() {
         Some(b'<' | b'^' | b'>') => {}
-        _ => return Ok(None),
+        _ => return Ok(()),
     }
     if c == '{' {
         return Err(ArgumentFault::Text(ParseError::Fill(here.place)));
     }
     *here = after;
-    Ok(Some(c))
+    *fill = Some(c);
+    Ok(())
 }
 
 /// Reads the spec after the colon of the argument that begins at `start`, up to and including the
 /// letter of a list. If one character is left, or a `}` comes first, nothing is read.
 #[tactic(auto, unfolding(crate::specs::SpecTexts::spec_after))]
-#[inline(never)]
+#[inline(always)]
 pub(crate) fn take_spec(
     here: &mut Cursor<'_>,
     spec: &mut Spec,
@@ -269,9 +324,6 @@ pub(crate) fn take_spec(
     if c == '}' || after.is_at_end() {
         return Ok(());
     }
-    let mut rest = *here;
-    spec.fill = take_fill(&mut rest, c, after)?;
-    take_parts(&mut rest, spec, slot, start)?;
-    *here = rest;
-    Ok(())
+    take_fill(here, &mut spec.fill, c, after)?;
+    take_parts(here, spec, slot, start)
 }
