@@ -194,13 +194,17 @@ fn put_many<W: TextWrite>(out: &mut W, n: u64) -> Result<(), Refusal>
     put_ascii(out, buffer.as_str())
 }
 
-/// Writes the digits of a number that has more than two.
+/// Writes the digits of a number that has more than one.
 #[inline(never)]
 #[tactic(auto, using(crate::proofs::DigitLemmas::pair_texts))]
 fn put_several<W: TextWrite>(out: &mut W, n: u64) -> Result<(), Refusal>
-    requires { 100 ≤ n }
+    requires { 10 ≤ n }
     ensures { Puts (W.written out.old) (digit_text 10 false n) result (W.written out.new) }
 {
+    if n < 100 {
+        let (tens, ones) = pair_digits(n);
+        return put_ascii(out, ascii_str(&[tens, ones]));
+    }
     if n < 1000 {
         let digits = three_digits(n);
         return put_ascii(out, ascii_str(&digits));
@@ -208,19 +212,14 @@ fn put_several<W: TextWrite>(out: &mut W, n: u64) -> Result<(), Refusal>
     put_many(out, n)
 }
 
-/// Writes the digits of a number in base ten, and nothing around them. One or two digits take no
+/// Writes the digits of a number in base ten, and nothing around them. A single digit takes no
 /// call.
 #[inline(always)]
-#[tactic(auto, using(crate::proofs::DigitLemmas::pair_texts))]
 pub(crate) fn put_bare<W: TextWrite>(out: &mut W, n: u64) -> Result<(), Refusal>
     ensures { Puts (W.written out.old) (digit_text 10 false n) result (W.written out.new) }
 {
     if n < 10 {
         return put_char(out, (b'0' + n as u8) as char);
-    }
-    if n < 100 {
-        let (tens, ones) = pair_digits(n);
-        return put_ascii(out, ascii_str(&[tens, ones]));
     }
     put_several(out, n)
 }
