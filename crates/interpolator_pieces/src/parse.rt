@@ -19,9 +19,7 @@ ghost use Rattle.interpolator_pieces.specs.Stored.{stored_content};
 ghost use Rattle.interpolator_pieces.specs.declared.piece.Form.TheVariants as forms;
 ghost use Rattle.interpolator_pieces.specs.Reading.{ending_kind, ending_rest};
 
-use crate::piece::{
-    Bounds, Detail, Form, Groups, Piece, bare_piece, detailed_piece, no_groups,
-};
+use crate::piece::{Bounds, Detail, Form, Groups, Piece, bare_piece, detailed_piece, no_groups};
 use interpolator_render::{Spec, Trait};
 use interpolator_syntax::{
     ArgumentFault, ArgumentName, Cursor, Group, PieceKind, Range, Request, Token, inside,

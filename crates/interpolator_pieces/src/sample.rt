@@ -25,7 +25,7 @@ use crate::checks::{check_end, check_own};
 use crate::fault_collector::FaultCollector;
 use crate::piece::{Form, Piece, form_of, spec_end_of, spec_of};
 use crate::stored_source::{name_of, text_of};
-use interpolator_eval::{Candidates, Context, Items, Need, SampleEnvironment};
+use interpolator_eval::{Candidates, Context, Items, LookUp, Need, SampleEnvironment};
 use interpolator_render::{Spec, Trait, Value};
 use interpolator_syntax::{Error, PieceKind};
 use std::fmt;
@@ -156,12 +156,13 @@ fn collect_asked<'a, C: Context>(
         Form::Broken(_) => Ok(()),
         Form::Plain => {
             let (start, name) = name_of(text, piece);
-            let spec = Spec::default();
-            collect_value(collector, sample, start, name, Trait::Display, &spec, end)
+            let look_up = LookUp { start, name, end };
+            collect_value(collector, sample, look_up, Trait::Display, &Spec::default())
         }
         Form::Value(t) => {
             let (start, name) = name_of(text, piece);
-            collect_value(collector, sample, start, name, t, &spec_of(piece), end)
+            let look_up = LookUp { start, name, end };
+            collect_value(collector, sample, look_up, t, &spec_of(piece))
         }
         Form::List(_) => {
             let (start, name) = name_of(text, piece);
@@ -170,25 +171,23 @@ fn collect_asked<'a, C: Context>(
     }
 }
 
-/// Reports what is missing under the name of an argument that asks for a value, begins at `start`
-/// and has a spec that ends at `end`.
+/// Reports what is missing under the name of an argument that asks for a value.
 fn collect_value<'a, C: Context>(
     collector: &mut FaultCollector,
     sample: &SampleEnvironment<'a, C, C::Object>,
-    start: usize,
-    name: &str,
+    look_up: LookUp<'_>,
     t: Trait,
     spec: &Spec,
-    end: usize,
 ) -> Result<(), Error>
-    ensures collects { Collects (found_faults C.Object.shows start (chars name.now) (target_value t)
-        spec.now end (candidates_under (sample_of C.finds sample.now) (chars name.now)))
+    ensures collects { let x = look_up.entry in
+        Collects (found_faults C.Object.shows x.start (chars x.name.now) (target_value t)
+        spec.now x.end (candidates_under (sample_of C.finds sample.now) (chars x.name.now)))
         collector.old collector.new (result_answer result) }
 {
-    let Some(found) = sample.candidates(name) else {
-        return collector.collect(sample.missing(name, start));
+    let Some(found) = sample.candidates(look_up.name) else {
+        return collector.collect(sample.missing(look_up.name, look_up.start));
     };
-    collect_values(collector, &found, t, spec, end)
+    collect_values(collector, &found, t, spec, look_up.end)
 }
 
 /// Reports that one of the values that may be under a name has no text, or fails.

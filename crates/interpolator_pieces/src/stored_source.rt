@@ -21,7 +21,7 @@ ghost use Rattle.interpolator_pieces.specs.declared.piece.Piece.TheViews.{out-Pi
 
 use crate::piece::{Detail, Form, Piece, list_detail, part_of, spec_end_of};
 use interpolator_eval::{
-    Context, Environment, FormatSource, Formattable, PieceCount, Sink, chosen_list,
+    Context, Environment, FormatSource, Formattable, LookUp, PieceCount, Sink, chosen_list,
     write_plain_value, write_value,
 };
 use interpolator_render::{Spec, TextWrite};
@@ -77,13 +77,16 @@ impl<'t> FormatSource for Stored<'t> {
         let piece = &list.pieces[0];
         let (start, name) = name_of(list.text, piece);
         let detail = list_detail(piece);
-        chosen_list(
-            environment,
+        let look_up = LookUp {
             start,
             name,
+            end: detail.spec_end,
+        };
+        chosen_list(
+            environment,
+            look_up,
             range_asked(&detail.form),
             &detail.spec,
-            detail.spec_end,
         )
     }
 
@@ -269,15 +272,12 @@ fn run_detailed<'a, W: TextWrite, C: Context>(
         }
         Form::Value(t) => {
             let (start, name) = name_of(text, piece);
-            write_value(
-                sink,
-                environment,
+            let look_up = LookUp {
                 start,
                 name,
-                *t,
-                &detail.spec,
-                detail.spec_end,
-            )?;
+                end: detail.spec_end,
+            };
+            write_value(sink, environment, look_up, *t, &detail.spec)?;
             value_done(piece)
         }
         Form::List(_) => Ok(true),

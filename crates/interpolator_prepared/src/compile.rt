@@ -25,7 +25,8 @@ use interpolator_render::Trait;
 use interpolator_syntax::{PieceKind, Range};
 use std::alloc::{AllocError, Global};
 
-/// The most steps for which room is made at the beginning.
+/// The most steps for which room is made at the beginning: half as many as there are pieces, since
+/// most have text before a value.
 const MOST_ROOM: usize = 64;
 
 /// The steps of the pieces of a text.
@@ -39,7 +40,7 @@ pub fn compile(
     ensures program { IfOk result (λ made. flat_map (steps_of text.now) made.items
         ≡ map Some (program (name_bytes names.now) (nodes_of text.now pieces.now))) }
 {
-    let mut made = Vec::with_capacity(alloc, pieces.len().min(MOST_ROOM))?;
+    let mut made = Vec::with_capacity(alloc, (pieces.len() / 2 + 1).min(MOST_ROOM))?;
     let mut left = pieces;
     while !left.is_empty() {
         left = add_first(alloc, text, names, &mut made, left)?;
@@ -129,6 +130,7 @@ fn push_step(made: &mut Vec<Step>, step: Step) -> Result<(), AllocError>
 }
 
 /// Adds two steps, as one if there is one for both.
+#[inline(always)]
 fn push_pair(made: &mut Vec<Step>, first: Step, second: Step) -> Result<(), AllocError>
     ensures pushed { IfOk result (λ _. (bs : List ℕ) → flat_map (steps_of bs) made.new.items
         ≡ flat_map (steps_of bs) made.old.items ++ (steps_of bs first ++ steps_of bs second)) }
@@ -151,6 +153,7 @@ fn push_pair(made: &mut Vec<Step>, first: Step, second: Step) -> Result<(), Allo
 }
 
 /// The step of a piece, and of the text after it if it is text.
+#[inline(always)]
 fn first_step(
     alloc: Global,
     text: &str,
@@ -170,6 +173,7 @@ fn first_step(
 }
 
 /// The step of a piece of text, and of the text after it.
+#[inline(always)]
 fn text_step(alloc: Global, text: &str, piece: &Piece, texts: &[Piece]) -> Result<Step, AllocError>
     requires first { IsSome (stored_part text.now piece.now) }
     requires texts { All (λ piece. IsSome (stored_part text.now piece)) texts.now }
@@ -184,6 +188,7 @@ fn text_step(alloc: Global, text: &str, piece: &Piece, texts: &[Piece]) -> Resul
 }
 
 /// The step of an argument: the value at the position of its name, or a copy of its piece.
+#[inline(always)]
 fn argument_step(
     alloc: Global,
     text: &str,

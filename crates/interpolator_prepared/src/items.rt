@@ -17,7 +17,7 @@ use crate::joined::put_joined;
 use crate::row::{NamedRow, PreparedRow};
 use crate::step::{JoinedText, ListStep, ValueSpec};
 use interpolator_eval::{
-    Environment, Formattable, WriteFault, chosen_list, slot_of, write_plain, write_shown,
+    Environment, Formattable, LookUp, WriteFault, chosen_list, slot_of, write_plain, write_shown,
 };
 use interpolator_pieces::cut;
 use interpolator_render::{Spec, TextWrite, Trait, Value};
@@ -42,14 +42,12 @@ pub fn run_list<'a, W: TextWrite, R: PreparedRow>(
 {
     let environment = Environment::outermost(alloc, named);
     let name = cut(text, list.name.from, list.name.to);
-    let items = chosen_list(
-        &environment,
-        list.start,
+    let look_up = LookUp {
+        start: list.start,
         name,
-        list.range,
-        &list.spec,
-        list.end,
-    )?;
+        end: list.end,
+    };
+    let items = chosen_list(&environment, look_up, list.range, &list.spec)?;
     put_list(out, items, list)?;
     Ok(())
 }

@@ -38,9 +38,7 @@ pub fn put_step<W: TextWrite, R: PreparedRow>(
         Step::Literal(from, to) => put_literal(out, text, *from, *to),
         Step::Joined(joined) => put_joined(out, joined),
         Step::Plain(position, end) => put_plain(out, row, *position, *end),
-        Step::Value(position, asked) => {
-            put_at(out, row, *position, asked)
-        }
+        Step::Value(position, asked) => { put_at(out, row, *position, asked) }
         Step::LiteralPlain(part, position, end) => {
             put_literal(out, text, part.from, part.to)?;
             put_plain(out, row, *position, *end)

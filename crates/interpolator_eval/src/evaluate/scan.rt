@@ -25,7 +25,7 @@ use crate::context::Context;
 use crate::evaluate::environment::Environment;
 use crate::evaluate::sink::Sink;
 use crate::evaluate::source::FormatSource;
-use crate::evaluate::value::{chosen_list, write_plain_value, write_value};
+use crate::evaluate::value::{LookUp, chosen_list, write_plain_value, write_value};
 use crate::piece_count::PieceCount;
 use crate::slots::Formattable;
 use interpolator_render::{Spec, TextWrite, Trait};
@@ -86,13 +86,16 @@ impl<'t> FormatSource for Cursor<'t> {
         list: &ScannedList<'t>,
         environment: &Environment<'a, C, C::Object>,
     ) -> Result<&'a [Formattable<'a, C::Object>], Error> {
+        let look_up = LookUp {
+            start: list.start,
+            name: list.name,
+            end: list.end.place,
+        };
         chosen_list(
             environment,
-            list.start,
-            list.name,
+            look_up,
             list.asked.list.range,
             &list.asked.spec,
-            list.end.place,
         )
     }
 
@@ -248,12 +251,13 @@ fn write_asked<'t, 'a, W: TextWrite, C: Context>(
         };
         return Ok(None);
     }
-    let after = write_closed(sink, environment, here.place, named, &asked, end)?;
+    let read = ArgumentName { end, ..named };
+    let after = write_closed(sink, environment, here.place, read, &asked)?;
     Ok(Some(after))
 }
 
-/// Writes the value under a name, for an argument that starts at `start` and whose spec ends at
-/// `end`. Returns the text after its closing brace.
+/// Writes the value under a name, for an argument that starts at `start`; `named.end` is the text
+/// after its spec. Returns the text after its closing brace.
 #[inline(always)]
 fn write_closed<'t, 'a, W: TextWrite, C: Context>(
     sink: &mut Sink<'_, W>,
@@ -261,27 +265,23 @@ fn write_closed<'t, 'a, W: TextWrite, C: Context>(
     start: usize,
     named: ArgumentName<'t>,
     asked: &Request<'t>,
-    end: Cursor<'t>,
 ) -> Result<Cursor<'t>, Error>
     requires value { asked.now.slot ≢ Iter }
-    ensures writes { Writes W.written
-        (with_brace (strip close_brace (at end.entry)) end.entry.place
+    ensures writes { let end = at named.entry.end in Writes W.written
+        (with_brace (strip close_brace end) end.place
         (argument_means C.Object.shows (environment_of C.finds environment.now)
-        start (named_argument named.entry (request_of asked.now)) end.entry.place))
+        start (named_argument named.entry (request_of asked.now)) end.place))
         sink.old sink.new (result_answer result) }
-    ensures rest { IfOk result (λ r. strip close_brace (at end.entry) ≡ Some (at r)) }
+    ensures rest { IfOk result (λ r. strip close_brace (at named.entry.end) ≡ Some (at r)) }
 {
-    write_value(
-        sink,
-        environment,
+    let look_up = LookUp {
         start,
-        named.name,
-        asked.slot,
-        &asked.spec,
-        end.place,
-    )?;
-    match end.strip(b'}') {
+        name: named.name,
+        end: named.end.place,
+    };
+    write_value(sink, environment, look_up, asked.slot, &asked.spec)?;
+    match named.end.strip(b'}') {
         Some(after) => Ok(after),
-        None => Err(Error::Parse(ParseError::Expected("}", end.place))),
+        None => Err(Error::Parse(ParseError::Expected("}", named.end.place))),
     }
 }

@@ -21,6 +21,17 @@ use crate::slots::Formattable;
 use interpolator_render::{Bounded, Spec, TextWrite, Trait, Value};
 use interpolator_syntax::{Error, ParseError, Range};
 
+/// A name that is looked up for an argument.
+#[derive(Clone, Copy)]
+pub struct LookUp<'n> {
+    /// The byte at which the argument begins: the one after its opening brace.
+    pub start: usize,
+    /// The name.
+    pub name: &'n str,
+    /// The byte after the argument's spec.
+    pub end: usize,
+}
+
 /// Returns the fault of an absent name, for an argument that starts at `start`. It is a function of
 /// its own, since a function zeroes its error slot on entry.
 #[inline(always)]
@@ -35,28 +46,26 @@ fn refused<'a, C: Context>(
     Err(environment.missing(name, start))
 }
 
-/// Writes the value under a name, for an argument that starts at `start` and whose spec ends at
-/// `end`.
+/// Writes the value under a name.
 #[inline(always)]
 pub fn write_value<'a, W: TextWrite, C: Context>(
     sink: &mut Sink<'_, W>,
     environment: &Environment<'a, C, C::Object>,
-    start: usize,
-    name: &str,
+    look_up: LookUp<'_>,
     wanted: Trait,
     spec: &Spec,
-    end: usize,
 ) -> Result<(), Error>
-    ensures writes { Writes W.written
-        (under_name (chars name.now) start
-        (λ found. value_means C.Object.shows wanted spec.now end (slot_at wanted (values_of found)))
-        (slots_under (environment_of C.finds environment.now) (chars name.now)))
+    ensures writes { let x = look_up.entry in Writes W.written
+        (under_name (chars x.name.now) x.start
+        (λ found. value_means C.Object.shows wanted spec.now x.end
+        (slot_at wanted (values_of found)))
+        (slots_under (environment_of C.finds environment.now) (chars x.name.now)))
         sink.old sink.new (result_answer result) }
 {
-    let Some(value) = environment.value(name, wanted) else {
-        return refused(environment, start, name);
+    let Some(value) = environment.value(look_up.name, wanted) else {
+        return refused(environment, look_up.start, look_up.name);
     };
-    sink.put_value(value, wanted, spec, end)?;
+    sink.put_value(value, wanted, spec, look_up.end)?;
     Ok(())
 }
 
@@ -123,35 +132,32 @@ pub fn write_slot<'a, W: TextWrite, V: Value>(
     sink.put_value(value, wanted, spec, end)
 }
 
-/// Returns the items that a range chooses of the list under a name, for an argument that starts at
-/// `start` and whose spec ends at `end`.
+/// Returns the items that a range chooses of the list under a name.
 #[inline(always)]
 pub fn chosen_list<'a, C: Context>(
     environment: &Environment<'a, C, C::Object>,
-    start: usize,
-    name: &str,
+    look_up: LookUp<'_>,
     range: Option<Range>,
     spec: &Spec,
-    end: usize,
 ) -> Result<&'a [Formattable<'a, C::Object>], Error>
-    ensures chosen { MatchResult result
-        (λ items. IsChosen (environment_of C.finds environment.now) (chars name.now) start range spec.now
-        end (map slots_of items.now))
-        (λ error. IsNotChosen (environment_of C.finds environment.now) (chars name.now) start range
-        spec.now end error) }
+    ensures chosen { let x = look_up.entry in MatchResult result
+        (λ items. IsChosen (environment_of C.finds environment.now) (chars x.name.now) x.start range
+        spec.now x.end (map slots_of items.now))
+        (λ error. IsNotChosen (environment_of C.finds environment.now) (chars x.name.now) x.start
+        range spec.now x.end error) }
     ensures items { IfOk result
-        (λ items. ChosenUnder (environment_of C.finds environment.now) (chars name.now) range
-        (map slots_of items.now)) }
+        (λ items. ChosenUnder (environment_of C.finds environment.now)
+        (chars look_up.entry.name.now) range (map slots_of items.now)) }
     ensures allowed { IfOk result (λ _. forbids_list spec.now ≡ false) }
 {
-    let Some(found) = environment.items(name) else {
-        return Err(environment.missing(name, start));
+    let Some(found) = environment.items(look_up.name) else {
+        return Err(environment.missing(look_up.name, look_up.start));
     };
     let Some(items) = found else {
-        return Err(Error::MissingTraitImpl(Trait::Iter, end));
+        return Err(Error::MissingTraitImpl(Trait::Iter, look_up.end));
     };
     if forbids_list(spec) {
-        return Err(Error::Parse(ParseError::Iter(end)));
+        return Err(Error::Parse(ParseError::Iter(look_up.end)));
     }
     Ok(choose(items, range))
 }

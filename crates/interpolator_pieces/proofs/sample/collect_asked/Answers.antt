@@ -21,7 +21,7 @@ name_of-start-requires-in-List g c =
 pub returns-in-Plain : goal.returns-in-Plain
 returns-in-Plain g c =
     let name = c.name_of-start in
-    let plain : c.default-spec.result ≡ plain_spec = search rules in
+    let plain : c.default.result ≡ plain_spec = search rules in
     let held = name_held c.args.text.now c.args.piece.now name.result.0 (chars name.result.1.now)
     name.ensures.start name.ensures.name (sym c.form_of.ensures ∙ c.in-Plain.is) in
     record { collects = rw held (rw (plain, c.spec_end_of-end.ensures) at c.collect_value.ensures.collects) }

@@ -8,13 +8,15 @@ use Rattle.interpolator_eval.proofs.evaluate.value.chosen_list.Goals as goal
 pub returns-clause-chosen : goal.returns-clause-chosen
 returns-clause-chosen g c =
     let e = environment_of g.C.Context.finds c.args.environment.now in
-    list_chosen e (chars c.args.name.now) c.args.start c.args.range c.args.spec.now c.args.end
+    let x = c.args.look_up in
+    list_chosen e (chars x.name.now) x.start c.args.range c.args.spec.now x.end
     slots_of c.in-Some-found.items.now c.choose.result.now
     (rw c.in-Some-found.is at c.in-Some.ensures) (search rules) c.choose.ensures
 
 pub returns-clause-items : goal.returns-clause-items
 returns-clause-items g c =
     let e = environment_of g.C.Context.finds c.args.environment.now in
-    chosen_under e (chars c.args.name.now) c.args.start c.args.range c.args.spec.now c.args.end
+    let x = c.args.look_up in
+    chosen_under e (chars x.name.now) x.start c.args.range c.args.spec.now x.end
     slots_of c.in-Some-found.items.now c.choose.result.now
     (rw c.in-Some-found.is at c.in-Some.ensures) c.choose.ensures
