@@ -2,9 +2,10 @@
 
 use crate::files::Facts;
 use crate::formats::fault_of;
-use crate::report::{Report, WHOLE};
+use crate::report::{Report, whole};
 use crate::trouble::Read;
 use interpolator::{Argument, Group, Kind, Range, Spec, Trait, parse_argument};
+use std::alloc::{AllocError, Global};
 
 /// A text and its place.
 #[derive(Debug, Drop, PartialEq)]
@@ -13,9 +14,16 @@ pub struct Placed {
     pub place: usize,
 }
 
-/// What a row says is read.
-#[derive(Debug, Drop)]
-struct Wanted {
+impl Placed {
+    pub fn new(alloc: Global, text: &str, place: usize) -> Result<Placed, AllocError> {
+        let text = String::from_str(alloc, text)?;
+        Ok(Placed { text, place })
+    }
+}
+
+/// What is read: an argument, and where it ends.
+#[derive(Debug, Drop, PartialEq)]
+struct Parsed {
     name: Placed,
     t: Trait,
     spec: Spec,
@@ -27,7 +35,7 @@ struct Wanted {
 
 /// The text and the place of the fact of this key.
 pub fn placed_text(facts: &mut Facts<'_>, key: &str) -> Read<Option<Placed>> {
-    let Some(mut words) = facts.next(key)? else {
+    let Some(mut words) = facts.next(key) else {
         return Ok(None);
     };
     let text = words.text()?;
@@ -37,12 +45,10 @@ pub fn placed_text(facts: &mut Facts<'_>, key: &str) -> Read<Option<Placed>> {
 }
 
 /// What a row without a fault says is read.
-fn wanted_of(facts: &mut Facts<'_>) -> Read<Wanted> {
-    let Some(name) = placed_text(facts, "name")? else {
-        return Err(facts.trouble("a `name` or a fault is wanted"));
-    };
-    Ok(Wanted {
-        name,
+fn wanted_of(facts: &mut Facts<'_>) -> Read<Parsed> {
+    let name = placed_text(facts, "name")?;
+    Ok(Parsed {
+        name: name.ok_or(facts.trouble("a `name` or a fault is wanted"))?,
         t: facts.the_trait()?,
         spec: facts.spec()?,
         range: facts.range()?,
@@ -52,38 +58,29 @@ fn wanted_of(facts: &mut Facts<'_>) -> Read<Wanted> {
     })
 }
 
-fn is_group(came: Option<Group<'_>>, wanted: &Option<Placed>) -> bool {
-    match (came, wanted) {
-        (Some(came), Some(wanted)) => {
-            came.text == wanted.text.as_str() && came.place == wanted.place
-        }
-        (None, None) => true,
-        _ => false,
+/// The text of a group and its place.
+fn placed_group(alloc: Global, group: Option<Group<'_>>) -> Result<Option<Placed>, AllocError> {
+    match group {
+        Some(group) => Ok(Some(Placed::new(alloc, group.text, group.place)?)),
+        None => Ok(None),
     }
 }
 
-fn is_kind(came: Kind<'_>, wanted: &Wanted) -> bool {
-    match came {
-        Kind::Value(t) => {
-            t == wanted.t
-                && wanted.range.is_none()
-                && wanted.item.is_none()
-                && wanted.join.is_none()
-        }
-        Kind::List { range, item, join } => {
-            wanted.t == Trait::Iter
-                && range == wanted.range
-                && is_group(item, &wanted.item)
-                && is_group(join, &wanted.join)
-        }
-    }
-}
-
-fn is_argument(came: &Argument<'_>, wanted: &Wanted) -> bool {
-    came.name == wanted.name.text.as_str()
-        && came.name_place == wanted.name.place
-        && came.spec == wanted.spec
-        && is_kind(came.kind, wanted)
+/// What was read.
+fn came_of(alloc: Global, argument: &Argument<'_>, end: usize) -> Result<Parsed, AllocError> {
+    let (t, range, item, join) = match argument.kind {
+        Kind::Value(t) => (t, None, None, None),
+        Kind::List { range, item, join } => (Trait::Iter, range, item, join),
+    };
+    Ok(Parsed {
+        name: Placed::new(alloc, argument.name, argument.name_place)?,
+        t,
+        spec: argument.spec,
+        range,
+        item: placed_group(alloc, item)?,
+        join: placed_group(alloc, join)?,
+        end,
+    })
 }
 
 /// Checks that the argument of a row is read as the row says.
@@ -93,16 +90,17 @@ pub fn run_argument(report: &mut Report<'_>, facts: &mut Facts<'_>, start: &Plac
         return Err(facts.trouble("no character begins at the place"));
     }
     let came = parse_argument(text, start.place);
-    let words = facts.next("fault")?;
-    if let Some(fault) = fault_of(words)? {
+    if let Some(fault) = fault_of(facts.next("fault"))? {
         report.compare("parse_argument", &Some(fault), &came.err());
         return Ok(());
     }
     let wanted = wanted_of(facts)?;
-    let holds = match &came {
-        Ok((argument, end)) => is_argument(argument, &wanted) && *end == wanted.end,
-        Err(_) => false,
-    };
-    report.check("parse_argument", WHOLE, holds, &wanted, &came);
+    match &came {
+        Ok((argument, end)) => {
+            let came = came_of(report.alloc, argument, *end)?;
+            report.compare("parse_argument", &wanted, &came);
+        }
+        Err(fault) => report.check(whole("parse_argument"), false, &wanted, fault),
+    }
     Ok(())
 }

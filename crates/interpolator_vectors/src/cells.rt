@@ -1,21 +1,11 @@
 //! The values of rows.
 
-use interpolator::{Bits, Spec, Trait, Value, View};
+use interpolator::{OwnedView, Spec, Trait, Value, View};
 
 /// A value of a context.
 #[derive(Drop)]
 pub enum Cell {
-    I8(i8),
-    I16(i16),
-    I32(i32),
-    I64(i64),
-    I128(i128),
-    Unsigned(u128),
-    /// Units, and how many digits of them are after the point.
-    Decimal(i128, u32),
-    Truth(bool),
-    Character(char),
-    Text(String),
+    Owned(OwnedView),
     /// A text that no option changes.
     Plain(String),
     NotImplemented,
@@ -27,21 +17,9 @@ impl Value for Cell {
 
     ghost shows = { λ cell _ _. cell_shows cell };
 
-    fn view(&self, _t: Trait, _spec: &Spec) -> View<'_> {
+    fn view(&self, t: Trait, spec: &Spec) -> View<'_> {
         match self {
-            Cell::I8(n) => View::Signed(i128::from(*n), Bits::B8),
-            Cell::I16(n) => View::Signed(i128::from(*n), Bits::B16),
-            Cell::I32(n) => View::Signed(i128::from(*n), Bits::B32),
-            Cell::I64(n) => View::Signed(i128::from(*n), Bits::B64),
-            Cell::I128(n) => View::Signed(*n, Bits::B128),
-            Cell::Unsigned(n) => View::Unsigned(*n),
-            Cell::Decimal(units, scale) => View::Decimal {
-                units: *units,
-                scale: *scale,
-            },
-            Cell::Truth(truth) => View::Truth(*truth),
-            Cell::Character(c) => View::Character(*c),
-            Cell::Text(text) => View::Text(text.as_str()),
+            Cell::Owned(value) => value.view(t, spec),
             Cell::Plain(text) => View::Plain(text.as_str()),
             Cell::NotImplemented => View::NotImplemented,
             Cell::Failed => View::Failed,

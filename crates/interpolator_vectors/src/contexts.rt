@@ -5,7 +5,7 @@ use crate::lexing::Word;
 use crate::names::{SLOTS, Slots, TRUTHS, named};
 use crate::trouble::Read;
 use crate::words::Words;
-use interpolator::{ContextMap, Formattable, Limits};
+use interpolator::{ContextMap, Formattable, Limits, OwnedView};
 use std::alloc::{AllocError, Global};
 
 /// How deep lists may be nested.
@@ -46,54 +46,52 @@ pub struct Holding {
 
 /// The view here, as a value.
 pub fn take_cell(words: &mut Words<'_>) -> Read<Cell> {
-    let kind = words.bare().unwrap_or("");
-    match kind {
-        "decimal" => {
-            let units = words.bare().unwrap_or("");
-            match decimal_of(units, words.bare().unwrap_or("")) {
-                Some(cell) => Ok(cell),
-                None => Err(words.trouble("the units of a decimal are wanted, and its scale")),
-            }
-        }
-        "truth" => Ok(Cell::Truth(words.wanted(&TRUTHS)?)),
-        "character" => Ok(Cell::Character(words.character()?)),
-        "text" => Ok(Cell::Text(words.text()?)),
+    match words.bare().unwrap_or("") {
         "plain" => Ok(Cell::Plain(words.text()?)),
         "not_implemented" => Ok(Cell::NotImplemented),
         "failed" => Ok(Cell::Failed),
-        _ => match number_of(kind, words.bare().unwrap_or("")) {
-            Some(cell) => Ok(cell),
-            None => Err(words.trouble("a view is wanted, and a number within its bits")),
-        },
+        kind => Ok(Cell::Owned(take_owned(words, kind)?)),
+    }
+}
+
+/// The view of this kind, after its kind.
+fn take_owned(words: &mut Words<'_>, kind: &str) -> Read<OwnedView> {
+    match kind {
+        "truth" => Ok(OwnedView::Truth(words.wanted(&TRUTHS)?)),
+        "character" => Ok(OwnedView::Character(words.character()?)),
+        "text" => Ok(OwnedView::Text(words.text()?)),
+        "decimal" => {
+            let units = words.bare().unwrap_or("");
+            let decimal = decimal_of(units, words.bare().unwrap_or(""));
+            decimal.ok_or(words.trouble("the units of a decimal are wanted, and its scale"))
+        }
+        _ => {
+            let number = number_of(kind, words.bare().unwrap_or(""));
+            number.ok_or(words.trouble("a view is wanted, and a number within its bits"))
+        }
     }
 }
 
 /// The decimal whose units and scale two words spell.
-fn decimal_of(units: &str, scale: &str) -> Option<Cell> {
-    Some(Cell::Decimal(units.parse::<i128>().ok()?, scale.parse::<u32>().ok()?))
-}
-
-/// The unsigned number that a word spells, up to the greatest.
-fn unsigned_of(word: &str, greatest: u128) -> Option<Cell> {
-    match word.parse::<u128>() {
-        Ok(n) if n <= greatest => Some(Cell::Unsigned(n)),
-        _ => None,
-    }
+fn decimal_of(units: &str, scale: &str) -> Option<OwnedView> {
+    let units = units.parse::<i128>().ok()?;
+    let scale = scale.parse::<u32>().ok()?;
+    Some(OwnedView::Decimal { units, scale })
 }
 
 /// The number of a type that a word spells.
-fn number_of(kind: &str, word: &str) -> Option<Cell> {
+fn number_of(kind: &str, word: &str) -> Option<OwnedView> {
     match kind {
-        "i8" => Some(Cell::I8(word.parse::<i8>().ok()?)),
-        "i16" => Some(Cell::I16(word.parse::<i16>().ok()?)),
-        "i32" => Some(Cell::I32(word.parse::<i32>().ok()?)),
-        "i64" => Some(Cell::I64(word.parse::<i64>().ok()?)),
-        "i128" => Some(Cell::I128(word.parse::<i128>().ok()?)),
-        "u8" => unsigned_of(word, 0xff),
-        "u16" => unsigned_of(word, 0xffff),
-        "u32" => unsigned_of(word, 0xffff_ffff),
-        "u64" => unsigned_of(word, 0xffff_ffff_ffff_ffff),
-        "u128" => unsigned_of(word, u128::MAX),
+        "i8" => Some(OwnedView::from(word.parse::<i8>().ok()?)),
+        "i16" => Some(OwnedView::from(word.parse::<i16>().ok()?)),
+        "i32" => Some(OwnedView::from(word.parse::<i32>().ok()?)),
+        "i64" => Some(OwnedView::from(word.parse::<i64>().ok()?)),
+        "i128" => Some(OwnedView::from(word.parse::<i128>().ok()?)),
+        "u8" => Some(OwnedView::from(word.parse::<u8>().ok()?)),
+        "u16" => Some(OwnedView::from(word.parse::<u16>().ok()?)),
+        "u32" => Some(OwnedView::from(word.parse::<u32>().ok()?)),
+        "u64" => Some(OwnedView::from(word.parse::<u64>().ok()?)),
+        "u128" => Some(OwnedView::from(word.parse::<u128>().ok()?)),
         _ => None,
     }
 }
@@ -126,8 +124,8 @@ fn longest_of(fills: &[Fill]) -> usize {
     let mut longest = 0usize;
     for fill in fills {
         longest = longest.max(match &fill.cell {
-            Cell::Text(text) => text.chars().count(),
-            Cell::Decimal(_, scale) => (*scale as usize).saturating_add(41),
+            Cell::Owned(OwnedView::Text(text)) => text.chars().count(),
+            Cell::Owned(OwnedView::Decimal { scale, .. }) => (*scale as usize).saturating_add(41),
             Cell::Plain(text) => text.chars().count(),
             _ => 0,
         });
@@ -145,25 +143,13 @@ impl Holding {
 
     /// How many names or items there are at a level.
     fn count(&self, level: usize) -> usize {
-        let mut count = 0usize;
-        for held in &self.all {
-            if held.level == level {
-                count = count.saturating_add(1);
-            }
-        }
-        count
+        self.all.iter().filter(|held| held.level == level).count()
     }
 
     /// The index of the name, if it is there.
     fn find(&self, name: &str) -> Option<usize> {
-        for index in 0..self.all.len() {
-            if let Some(held) = self.all.get(index) {
-                if held.level == 0 && held.name.as_str() == name {
-                    return Some(index);
-                }
-            }
-        }
-        None
+        let mut all = self.all.iter();
+        all.position(|held| held.level == 0 && held.name.as_str() == name)
     }
 
     /// Adds a name or an item, and returns its index.
@@ -226,10 +212,7 @@ impl Holding {
         let to = self.count(level);
         if let Some(held) = self.all.get_mut(index) {
             if let Some(list) = held.list {
-                held.list = Some(Items {
-                    from: list.from,
-                    to,
-                });
+                held.list = Some(Items { to, ..list });
                 return Ok(item);
             }
         }
@@ -371,22 +354,14 @@ pub fn pairs_of<'a>(
     values: &[Formattable<'a, Cell>],
 ) -> Result<Vec<(&'a str, Formattable<'a, Cell>)>, AllocError> {
     let mut pairs = Vec::new(alloc);
-    let mut values = values.iter();
-    for held in &holding.all {
-        if held.level == 0 {
-            if let Some(value) = values.next() {
-                pairs.push((held.name.as_str(), *value))?;
-            }
-        }
+    let names = holding.all.iter().filter(|held| held.level == 0);
+    for (held, value) in names.zip(values) {
+        pairs.push((held.name.as_str(), *value))?;
     }
     Ok(pairs)
 }
 
 /// The same, with the last first.
 pub fn turned<T: Copy>(alloc: Global, all: &[T]) -> Result<Vec<T>, AllocError> {
-    let mut turned = Vec::new(alloc);
-    for one in all.iter().rev() {
-        turned.push(*one)?;
-    }
-    Ok(turned)
+    all.iter().rev().copied().collect(alloc)
 }

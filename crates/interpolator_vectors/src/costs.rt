@@ -2,7 +2,7 @@
 //! than the format's cost says.
 
 use crate::cells::Cell;
-use crate::report::{Report, WHOLE};
+use crate::report::{Report, whole};
 use interpolator::{ContextMap, Interpolate, Limits, Template};
 
 /// Formats that cost more characters than this are not written here.
@@ -24,6 +24,6 @@ pub fn run_cost(
         return;
     };
     if text.chars().count() > cost {
-        report.check("Template::cost", WHOLE, false, &cost, &text);
+        report.check(whole("Template::cost"), false, &cost, &text);
     }
 }

@@ -1,8 +1,8 @@
 //! Formats that are cut after each of their characters.
 
 use crate::cells::Cell;
-use crate::formats::{run_makings, run_ways};
-use crate::report::{Part, Report};
+use crate::formats::{Trial, run_makings, run_ways};
+use crate::report::{Part, Report, Run};
 use crate::ways::{Outcome, Room, WAYS, Way, came_by};
 use interpolator::{ContextMap, Error, parse_argument};
 use std::alloc::{AllocError, Global};
@@ -10,25 +10,26 @@ use std::alloc::{AllocError, Global};
 /// More characters than any beginning of a format writes.
 const PLENTY: usize = 1_000;
 
+/// The run that writes a beginning.
+fn written(beginning: &str) -> Run<'_> {
+    Run {
+        way: "write",
+        part: Part::Beginning(beginning),
+    }
+}
+
 /// The outcome of a beginning with nothing under any name: nothing is written.
 fn without_names(report: &Report<'_>, beginning: &str) -> Outcome {
     let nothing = ContextMap::new(report.alloc);
-    came_by(
-        report.alloc,
-        Way::Write,
-        Room::Characters(0),
-        &[beginning],
-        &nothing,
-    )
+    let room = Room::Characters(0);
+    came_by(report.alloc, Way::Write, room, &[beginning], &nothing)
 }
 
 /// The fault of the argument at the start of the beginning, if it begins with one: if it is not
 /// broken, its name is the first that is looked up. The second is whether it is broken.
 fn fault_of(alloc: Global, beginning: &str) -> Result<Option<(Error, bool)>, AllocError> {
-    if !beginning.starts_with('{') || beginning.starts_with("{{") {
-        return Ok(None);
-    }
-    if !beginning.is_char_boundary(1) {
+    let is_one = beginning.starts_with('{') && !beginning.starts_with("{{");
+    if !is_one || !beginning.is_char_boundary(1) {
         return Ok(None);
     }
     match parse_argument(beginning, 1) {
@@ -50,13 +51,13 @@ fn run_argument(
     let Some((fault, is_broken)) = fault_of(report.alloc, beginning)? else {
         return Ok(());
     };
-    let part = Part::Beginning(beginning);
+    let run = written(beginning);
     let wanted = Outcome::new(String::new(report.alloc), Err(fault));
     if is_broken {
-        report.check("write", part, *outcome == wanted, &wanted, outcome);
+        report.check(run, *outcome == wanted, &wanted, outcome);
     }
     let came = without_names(report, beginning);
-    report.check("write", part, came == wanted, &wanted, &came);
+    report.check(run, came == wanted, &wanted, &came);
     Ok(())
 }
 
@@ -69,7 +70,7 @@ fn run_beginning(
     room: Room,
 ) -> Result<(), AllocError> {
     let parts = [beginning];
-    let part = Part::Beginning(beginning);
+    let run = written(beginning);
     let little = match room {
         Room::Characters(count) => Room::Characters(count),
         _ => Room::Characters(PLENTY),
@@ -77,16 +78,15 @@ fn run_beginning(
     let outcome = came_by(report.alloc, Way::Write, little, &parts, context);
     let is_short = matches!(&outcome.fault, Some(Error::NoMemory));
     let holds = !is_short && outcome.place() <= beginning.len();
-    report.check(
-        "write",
-        part,
-        holds,
-        &"a place within the beginning",
-        &outcome,
-    );
-    run_ways(report, context, &parts, &WAYS, little, part, &outcome);
+    report.check(run, holds, &"a place within the beginning", &outcome);
+    let trial = Trial {
+        ways: &WAYS,
+        room: little,
+        part: run.part,
+    };
+    run_ways(report, context, &parts, trial, &outcome);
     if let Room::All = room {
-        run_makings(report, context, beginning, part, &outcome);
+        run_makings(report, context, beginning, run.part, &outcome);
     }
     run_argument(report, beginning, &outcome)
 }

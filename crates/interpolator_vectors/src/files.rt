@@ -131,15 +131,6 @@ pub fn blocks_of(alloc: Global, text: &str) -> Read<Vec<Block>> {
     Ok(reader.blocks)
 }
 
-/// The facts of a row, each of which is read once.
-#[derive(Drop)]
-pub struct Facts<'a> {
-    pub alloc: Global,
-    row: &'a Row,
-    /// Those that were read.
-    read: Vec<usize>,
-}
-
 /// Whether the line begins with this key.
 fn has_key(line: &Line, key: &str) -> bool {
     match line.words.first() {
@@ -148,47 +139,33 @@ fn has_key(line: &Line, key: &str) -> bool {
     }
 }
 
-impl<'a> Facts<'a> {
-    pub fn new(alloc: Global, row: &'a Row) -> Facts<'a> {
-        Facts {
-            alloc,
-            row,
-            read: Vec::new(alloc),
-        }
-    }
+/// The facts of a row, each of which is read once.
+#[derive(Drop)]
+pub struct Facts<'a> {
+    pub alloc: Global,
+    row: &'a Row,
+    /// Those that are still to be read.
+    left: Vec<&'a Line>,
+}
 
-    /// The index of the first fact of this key that is not read, if there is one.
-    fn find(&self, key: &str) -> Option<usize> {
-        for index in 0..self.row.facts.len() {
-            if let Some(line) = self.row.facts.get(index) {
-                if has_key(line, key) && !self.read.contains(&index) {
-                    return Some(index);
-                }
-            }
-        }
-        None
+impl<'a> Facts<'a> {
+    pub fn new(alloc: Global, row: &'a Row) -> Read<Facts<'a>> {
+        let left = row.facts.iter().collect::<Vec<&Line>>(alloc)?;
+        Ok(Facts { alloc, row, left })
     }
 
     /// The words after the key of the next fact that has it; the fact counts as read.
-    pub fn next(&mut self, key: &str) -> Read<Option<Words<'a>>> {
-        let Some(index) = self.find(key) else {
-            return Ok(None);
-        };
-        self.read.push(index)?;
-        let row = self.row;
-        match row.facts.get(index) {
-            Some(line) => {
-                let mut words = Words::new(self.alloc, line.number, &line.words);
-                words.skip();
-                Ok(Some(words))
-            }
-            None => Ok(None),
-        }
+    pub fn next(&mut self, key: &str) -> Option<Words<'a>> {
+        let index = self.left.iter().position(|line| has_key(line, key))?;
+        let line = self.left.remove(index);
+        let mut words = Words::new(self.alloc, line.number, &line.words);
+        words.skip();
+        Some(words)
     }
 
-    /// How many facts the row has.
+    /// How many facts are still to be read.
     pub fn len(&self) -> usize {
-        self.row.facts.len()
+        self.left.len()
     }
 
     /// The error that this is wrong with the row.
@@ -198,17 +175,16 @@ impl<'a> Facts<'a> {
 
     /// Checks that each fact was read.
     pub fn done(&self) -> Read<()> {
-        for index in 0..self.row.facts.len() {
-            if !self.read.contains(&index) {
-                return Err(self.trouble("a key that is not known here, or that stands twice"));
-            }
+        if self.left.is_empty() {
+            Ok(())
+        } else {
+            Err(self.trouble("a key that is not known here, or that stands twice"))
         }
-        Ok(())
     }
 
     /// The text of the fact of this key.
     pub fn text(&mut self, key: &str) -> Read<Option<String>> {
-        let Some(mut words) = self.next(key)? else {
+        let Some(mut words) = self.next(key) else {
             return Ok(None);
         };
         let text = words.text()?;
@@ -218,7 +194,7 @@ impl<'a> Facts<'a> {
 
     /// The number of the fact of this key.
     pub fn number(&mut self, key: &str) -> Read<Option<usize>> {
-        let Some(mut words) = self.next(key)? else {
+        let Some(mut words) = self.next(key) else {
             return Ok(None);
         };
         let number = words.number()?;
@@ -228,42 +204,44 @@ impl<'a> Facts<'a> {
 
     /// The text of the fact of this key, which has to be there.
     pub fn the_text(&mut self, key: &str) -> Read<String> {
-        match self.text(key)? {
-            Some(text) => Ok(text),
-            None => Err(self.trouble("a text is missing in this row")),
-        }
+        self.text(key)?
+            .ok_or(self.trouble("a text is missing in this row"))
     }
 
     /// The number of the fact of this key, which has to be there.
     pub fn the_number(&mut self, key: &str) -> Read<usize> {
-        match self.number(key)? {
-            Some(number) => Ok(number),
-            None => Err(self.trouble("a number is missing in this row")),
-        }
+        self.number(key)?
+            .ok_or(self.trouble("a number is missing in this row"))
     }
 
     /// Whether there is a fact of this key, which says nothing else.
     pub fn mark(&mut self, key: &str) -> Read<bool> {
-        let Some(words) = self.next(key)? else {
+        let Some(words) = self.next(key) else {
             return Ok(false);
         };
         words.done()?;
         Ok(true)
     }
 
+    /// What the word of the fact of this key stands for in the table.
+    pub fn one_of<T: Copy>(&mut self, key: &str, table: &[(&str, T)]) -> Read<Option<T>> {
+        let Some(mut words) = self.next(key) else {
+            return Ok(None);
+        };
+        let one = words.wanted(table)?;
+        words.done()?;
+        Ok(Some(one))
+    }
+
     /// The trait of the row.
     pub fn the_trait(&mut self) -> Read<Trait> {
-        let Some(mut words) = self.next("trait")? else {
-            return Err(self.trouble("a trait is missing in this row"));
-        };
-        let t = words.wanted(&TRAITS)?;
-        words.done()?;
-        Ok(t)
+        self.one_of("trait", &TRAITS)?
+            .ok_or(self.trouble("a trait is missing in this row"))
     }
 
     /// The spec of the row; nothing is set without one.
     pub fn spec(&mut self) -> Read<Spec> {
-        match self.next("spec")? {
+        match self.next("spec") {
             Some(words) => words.spec(),
             None => Ok(Spec::default()),
         }
@@ -271,7 +249,7 @@ impl<'a> Facts<'a> {
 
     /// The range of the row, if it has one.
     pub fn range(&mut self) -> Read<Option<Range>> {
-        match self.next("range")? {
+        match self.next("range") {
             Some(words) => Ok(Some(words.range()?)),
             None => Ok(None),
         }

@@ -2,12 +2,11 @@
 
 use crate::cells::Cell;
 use crate::files::{Facts, Row};
-use crate::report::{Part, Report, WHOLE};
-use crate::trouble::{Read, Trouble};
-use crate::ways::{LINE_WAYS, MAKINGS, Outcome, PART_WAYS, Room, WAYS, Way, came_by};
+use crate::report::{Part, Report, Run, whole};
+use crate::trouble::{Read, known};
+use crate::ways::{LINE_WAYS, MAKINGS, Outcome, PART_WAYS, Room, WAYS, Ways, came_by};
 use crate::words::Words;
 use interpolator::{ContextMap, Error, Template};
-use std::alloc::{AllocError, Global};
 
 /// A row of a format, of parts or of a line.
 #[derive(Drop)]
@@ -29,6 +28,17 @@ pub enum Kind {
     Format,
     Parts,
     Line,
+}
+
+impl Kind {
+    /// The ways to write it.
+    fn ways(self) -> Ways {
+        match self {
+            Kind::Format => &WAYS,
+            Kind::Parts => &PART_WAYS,
+            Kind::Line => &LINE_WAYS,
+        }
+    }
 }
 
 /// What the writer of a row takes.
@@ -62,7 +72,7 @@ fn parts_of(facts: &mut Facts<'_>, mut words: Words<'_>) -> Read<Vec<String>> {
 
 /// The format of a row, or its parts; none if the row has neither.
 fn formats_of(facts: &mut Facts<'_>) -> Read<Option<(Vec<String>, Kind)>> {
-    if let Some(words) = facts.next("parts")? {
+    if let Some(words) = facts.next("parts") {
         return Ok(Some((parts_of(facts, words)?, Kind::Parts)));
     }
     let Some(format) = facts.text("format")? else {
@@ -104,7 +114,7 @@ impl<'a> FormatRow<'a> {
             return Ok(None);
         };
         let room = room_of(facts)?;
-        let fault = facts.next("fault")?;
+        let fault = facts.next("fault");
         let wanted = wanted_of(facts, fault)?;
         Ok(Some(FormatRow {
             row,
@@ -133,19 +143,32 @@ impl<'a> FormatRow<'a> {
     }
 }
 
-/// Runs the parts by these ways, with a writer that takes this.
+/// How parts are run: by which ways, with a writer that takes what, and as what of the row.
+#[derive(Clone, Copy)]
+pub struct Trial<'a> {
+    pub ways: Ways,
+    pub room: Room,
+    pub part: Part<'a>,
+}
+
+/// A row as it is, by these ways, with a writer that takes this.
+fn as_it_is(ways: Ways, room: Room) -> Trial<'static> {
+    let part = Part::To(room);
+    Trial { ways, room, part }
+}
+
+/// Runs the parts.
 pub fn run_ways(
     report: &mut Report<'_>,
     context: &ContextMap<'_, Cell>,
     parts: &[&str],
-    ways: &[(&str, Way)],
-    room: Room,
-    part: Part<'_>,
+    trial: Trial<'_>,
     wanted: &Outcome,
 ) {
-    for (name, way) in ways {
-        let came = came_by(report.alloc, *way, room, parts, context);
-        report.check(name, part, came == *wanted, wanted, &came);
+    let Trial { ways, room, part } = trial;
+    for (way, call) in ways {
+        let came = came_by(report.alloc, *call, room, parts, context);
+        report.check(Run { way, part }, came == *wanted, wanted, &came);
     }
 }
 
@@ -157,10 +180,10 @@ pub fn run_makings(
     part: Part<'_>,
     wanted: &Outcome,
 ) {
-    for (name, making) in MAKINGS {
+    for (way, making) in MAKINGS {
         let made = making.make(report.alloc, format, context);
         let came = Outcome::made(report.alloc, made);
-        report.check(name, part, wanted.is_made(&came), wanted, &came);
+        report.check(Run { way, part }, wanted.is_made(&came), wanted, &came);
     }
 }
 
@@ -184,47 +207,47 @@ fn bytes_of(parts: &[&str]) -> usize {
     bytes
 }
 
-/// Runs the parts by each way with a writer that takes `count` characters, fewer than the text has:
-/// it gets so many of the row's text, and the fault is `Fmt` at a place within the parts.
+/// Runs the parts with a writer that takes a number of characters, fewer than the text has: it gets
+/// so many of the row's text, and the fault is `Fmt` at a place within the parts.
 fn run_refused(
     report: &mut Report<'_>,
     context: &ContextMap<'_, Cell>,
     parts: &[&str],
-    ways: &[(&str, Way)],
-    count: usize,
+    trial: Trial<'_>,
     wanted: &Outcome,
 ) {
-    let room = Room::Characters(count);
+    let Trial { ways, room, part } = trial;
+    let beginning = room.beginning(wanted.text.as_str());
     let end = bytes_of(parts);
-    for (name, way) in ways {
-        let came = came_by(report.alloc, *way, room, parts, context);
-        let holds = came.is_refused(wanted.text.as_str(), count, end);
-        report.check(name, Part::To(room), holds, wanted, &came);
+    for (way, call) in ways {
+        let came = came_by(report.alloc, *call, room, parts, context);
+        let holds = came.is_refused(beginning, end);
+        report.check(Run { way, part }, holds, wanted, &came);
     }
 }
 
-/// Runs the parts by these ways: with the row's writer and, if that takes everything, with writers
+/// Runs the parts as they are: with the row's writer and, if that takes everything, with writers
 /// that take 0, 1, 2 and so on characters, up to those of the text.
 fn run_by(
     report: &mut Report<'_>,
     context: &ContextMap<'_, Cell>,
     parts: &[&str],
-    ways: &[(&str, Way)],
-    room: Room,
+    by: Trial<'_>,
     wanted: &Outcome,
 ) {
-    run_ways(report, context, parts, ways, room, Part::To(room), wanted);
-    if !matches!(room, Room::All) {
+    run_ways(report, context, parts, by, wanted);
+    if !matches!(by.room, Room::All) {
         return;
     }
     let all = wanted.text.chars().count();
     for count in 0..all {
         if is_tried(count, all) {
-            run_refused(report, context, parts, ways, count, wanted);
+            let less = as_it_is(by.ways, Room::Characters(count));
+            run_refused(report, context, parts, less, wanted);
         }
     }
-    let room = Room::Characters(all);
-    run_ways(report, context, parts, ways, room, Part::To(room), wanted);
+    let exact = as_it_is(by.ways, Room::Characters(all));
+    run_ways(report, context, parts, exact, wanted);
 }
 
 /// Whether the fault is one of a format's own.
@@ -238,16 +261,12 @@ fn is_own(fault: &Option<Error>) -> bool {
 /// Checks that the template of a format has the format's text, and that the check of a format with
 /// a fault of its own reports one.
 fn run_template(report: &mut Report<'_>, format: &str, wanted: &Outcome) -> Read<()> {
-    let Ok(template) = Template::parse(report.alloc, format) else {
-        return Err(Trouble::NoMemory);
-    };
-    let text = template.text();
-    report.check("Template::text", WHOLE, text == format, &format, &text);
+    let template = known(Template::parse(report.alloc, format))?;
+    report.compare("Template::text", &format, &template.text());
     if is_own(&wanted.fault) {
         let came = template.check().err();
         report.check(
-            "Template::check",
-            WHOLE,
+            whole("Template::check"),
             came.is_some(),
             &wanted.fault,
             &came,
@@ -256,36 +275,24 @@ fn run_template(report: &mut Report<'_>, format: &str, wanted: &Outcome) -> Read
     Ok(())
 }
 
-/// The texts, borrowed.
-pub fn lent<'a>(alloc: Global, texts: &'a [String]) -> Result<Vec<&'a str>, AllocError> {
-    let mut all = Vec::new(alloc);
-    for text in texts {
-        all.push(text.as_str())?;
-    }
-    Ok(all)
-}
-
-/// Checks that every way writes and returns what the row says, if it says so; returns whether it
-/// does.
+/// Checks that every way writes and returns what the row says, if it says so.
 pub fn run_format(
     report: &mut Report<'_>,
     context: &ContextMap<'_, Cell>,
     row: &FormatRow<'_>,
-) -> Read<bool> {
+) -> Read<()> {
     let Some(wanted) = &row.wanted else {
-        return Ok(false);
+        return Ok(());
     };
-    let parts = lent(report.alloc, &row.formats)?;
-    match row.kind {
-        Kind::Parts => run_by(report, context, &parts, &PART_WAYS, row.room, wanted),
-        Kind::Line => run_by(report, context, &parts, &LINE_WAYS, row.room, wanted),
-        Kind::Format => {
-            run_by(report, context, &parts, &WAYS, row.room, wanted);
-            if let Room::All = row.room {
-                run_makings(report, context, row.format(), WHOLE, wanted);
-            }
-            run_template(report, row.format(), wanted)?;
-        }
+    let parts = row.formats.iter().map(|part| part.as_str());
+    let parts = parts.collect::<Vec<&str>>(report.alloc)?;
+    let by = as_it_is(row.kind.ways(), row.room);
+    run_by(report, context, &parts, by, wanted);
+    if row.kind != Kind::Format {
+        return Ok(());
     }
-    Ok(true)
+    if let Room::All = row.room {
+        run_makings(report, context, row.format(), by.part, wanted);
+    }
+    run_template(report, row.format(), wanted)
 }

@@ -1,7 +1,7 @@
 //! Formats that are joined, each with those of the same context.
 
 use crate::cells::Cell;
-use crate::formats::{FormatRow, Kind, run_makings, run_ways};
+use crate::formats::{FormatRow, Kind, Trial, run_makings, run_ways};
 use crate::report::{Part, Report};
 use crate::trouble::Read;
 use crate::ways::{Outcome, PART_WAYS, Room, WAYS};
@@ -48,27 +48,20 @@ fn join(
     };
     let room = room_of(head, next.room);
     let part = Part::Joined(next.row.number);
-    run_ways(
-        report,
-        context,
-        &[format.as_str()],
-        &WAYS,
+    let as_one = Trial {
+        ways: &WAYS,
         room,
         part,
-        &wanted,
-    );
+    };
+    run_ways(report, context, &[format.as_str()], as_one, &wanted);
     if let Room::All = room {
         run_makings(report, context, format.as_str(), part, &wanted);
     }
-    run_ways(
-        report,
-        context,
-        &[front, back],
-        &PART_WAYS,
-        room,
-        part,
-        &wanted,
-    );
+    let as_two = Trial {
+        ways: &PART_WAYS,
+        ..as_one
+    };
+    run_ways(report, context, &[front, back], as_two, &wanted);
     Ok(())
 }
 

@@ -4,8 +4,8 @@
 use crate::cells::Cell;
 use crate::formats::is_tried;
 use crate::limited::Limited;
-use crate::report::{Part, Report, WHOLE};
-use crate::ways::{Outcome, Room};
+use crate::report::{Part, Report, Run, whole};
+use crate::ways::{Outcome, Room, first};
 use interpolator::{ContextMap, Error, Formattable, Interpolate, Pairs, Prepared, Row, Template};
 
 /// A name of a context, and its value.
@@ -25,7 +25,7 @@ pub fn run_check(
     let answer = context.check_template(report.alloc, template);
     let came = Outcome::new(String::new(report.alloc), answer);
     let holds = came.fault.is_some() && came.place() <= wanted.place();
-    report.check("check_template", WHOLE, holds, wanted, &came);
+    report.check(whole("check_template"), holds, wanted, &came);
 }
 
 /// Writes a prepared format to a writer of `count` characters, fewer than the text has: it gets so
@@ -43,9 +43,13 @@ fn run_refused(
     };
     let answer = prepared.write(report.alloc, &mut out, &Row(row));
     let came = Outcome::new(out.into_string(), answer);
-    let holds = came.is_refused(wanted.text.as_str(), count, prepared.text().len());
-    let part = Part::To(Room::Characters(count));
-    report.check("Prepared::write", part, holds, wanted, &came);
+    let beginning = first(wanted.text.as_str(), count);
+    let holds = came.is_refused(beginning, prepared.text().len());
+    let run = Run {
+        way: "Prepared::write",
+        part: Part::To(Room::Characters(count)),
+    };
+    report.check(run, holds, wanted, &came);
 }
 
 /// Checks that a format that can be prepared writes the row's text, also to writers of 0, 1, 2 and
@@ -67,13 +71,8 @@ pub fn run_prepared(
     };
     let made = prepared.format(report.alloc, &Row(row));
     let came = Outcome::made(report.alloc, made);
-    report.check(
-        "Prepared::format",
-        WHOLE,
-        wanted.is_made(&came),
-        wanted,
-        &came,
-    );
+    let holds = wanted.is_made(&came);
+    report.check(whole("Prepared::format"), holds, wanted, &came);
     let all = wanted.text.chars().count();
     for count in 0..all {
         if is_tried(count, all) {

@@ -4,7 +4,7 @@ use crate::cells::Cell;
 use crate::contexts::take_cell;
 use crate::files::Facts;
 use crate::limited::Limited;
-use crate::report::{Part, Report};
+use crate::report::{Part, Report, Run};
 use crate::trouble::Read;
 use crate::ways::{Room, first};
 use interpolator::{RenderFault, Spec, TextBuffer, TextWrite, Trait, Value, pad, render};
@@ -34,7 +34,7 @@ fn subject_of(facts: &mut Facts<'_>) -> Read<Option<Subject>> {
     if let Some(text) = facts.text("pad")? {
         return Ok(Some(Subject::Text(text)));
     }
-    let Some(mut words) = facts.next("view")? else {
+    let Some(mut words) = facts.next("view") else {
         return Ok(None);
     };
     let cell = take_cell(&mut words)?;
@@ -48,16 +48,6 @@ const FAULTS: [(&str, RenderFault); 3] = [
     ("Refused", RenderFault::Refused),
 ];
 
-/// What a row says is returned.
-fn fault_of(facts: &mut Facts<'_>) -> Read<Option<RenderFault>> {
-    let Some(mut words) = facts.next("fault")? else {
-        return Ok(None);
-    };
-    let fault = words.wanted(&FAULTS)?;
-    words.done()?;
-    Ok(Some(fault))
-}
-
 /// The text of a row, which is empty if the view has none.
 fn text_of(facts: &mut Facts<'_>, fault: Option<RenderFault>) -> Read<String> {
     match facts.text("text")? {
@@ -67,16 +57,6 @@ fn text_of(facts: &mut Facts<'_>, fault: Option<RenderFault>) -> Read<String> {
         }
         None => Ok(String::new(facts.alloc)),
     }
-}
-
-/// Writes a view.
-fn write_view<W: TextWrite>(
-    out: &mut W,
-    cell: &Cell,
-    t: Trait,
-    spec: &Spec,
-) -> Option<RenderFault> {
-    render(out, cell.view(t, spec), t, spec).err()
 }
 
 /// Checks what was written with what was wanted.
@@ -89,20 +69,21 @@ fn check(
 ) {
     let (fault, taken) = answer;
     let holds = text == wanted.0 && fault == wanted.1 && taken.unwrap_or(text.len()) == text.len();
-    report.check(
-        "render or pad",
-        Part::To(room),
-        holds,
-        &wanted,
-        &(text, answer),
-    );
+    let run = Run {
+        way: "render or pad",
+        part: Part::To(room),
+    };
+    report.check(run, holds, &wanted, &(text, answer));
 }
 
 impl Rendering {
     /// Writes the row's view or text.
     fn write<W: TextWrite>(&self, out: &mut W) -> Answer {
         match &self.subject {
-            Subject::View(cell, t) => (write_view(out, cell, *t, &self.spec), None),
+            Subject::View(cell, t) => {
+                let view = cell.view(*t, &self.spec);
+                (render(out, view, *t, &self.spec).err(), None)
+            }
             Subject::Text(text) => match pad(out, text.as_str(), &self.spec) {
                 Ok(()) => (None, None),
                 Err(refusal) => (Some(RenderFault::Refused), Some(refusal.taken)),
@@ -145,7 +126,7 @@ pub fn run_rendering(report: &mut Report<'_>, facts: &mut Facts<'_>) -> Read<boo
         return Ok(false);
     };
     let spec = facts.spec()?;
-    let fault = fault_of(facts)?;
+    let fault = facts.one_of("fault", &FAULTS)?;
     let text = text_of(facts, fault)?;
     let rendering = Rendering {
         subject,

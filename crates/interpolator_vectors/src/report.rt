@@ -5,7 +5,7 @@ use crate::ways::Room;
 use std::alloc::{AllocError, Global};
 use std::fmt;
 
-/// How a row was run.
+/// What of a row was run.
 #[derive(Clone, Copy, Debug)]
 pub enum Part<'a> {
     /// As it is, with a writer that takes this.
@@ -16,8 +16,20 @@ pub enum Part<'a> {
     Joined(usize),
 }
 
-/// The row as it is.
-pub const WHOLE: Part<'static> = Part::To(Room::All);
+/// A run of a row: by which call, and what of the row.
+#[derive(Clone, Copy)]
+pub struct Run<'a> {
+    pub way: &'a str,
+    pub part: Part<'a>,
+}
+
+/// A run of the row as it is.
+pub fn whole(way: &str) -> Run<'_> {
+    Run {
+        way,
+        part: Part::To(Room::All),
+    }
+}
 
 /// The report on the rows of a file.
 #[derive(Drop)]
@@ -78,16 +90,16 @@ impl<'a> Report<'a> {
         self.fails = false;
     }
 
-    /// Counts a run of the row by a call. The first that fails is reported: how it was run, what
-    /// was wanted, and what came.
+    /// Counts a run of the row. The first that fails is reported: how it was run, what was wanted,
+    /// and what came.
     pub fn check<W: fmt::Debug, C: fmt::Debug>(
         &mut self,
-        way: &str,
-        part: Part<'_>,
+        run: Run<'_>,
         holds: bool,
         wanted: &W,
         came: &C,
     ) {
+        let Run { way, part } = run;
         self.runs = self.runs.saturating_add(1);
         if holds || self.fails {
             return;
@@ -104,6 +116,6 @@ impl<'a> Report<'a> {
 
     /// Counts a run of the row as it is, by a call that has to return what is wanted.
     pub fn compare<T: PartialEq + fmt::Debug>(&mut self, way: &str, wanted: &T, came: &T) {
-        self.check(way, WHOLE, *wanted == *came, wanted, came);
+        self.check(whole(way), *wanted == *came, wanted, came);
     }
 }

@@ -13,10 +13,10 @@ use crate::rendering::run_rendering;
 use crate::report::Report;
 use crate::small::run_small;
 use crate::templates::run_known;
-use crate::trouble::{Read, Trouble};
+use crate::trouble::{Read, known};
 use crate::ways::Room;
 use crate::words::Words;
-use interpolator::{ContextMap, Formattable, Template};
+use interpolator::{ContextMap, Formattable, Limits, Template};
 use std::alloc::Global;
 
 /// What a context has under its names.
@@ -33,20 +33,12 @@ fn holding_of(alloc: Global, block: &Block) -> Read<Holding> {
 fn formats_of(alloc: Global, rows: &[Row]) -> Read<Vec<FormatRow<'_>>> {
     let mut formats = Vec::new(alloc);
     for row in rows {
-        let mut facts = Facts::new(alloc, row);
+        let mut facts = Facts::new(alloc, row)?;
         if let Some(format) = FormatRow::read(row, &mut facts)? {
             formats.push(format)?;
         }
     }
     Ok(formats)
-}
-
-/// The template of a format.
-fn parsed(alloc: Global, format: &str) -> Read<Template> {
-    match Template::parse(alloc, format) {
-        Ok(template) => Ok(template),
-        Err(_) => Err(Trouble::NoMemory),
-    }
 }
 
 /// Runs a row of a format, of parts or of a line. A row that states no outcome is an error.
@@ -59,7 +51,7 @@ fn run_format_row(
     let runs = report.runs;
     run_format(report, context, row)?;
     if row.kind == Kind::Format {
-        let template = parsed(report.alloc, row.format())?;
+        let template = known(Template::parse(report.alloc, row.format()))?;
         run_known(report, context, &template, facts)?;
     }
     if report.runs == runs {
@@ -90,7 +82,7 @@ fn run_any<'a>(
 /// Runs the rows of a context, each by itself, and checks that each of its facts was read.
 fn run_each(report: &mut Report<'_>, block: &Block, context: &ContextMap<'_, Cell>) -> Read<()> {
     for row in &block.rows {
-        let mut facts = Facts::new(report.alloc, row);
+        let mut facts = Facts::new(report.alloc, row)?;
         report.rows = report.rows.saturating_add(1);
         report.begin(row);
         run_any(report, context, row, &mut facts)?;
@@ -109,7 +101,7 @@ fn run_loaded(
 ) -> Read<()> {
     for row in formats {
         if let (Some(wanted), Room::All, Kind::Format) = (&row.wanted, row.room, row.kind) {
-            let template = parsed(report.alloc, row.format())?;
+            let template = known(Template::parse(report.alloc, row.format()))?;
             report.begin(row.row);
             run_check(report, context, &template, wanted);
             run_prepared(report, &template, pairs, values, wanted);
@@ -123,13 +115,13 @@ fn run_costs(
     report: &mut Report<'_>,
     context: &ContextMap<'_, Cell>,
     formats: &[FormatRow<'_>],
-    holding: &Holding,
+    limits: &Limits,
 ) -> Read<()> {
     for row in formats {
         if row.kind == Kind::Format {
-            let template = parsed(report.alloc, row.format())?;
+            let template = known(Template::parse(report.alloc, row.format()))?;
             report.begin(row.row);
-            run_cost(report, context, &template, &holding.limits());
+            run_cost(report, context, &template, limits);
         }
     }
     Ok(())
@@ -161,7 +153,7 @@ fn cut_arguments(
     context: &ContextMap<'_, Cell>,
 ) -> Read<()> {
     for row in &block.rows {
-        let mut facts = Facts::new(report.alloc, row);
+        let mut facts = Facts::new(report.alloc, row)?;
         if let Some(start) = placed_text(&mut facts, "argument")? {
             report.begin(row);
             run_cuts(report, context, start.text.as_str(), Room::All)?;
@@ -201,7 +193,7 @@ fn run_block(report: &mut Report<'_>, block: &Block) -> Read<()> {
     let pairs = pairs_of(alloc, &holding, &values)?;
     let context = context_of(alloc, &pairs)?;
     let formats = formats_of(alloc, &block.rows)?;
-    run_costs(report, &context, &formats, &holding)?;
+    run_costs(report, &context, &formats, &holding.limits())?;
     run_loaded(report, &context, &formats, &pairs, &values)?;
     let pairs = turned(alloc, &pairs)?;
     let last_first = turned(alloc, &values)?;

@@ -2,7 +2,7 @@
 
 use crate::files::Facts;
 use crate::names::{NUMBER_FAULTS, TRUTHS};
-use crate::report::{Report, WHOLE};
+use crate::report::Report;
 use crate::trouble::Read;
 use crate::ways::Outcome;
 use crate::words::Words;
@@ -11,7 +11,7 @@ use std::alloc::Global;
 
 /// `chosen`: the items that a range chooses, by their indices.
 fn run_chosen(report: &mut Report<'_>, facts: &mut Facts<'_>) -> Read<bool> {
-    let Some(mut words) = facts.next("chosen")? else {
+    let Some(mut words) = facts.next("chosen") else {
         return Ok(false);
     };
     let wanted = (words.number()?, words.number()?);
@@ -24,7 +24,7 @@ fn run_chosen(report: &mut Report<'_>, facts: &mut Facts<'_>) -> Read<bool> {
 
 /// `seam`: whether a text may come after another.
 fn run_seam(report: &mut Report<'_>, facts: &mut Facts<'_>) -> Read<bool> {
-    let Some(mut words) = facts.next("seam")? else {
+    let Some(mut words) = facts.next("seam") else {
         return Ok(false);
     };
     let first = words.text()?;
@@ -37,9 +37,8 @@ fn run_seam(report: &mut Report<'_>, facts: &mut Facts<'_>) -> Read<bool> {
 
 /// Checks that a call returned this text.
 fn check_made(report: &mut Report<'_>, way: &str, wanted: String, made: Result<String, Error>) {
-    let wanted = Outcome::new(wanted, Ok(()));
     let came = Outcome::made(report.alloc, made);
-    report.check(way, WHOLE, came == wanted, &wanted, &came);
+    report.compare(way, &Outcome::new(wanted, Ok(())), &came);
 }
 
 /// `escape`: a text with its braces doubled, which is a format whose output is the text.
@@ -74,7 +73,7 @@ fn printed(alloc: Global, mut words: Words<'_>) -> Read<String> {
 
 /// `prints`: the text of a fault.
 fn run_prints(report: &mut Report<'_>, facts: &mut Facts<'_>) -> Read<bool> {
-    let Some(words) = facts.next("prints")? else {
+    let Some(words) = facts.next("prints") else {
         return Ok(false);
     };
     let came = printed(report.alloc, words)?;

@@ -6,22 +6,14 @@ use crate::files::Facts;
 use crate::formats::fault_of;
 use crate::names::PIECE_KINDS;
 use crate::report::Report;
-use crate::trouble::{Read, Trouble};
+use crate::trouble::{Read, known};
 use crate::words::Words;
 use interpolator::{Argument, ContextMap, Error, Interpolate, Piece, PieceKind, Template, check};
 use std::alloc::{AllocError, Global};
 
-/// What a call returned that fails only for want of memory.
-fn known<T: Drop>(came: Result<T, Error>) -> Read<T> {
-    match came {
-        Ok(came) => Ok(came),
-        Err(_) => Err(Trouble::NoMemory),
-    }
-}
-
 /// The fault that a row states under this key, if it has the key: `ok` is none.
 fn stated(facts: &mut Facts<'_>, key: &str) -> Read<Option<Option<Error>>> {
-    let Some(mut words) = facts.next(key)? else {
+    let Some(mut words) = facts.next(key) else {
         return Ok(None);
     };
     if words.takes("ok") {
@@ -72,9 +64,7 @@ fn places_of(alloc: Global, mut words: Words<'_>) -> Read<Vec<Placed>> {
 fn argument_places(alloc: Global, arguments: &[Argument<'_>]) -> Result<Vec<Placed>, AllocError> {
     let mut places = Vec::new(alloc);
     for argument in arguments {
-        let text = String::from_str(alloc, argument.name)?;
-        let place = argument.name_place;
-        places.push(Placed { text, place })?;
+        places.push(Placed::new(alloc, argument.name, argument.name_place)?)?;
     }
     Ok(places)
 }
@@ -82,12 +72,12 @@ fn argument_places(alloc: Global, arguments: &[Argument<'_>]) -> Result<Vec<Plac
 /// `names`, `arguments`, `widest` and `depth`.
 fn run_names(report: &mut Report<'_>, template: &Template, facts: &mut Facts<'_>) -> Read<()> {
     let alloc = report.alloc;
-    if let Some(mut words) = facts.next("names")? {
+    if let Some(mut words) = facts.next("names") {
         let wanted = words.texts()?;
         let came = known(template.names(alloc))?;
         report.compare("Template::names", &wanted, &came);
     }
-    if let Some(words) = facts.next("arguments")? {
+    if let Some(words) = facts.next("arguments") {
         let wanted = places_of(alloc, words)?;
         let arguments = known(template.arguments(alloc))?;
         let came = argument_places(alloc, &arguments)?;
@@ -167,12 +157,12 @@ fn node_of(mut words: Words<'_>) -> Read<Node> {
 fn run_pieces(report: &mut Report<'_>, template: &Template, facts: &mut Facts<'_>) -> Read<()> {
     let mut wanted = Vec::new(report.alloc);
     let mut is_stated = false;
-    if let Some(mut words) = facts.next("pieces")? {
+    if let Some(mut words) = facts.next("pieces") {
         is_stated = words.takes("none");
         words.done()?;
     }
     for _ in 0..facts.len() {
-        let Some(words) = facts.next("piece")? else {
+        let Some(words) = facts.next("piece") else {
             break;
         };
         wanted.push(node_of(words)?)?;

@@ -1,5 +1,6 @@
 //! Why a file cannot be run.
 
+use interpolator::Error;
 use std::alloc::{AllocError, AllocFailed};
 
 /// Why a file cannot be run.
@@ -23,5 +24,13 @@ impl From<AllocError> for Trouble {
 impl<T: Drop> From<AllocFailed<T>> for Trouble {
     fn from(_refused: AllocFailed<T>) -> Trouble {
         Trouble::NoMemory
+    }
+}
+
+/// What a call returned that fails only for want of memory.
+pub fn known<T: Drop>(came: Result<T, Error>) -> Read<T> {
+    match came {
+        Ok(came) => Ok(came),
+        Err(_) => Err(Trouble::NoMemory),
     }
 }

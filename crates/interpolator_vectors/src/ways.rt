@@ -24,7 +24,10 @@ pub enum Way {
     WriteLineTo,
 }
 
-/// The ways to write a format, by the names of their calls.
+/// Ways, by the names of their calls.
+pub type Ways = &'static [(&'static str, Way)];
+
+/// The ways to write a format.
 pub const WAYS: [(&str, Way); 6] = [
     ("write", Way::Write),
     ("write_to", Way::WriteTo),
@@ -118,6 +121,16 @@ pub enum Room {
     Bytes(usize),
 }
 
+impl Room {
+    /// The beginning of a text that a writer takes that counts characters.
+    pub fn beginning(self, text: &str) -> &str {
+        match self {
+            Room::Characters(count) => first(text, count),
+            _ => text,
+        }
+    }
+}
+
 /// What is written, and the fault that is returned, if one is.
 #[derive(Debug, Drop, PartialEq)]
 pub struct Outcome {
@@ -149,11 +162,10 @@ impl Outcome {
         made.fault == self.fault && (made.fault.is_some() || made.text == self.text)
     }
 
-    /// Whether it is the fault `Fmt` at a place that is not past `end`, after the first `count`
-    /// characters of the text.
-    pub fn is_refused(&self, text: &str, count: usize, end: usize) -> bool {
+    /// Whether it is the fault `Fmt` at a place that is not past `end`, after this text.
+    pub fn is_refused(&self, text: &str, end: usize) -> bool {
         match &self.fault {
-            Some(Error::Fmt(_, place)) => *place <= end && self.text.as_str() == first(text, count),
+            Some(Error::Fmt(_, place)) => *place <= end && self.text.as_str() == text,
             _ => false,
         }
     }

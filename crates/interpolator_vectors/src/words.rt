@@ -93,21 +93,13 @@ impl<'a> Words<'a> {
 
     /// What the word here stands for in the table, in which it has to be.
     pub fn wanted<T: Copy>(&mut self, table: &[(&str, T)]) -> Read<T> {
-        match self.one_of(table) {
-            Some(one) => Ok(one),
-            None => Err(self.trouble("another word is wanted")),
-        }
+        self.one_of(table)
+            .ok_or(self.trouble("another word is wanted"))
     }
 
     /// Whether this word is here; if it is, it counts as read.
     pub fn takes(&mut self, wanted: &str) -> bool {
-        match self.peek() {
-            Some(Word::Bare(word)) if word.as_str() == wanted => {
-                self.skip();
-                true
-            }
-            _ => false,
-        }
+        self.one_of(&[(wanted, ())]).is_some()
     }
 
     /// Whether a text is here.
@@ -131,8 +123,9 @@ impl<'a> Words<'a> {
         let Some(part) = self.quoted() else {
             return Err(self.trouble("a text in quotes is wanted"));
         };
-        let count = if self.takes("*") { self.number()? } else { 1 };
-        append_times(text, part, count)
+        let count = self.number_after("*")?.unwrap_or(1);
+        text.push_str(part.repeat(self.alloc, count)?.as_str())?;
+        Ok(())
     }
 
     /// Whether `+` and a text are here; if they are, the `+` counts as read.
@@ -181,9 +174,9 @@ impl<'a> Words<'a> {
 
     /// The number here.
     pub fn number(&mut self) -> Read<usize> {
-        match self.bare().and_then(number_of) {
-            Some(number) => Ok(number),
-            None => Err(self.trouble("a number is wanted")),
+        match self.bare().unwrap_or("").parse::<usize>() {
+            Ok(number) => Ok(number),
+            Err(_) => Err(self.trouble("a number is wanted")),
         }
     }
 
@@ -205,7 +198,7 @@ impl<'a> Words<'a> {
     pub fn parse_fault(&mut self) -> Option<ParseError> {
         let name = self.bare().unwrap_or("");
         let number = self.one_of(&NUMBER_FAULTS);
-        let sign = expected_of(self.quoted().unwrap_or(""));
+        let sign = named(&EXPECTED, self.quoted().unwrap_or(""));
         let place = self.place().ok()?;
         parse_fault_of(name, number, sign, place)
     }
@@ -223,10 +216,8 @@ impl<'a> Words<'a> {
 
     /// `Parse`, after its name.
     fn broken(&mut self) -> Read<Error> {
-        match self.parse_fault() {
-            Some(fault) => Ok(Error::Parse(fault)),
-            None => Err(self.trouble("no such fault of parsing")),
-        }
+        let fault = self.parse_fault();
+        Ok(Error::Parse(fault.ok_or(self.trouble("no such fault of parsing"))?))
     }
 
     /// The fault here, to the end of the line.
@@ -283,22 +274,15 @@ impl<'a> Words<'a> {
 
     /// The range here, to the end of the line.
     pub fn range(mut self) -> Read<Range> {
-        let Some(range) = self.bare().and_then(range_of) else {
-            return Err(self.trouble("a range is wanted"));
-        };
+        let range = self.bare().and_then(range_of);
+        let range = range.ok_or(self.trouble("a range is wanted"))?;
         self.done()?;
         Ok(range)
     }
 }
 
-/// What a format expects, of those texts that it can expect.
-fn expected_of(text: &str) -> Option<&'static str> {
-    match text {
-        "}" => Some("}"),
-        "(" => Some("("),
-        _ => None,
-    }
-}
+/// The texts that a format can expect.
+const EXPECTED: [(&str, &str); 2] = [("}", "}"), ("(", "(")];
 
 /// The parse fault of this name and place, with what else it has.
 fn parse_fault_of(
@@ -319,28 +303,12 @@ fn parse_fault_of(
     }
 }
 
-/// Appends a text `count` times.
-fn append_times(text: &mut String, part: &str, count: usize) -> Read<()> {
-    for _ in 0..count {
-        text.push_str(part)?;
-    }
-    Ok(())
-}
-
-/// The number that a word spells.
-fn number_of(word: &str) -> Option<usize> {
-    word.parse::<usize>().ok()
-}
-
 /// The bound that a word spells; there is none if the word is empty.
 fn bound_of(word: &str) -> Option<Option<isize>> {
     if word.is_empty() {
         return Some(None);
     }
-    match word.parse::<isize>() {
-        Ok(bound) => Some(Some(bound)),
-        Err(_) => None,
-    }
+    Some(Some(word.parse::<isize>().ok()?))
 }
 
 /// The range that a word spells.
