@@ -8,9 +8,11 @@
 //! reported, and no table is written.
 #![tactic(auto)]
 
+mod faults;
 mod layout;
 mod totals;
 
+use faults::Faults;
 use interpolator::Error;
 use layout::{Column, table_of};
 use std::alloc::Global;
@@ -44,47 +46,37 @@ fn field_count(line: &str) -> usize {
     line.split(',').count()
 }
 
-/// Appends what is wrong with a line whose fields are not as many as the columns.
+/// Adds what is wrong with a line whose fields are not as many as the columns.
 fn check_line(
-    alloc: Global,
-    faults: &mut String,
-    file: &str,
+    faults: &mut Faults<'_>,
     number: usize,
     line: &str,
     wanted: usize,
 ) -> Result<(), Error> {
     let count = field_count(line);
-    if count != wanted {
-        let noun = if count == 1 { "field" } else { "fields" };
-        let told = format!(in alloc; "{file}:{number}: {count} {noun}, but line 1 has {wanted}\n")?;
-        faults.push_str(told.as_str())?;
+    if count == wanted {
+        return Ok(());
     }
-    Ok(())
+    let noun = if count == 1 { "field" } else { "fields" };
+    let why = format!(in faults.alloc; "{count} {noun}, but line 1 has {wanted}")?;
+    faults.tell(number, why.as_str())
 }
 
-/// Appends what is wrong with the lines after the first.
-fn check_lines(
-    alloc: Global,
-    faults: &mut String,
-    file: &str,
-    header: &str,
-    lines: &[&str],
-) -> Result<(), Error> {
+/// Adds what is wrong with the lines after the first.
+fn check_lines(faults: &mut Faults<'_>, header: &str, lines: &[&str]) -> Result<(), Error> {
     let wanted = field_count(header);
     let mut number = 1usize;
     for line in lines {
         number = number.saturating_add(1);
-        check_line(alloc, faults, file, number, line, wanted)?;
+        check_line(faults, number, line, wanted)?;
     }
     Ok(())
 }
 
 /// The column with this name at this index. If it has no total since a number is too large, this is
-/// appended to the faults.
+/// added to the faults.
 fn column_of(
-    alloc: Global,
-    faults: &mut String,
-    file: &str,
+    faults: &mut Faults<'_>,
     name: &str,
     lines: &[&str],
     index: usize,
@@ -96,51 +88,45 @@ fn column_of(
     match total_of(lines, index) {
         Ok(total) => Ok(column.with_total(total)),
         Err(before) => {
-            let number = before.saturating_add(2);
-            let told = format!(in alloc;
-                "{file}:{number}: the total of `{name}` has more than 128 bits from here on\n"
+            let why = format!(in faults.alloc;
+                "the total of `{name}` has more than 128 bits from here on"
             )?;
-            faults.push_str(told.as_str())?;
+            faults.tell(before.saturating_add(2), why.as_str())?;
             Ok(column)
         }
     }
 }
 
 /// The columns that the first line names.
-fn columns_of(
-    alloc: Global,
-    faults: &mut String,
-    file: &str,
-    header: &str,
-    lines: &[&str],
-) -> Result<Vec<Column>, Error> {
-    let mut columns = Vec::new(alloc);
+fn columns_of(faults: &mut Faults<'_>, header: &str, lines: &[&str]) -> Result<Vec<Column>, Error> {
+    let mut columns = Vec::new(faults.alloc);
     for (index, name) in header.split(',').enumerate() {
-        columns.push(column_of(alloc, faults, file, name, lines, index)?)?;
+        columns.push(column_of(faults, name, lines, index)?)?;
     }
     Ok(columns)
 }
 
 /// The report of a file that names no columns.
-fn without_columns(alloc: Global, file: &str) -> Result<Report, Error> {
-    let told = format!(in alloc; "{file}:1: the first line names no columns\n")?;
-    Ok(Report::Faults(told))
+fn without_columns(mut faults: Faults<'_>) -> Result<Report, Error> {
+    faults.tell(1, "the first line names no columns")?;
+    Ok(Report::Faults(faults.into_text()))
 }
 
 /// The report of a file's text.
 fn report_on(alloc: Global, file: &str, text: &str) -> Result<Report, Error> {
+    let mut faults = Faults::new(alloc, file);
     let all = text.lines().collect::<Vec<&str>>(alloc)?;
     let [header, lines @ ..] = all.as_slice() else {
-        return without_columns(alloc, file);
+        return without_columns(faults);
     };
     if header.is_empty() {
-        return without_columns(alloc, file);
+        return without_columns(faults);
     }
-    let mut faults = String::new(alloc);
-    check_lines(alloc, &mut faults, file, header, lines)?;
-    let columns = columns_of(alloc, &mut faults, file, header, lines)?;
-    if !faults.is_empty() {
-        return Ok(Report::Faults(faults));
+    check_lines(&mut faults, header, lines)?;
+    let columns = columns_of(&mut faults, header, lines)?;
+    let told = faults.into_text();
+    if !told.is_empty() {
+        return Ok(Report::Faults(told));
     }
     Ok(Report::Table(table_of(alloc, &columns, &all)?))
 }
