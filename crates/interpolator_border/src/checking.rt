@@ -13,39 +13,49 @@ use crate::answer::{
 use crate::bytes::text_of;
 use crate::fault::{Fault, NO_MEMORY, all_numbers};
 use crate::field::Field;
-use crate::levels::{LEVELS, all_lie_within, next_level, settled};
-use crate::row::Row;
+use crate::levels::{Known, LEVELS, all_lie_within, next_level, settled};
+use crate::row::{FieldRow, Row};
 use crate::writing::failing;
 use interpolator::{Error, Formattable, Template};
 use interpolator_laws::samples::a_checked_format_means_no_fault;
 use std::alloc::Global;
 
-/// The faults of a format over a row of examples, if what the items stand for is known from the item
-/// `left` on.
+/// The faults of a format over a row of examples, of whose items so much is known.
 #[tactic(auto, using(crate::proofs::LevelLemmas::next_known, crate::proofs::LevelLemmas::lie_deeper))]
 fn find_levels<'a>(
     alloc: Global,
     template: &Template,
-    fields: &'a [Field<'a>],
-    items: &'a [Field<'a>],
-    known: &'a [Formattable<'a, Field<'a>>],
-    left: usize,
-    levels: u32,
+    row: FieldRow<'a>,
+    known: Known<'a>,
 ) -> Result<Vec<Error>, Failure>
-    requires known { let trees = map slots_of known.now in
-        drop left trees ≡ drop left (map (field_slots trees) items.now) }
-    ensures { Finds (lie_in_levels levels items.now left) fields.now items.now template.now result }
+    requires known { let trees = map slots_of known.slots.now in
+        drop known.left trees ≡ drop known.left (map (field_slots trees) row.items.now) }
+    ensures { Finds (lie_in_levels known.entry.levels row.entry.items.now known.entry.left)
+        row.entry.fields.now row.entry.items.now template.now result }
 {
+    let Known {
+        slots,
+        left,
+        levels,
+    } = known;
     if left == 0 {
-        return find_known(alloc, template, fields, known);
+        return find_known(alloc, template, row.fields, slots);
     }
     if levels == 0 {
         return Err(Failure::Lists);
     }
-    match next_level(alloc, items, known) {
+    match next_level(alloc, row.items, slots) {
         Ok(level) => {
-            let rest = settled(left, items);
-            find_levels(alloc, template, &*fields, &*items, &level, rest, levels - 1)
+            let deeper = Known {
+                slots: &level,
+                left: settled(left, row.items),
+                levels: levels - 1,
+            };
+            let row = FieldRow {
+                fields: &*row.fields,
+                items: &*row.items,
+            };
+            find_levels(alloc, template, row, deeper)
         }
         Err(_) => Err(Failure::Fault(Error::NoMemory)),
     }
@@ -75,19 +85,23 @@ fn find_known<'a>(
 pub(crate) fn find_faults<'a>(
     alloc: Global,
     format: &[u8],
-    fields: &'a [Field<'a>],
-    items: &'a [Field<'a>],
+    row: FieldRow<'a>,
 ) -> Result<Vec<Error>, Failure>
-    ensures { FindsBytes fields.now items.now format.now result }
+    ensures { FindsBytes row.entry.fields.now row.entry.items.now format.now result }
 {
     let Some(text) = text_of(format) else {
         return Err(Failure::NotUtf8);
     };
-    if !all_lie_within(fields, items) {
+    if !all_lie_within(row.fields, row.items) {
         return Err(Failure::Lists);
     }
+    let none = Known {
+        slots: &[],
+        left: row.items.len(),
+        levels: LEVELS,
+    };
     match Template::parse(alloc, text) {
-        Ok(template) => find_levels(alloc, &template, fields, items, &[], items.len(), LEVELS),
+        Ok(template) => find_levels(alloc, &template, row, none),
         Err(error) => Err(Failure::Fault(error)),
     }
 }
@@ -103,18 +117,14 @@ pub(crate) fn fault_at(found: &[Error], which: usize) -> Option<&Error>
 /// The first fault that a format has by itself or over a row of examples. After code 0 no row that
 /// resembles the examples makes a fault.
 #[tactic(auto, using(crate::proofs::CheckLemmas::first_told))]
-pub fn check<'a>(
-    alloc: Global,
-    format: &[u8],
-    fields: &'a [Field<'a>],
-    items: &'a [Field<'a>],
-    room: &mut [u8],
-) -> Answer
-    ensures answer { CheckAnswers fields.now items.now format.now room.old room.new result }
-    ensures never_fails { result.code ≡ 0 → NeverFails fields.now items.now format.now }
+pub fn check<'a>(alloc: Global, format: &[u8], row: FieldRow<'a>, room: &mut [u8]) -> Answer
+    ensures answer { CheckAnswers row.entry.fields.now row.entry.items.now format.now room.old
+        room.new result }
+    ensures never_fails { result.code ≡ 0
+        → NeverFails row.entry.fields.now row.entry.items.now format.now }
 {
     a_checked_format_means_no_fault::<Field<'a>, Field<'a>>();
-    match find_faults(alloc, format, fields, items) {
+    match find_faults(alloc, format, row) {
         Ok(found) => match fault_at(&found, 0) {
             Some(error) => told_fault(alloc, error, 0, room),
             None => well(0),
@@ -125,16 +135,11 @@ pub fn check<'a>(
 
 /// All faults that a format has by itself or over a row of examples. The places get as many as there
 /// are of both.
-pub fn faults<'a>(
-    alloc: Global,
-    format: &[u8],
-    fields: &'a [Field<'a>],
-    items: &'a [Field<'a>],
-    places: &mut [Fault],
-) -> Answer
-    ensures { FaultsAnswers fields.now items.now format.now places.old places.new result }
+pub fn faults<'a>(alloc: Global, format: &[u8], row: FieldRow<'a>, places: &mut [Fault]) -> Answer
+    ensures { FaultsAnswers row.entry.fields.now row.entry.items.now format.now places.old
+        places.new result }
 {
-    match find_faults(alloc, format, fields, items) {
+    match find_faults(alloc, format, row) {
         Ok(found) => match all_numbers(alloc, &found) {
             Ok(told) => {
                 put_front(&told, places);

@@ -5,7 +5,7 @@ ghost use Rattle.interpolator_border.specs.Checks.{ExplainAnswers, PictureMade, 
 use crate::answer::{Answer, Failure, pictured, told_failure, well};
 use crate::bytes::text_of;
 use crate::checking::{fault_at, find_faults};
-use crate::field::Field;
+use crate::row::FieldRow;
 use interpolator::{Error, Source as Named, explain_in};
 use std::alloc::Global;
 
@@ -23,22 +23,28 @@ pub struct Source<'a> {
     pub start: usize,
 }
 
+/// A format, and where it is.
+#[derive(Clone, Copy)]
+pub struct Located<'a> {
+    /// The text in which the format is.
+    pub source: &'a Source<'a>,
+    /// The format.
+    pub format: &'a [u8],
+}
+
 /// The picture of a fault of a format.
-fn picture(
-    alloc: Global,
-    source: &Source<'_>,
-    format: &[u8],
-    error: &Error,
-) -> Result<String, Failure>
-    ensures { PictureMade source.now format.now (answer_of error.now) result }
+fn picture(alloc: Global, located: Located<'_>, error: &Error) -> Result<String, Failure>
+    ensures { PictureMade located.entry.source.now located.entry.format.now (answer_of error.now)
+        result }
 {
+    let source = located.source;
     let Some(name) = text_of(source.name) else {
         return Err(Failure::NotUtf8);
     };
     let Some(text) = text_of(source.text) else {
         return Err(Failure::NotUtf8);
     };
-    let Some(format) = text_of(format) else {
+    let Some(format) = text_of(located.format) else {
         return Err(Failure::NotUtf8);
     };
     let named = Named {
@@ -55,16 +61,11 @@ fn picture(
 }
 
 /// Tells a fault with its picture.
-fn tell_picture(
-    alloc: Global,
-    source: &Source<'_>,
-    format: &[u8],
-    error: &Error,
-    room: &mut [u8],
-) -> Answer
-    ensures { TellsPicture source.now format.now (answer_of error.now) room.old room.new result }
+fn tell_picture(alloc: Global, located: Located<'_>, error: &Error, room: &mut [u8]) -> Answer
+    ensures { TellsPicture located.entry.source.now located.entry.format.now (answer_of error.now)
+        room.old room.new result }
 {
-    match picture(alloc, source, format, error) {
+    match picture(alloc, located, error) {
         Ok(picture) => pictured(error, picture.as_str(), room),
         Err(failure) => told_failure(alloc, &failure, room),
     }
@@ -74,19 +75,17 @@ fn tell_picture(
 /// shows it. After code 0 there are not so many.
 pub fn explain<'a>(
     alloc: Global,
-    source: &Source<'_>,
-    format: &[u8],
-    fields: &'a [Field<'a>],
-    items: &'a [Field<'a>],
+    located: Located<'_>,
+    row: FieldRow<'a>,
     which: usize,
     room: &mut [u8],
 ) -> Answer
-    ensures { ExplainAnswers source.now fields.now items.now which format.now room.old room.new
-        result }
+    ensures { ExplainAnswers located.entry.source.now row.entry.fields.now row.entry.items.now which
+        located.entry.format.now room.old room.new result }
 {
-    match find_faults(alloc, format, fields, items) {
+    match find_faults(alloc, located.format, row) {
         Ok(found) => match fault_at(&found, which) {
-            Some(error) => tell_picture(alloc, source, format, error, room),
+            Some(error) => tell_picture(alloc, located, error, room),
             None => well(0),
         },
         Err(failure) => told_failure(alloc, &failure, room),

@@ -5,7 +5,7 @@ ghost use Rattle.interpolator_border.specs.Answers.{FormatAnswers, FormatsRow};
 
 use crate::answer::{Answer, Failure, put, told_failure, well};
 use crate::bytes::text_of;
-use crate::field::Field;
+use crate::row::FieldRow;
 use crate::writing::write_row;
 use interpolator::{Error, TextBuffer, TextWrite};
 use std::alloc::{AllocError, Global};
@@ -25,13 +25,8 @@ fn buffer_for(alloc: Global, format: &str) -> Result<TextBuffer, AllocError>
 }
 
 /// The text of a format over a row.
-fn format_row<'a>(
-    alloc: Global,
-    format: &[u8],
-    fields: &'a [Field<'a>],
-    items: &'a [Field<'a>],
-) -> Result<String, Failure>
-    ensures { FormatsRow fields.now items.now format.now result }
+fn format_row<'a>(alloc: Global, format: &[u8], row: FieldRow<'a>) -> Result<String, Failure>
+    ensures { FormatsRow row.entry.fields.now row.entry.items.now format.now result }
 {
     let Some(text) = text_of(format) else {
         return Err(Failure::NotUtf8);
@@ -40,7 +35,7 @@ fn format_row<'a>(
         Ok(out) => out,
         Err(_) => return Err(Failure::Fault(Error::NoMemory)),
     };
-    let result = write_row(alloc, &mut out, text, fields, items);
+    let result = write_row(alloc, &mut out, text, row);
     if out.refused() {
         return Err(Failure::Fault(Error::NoMemory));
     }
@@ -52,16 +47,11 @@ fn format_row<'a>(
 
 /// The text of a format over a row, or the fault's sentence, at the front of the room, if it fits.
 #[tactic(auto, using(crate::proofs::AnswerLemmas::text_told, crate::proofs::AnswerLemmas::format_fails,))]
-pub fn format<'a>(
-    alloc: Global,
-    format: &[u8],
-    fields: &'a [Field<'a>],
-    items: &'a [Field<'a>],
-    room: &mut [u8],
-) -> Answer
-    ensures { FormatAnswers fields.now items.now format.now room.old room.new result }
+pub fn format<'a>(alloc: Global, format: &[u8], row: FieldRow<'a>, room: &mut [u8]) -> Answer
+    ensures { FormatAnswers row.entry.fields.now row.entry.items.now format.now room.old room.new
+        result }
 {
-    match format_row(alloc, format, fields, items) {
+    match format_row(alloc, format, row) {
         Ok(text) => {
             put(room, text.as_str().as_bytes());
             well(text.len())

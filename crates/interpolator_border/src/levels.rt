@@ -13,6 +13,17 @@ use std::alloc::{AllocError, Global};
 /// How many levels of lists there may be.
 pub(crate) const LEVELS: u32 = 64;
 
+/// What the items of a row stand for, as far as it is known.
+#[derive(Clone, Copy)]
+pub(crate) struct Known<'a> {
+    /// What each item stands for, from the item `left` on.
+    pub(crate) slots: &'a [Formattable<'a, Field<'a>>],
+    /// How many items are not known yet.
+    pub(crate) left: usize,
+    /// How many levels of lists may still be gone through.
+    pub(crate) levels: u32,
+}
+
 /// Whether what a field names lies within so many items.
 fn lies_within(count: usize, field: &Field<'_>) -> bool
     ensures { result ≡ lies_within count field.now }

@@ -8,6 +8,15 @@ use crate::field::Field;
 use crate::slots::field_slots;
 use interpolator::{Context, Formattable};
 
+/// A row: its fields, and the items of the lists among them.
+#[derive(Clone, Copy)]
+pub struct FieldRow<'a> {
+    /// The values under their names.
+    pub fields: &'a [Field<'a>],
+    /// The items, in which each list names its own.
+    pub items: &'a [Field<'a>],
+}
+
 /// The fields of a row, and what the items of its lists stand for.
 #[derive(Clone, Copy)]
 pub(crate) struct Row<'a> {

@@ -15,6 +15,15 @@ use crate::slots::field_slots;
 use interpolator::{Error, Formattable, Pairs, Prepared, Template, TextBuffer, TextWrite};
 use std::alloc::Global;
 
+/// A table: its columns, each an example under its name, and the cells of its rows.
+#[derive(Clone, Copy)]
+pub struct Table<'a> {
+    /// A name, and an example, for each cell of a row.
+    pub columns: &'a [Field<'a>],
+    /// The cells, row by row.
+    pub cells: &'a [Field<'a>],
+}
+
 /// The columns: a name, and what its example stands for.
 fn pairs_of<'a>(
     alloc: Global,
@@ -97,23 +106,23 @@ struct RowFault {
     error: Error,
 }
 
-/// Appends the rows of so many cells each, and tells where each ends.
+/// Appends the rows of a table, and tells where each ends.
 fn put_rows<'a>(
     alloc: Global,
     out: &mut TextBuffer,
     line: &Prepared,
-    width: usize,
-    cells: &'a [Field<'a>],
+    table: Table<'a>,
     ends: &mut [usize],
 ) -> Result<(), RowFault>
     requires goes_on { out.old.refused ≡ false }
     requires empty { out.old.text ≡ [] }
-    requires table { length cells.now ≡ length ends.old * width }
-    ensures { MadeRows line.now.names line.now.text width cells.now (length ends.old)
-        out.new ends.new result }
+    requires table { length table.cells.now ≡ length ends.old * length table.columns.now }
+    ensures { MadeRows line.now.names line.now.text (length table.entry.columns.now)
+        table.entry.cells.now (length ends.old) out.new ends.new result }
 {
+    let width = table.columns.len();
     for row in 0..ends.len() {
-        match put_row(alloc, out, line, cells_at(cells, width, row)) {
+        match put_row(alloc, out, line, cells_at(table.cells, width, row)) {
             Ok(end) => ends[row] = end,
             Err(error) => return Err(RowFault { row, error }),
         }
@@ -121,21 +130,20 @@ fn put_rows<'a>(
     Ok(())
 }
 
-/// Formats each row of cells, and copies the texts to the caller.
+/// Formats each row of a table, and copies the texts to the caller.
 fn rows_of<'a>(
     alloc: Global,
     line: &Prepared,
-    width: usize,
-    cells: &'a [Field<'a>],
+    table: Table<'a>,
     ends: &mut [usize],
     room: &mut [u8],
 ) -> Answer
-    requires table { length cells.now ≡ length ends.old * width }
-    ensures { TellsRows line.now.names line.now.text width cells.now ends.old ends.new
-        room.old room.new result }
+    requires table { length table.cells.now ≡ length ends.old * length table.columns.now }
+    ensures { TellsRows line.now.names line.now.text (length table.entry.columns.now)
+        table.entry.cells.now ends.old ends.new room.old room.new result }
 {
     let mut out = TextBuffer::new(alloc);
-    match put_rows(alloc, &mut out, line, width, cells, ends) {
+    match put_rows(alloc, &mut out, line, table, ends) {
         Ok(()) => {
             let text = out.as_str();
             put(room, text.as_bytes());
@@ -155,22 +163,21 @@ fn rows_of<'a>(
 pub fn rows<'a>(
     alloc: Global,
     format: &[u8],
-    columns: &'a [Field<'a>],
-    cells: &'a [Field<'a>],
+    table: Table<'a>,
     ends: &mut [usize],
     room: &mut [u8],
 ) -> Answer
-    ensures { RowsAnswers columns.now cells.now format.now ends.old ends.new room.old room.new
-        result }
+    ensures { RowsAnswers table.entry.columns.now table.entry.cells.now format.now ends.old ends.new
+        room.old room.new result }
 {
-    if !all_within(0, columns) || !all_within(0, cells) {
+    if !all_within(0, table.columns) || !all_within(0, table.cells) {
         return told_failure(alloc, &Failure::Lists, room);
     }
-    if !is_table(columns.len(), ends.len(), cells.len()) {
+    if !is_table(table.columns.len(), ends.len(), table.cells.len()) {
         return told_failure(alloc, &Failure::Table, room);
     }
-    match prepare(alloc, format, columns) {
-        Ok(line) => rows_of(alloc, &line, columns.len(), cells, ends, room),
+    match prepare(alloc, format, table.columns) {
+        Ok(line) => rows_of(alloc, &line, table, ends, room),
         Err(failure) => told_failure(alloc, &failure, room),
     }
 }

@@ -11,47 +11,49 @@ ghost use Rattle.interpolator_border.specs.Fields.{field_slots, lie_in_levels, l
 use crate::answer::{Answer, Failure, put, told_failure, told_fault, told_full, well};
 use crate::bytes::text_of;
 use crate::field::Field;
-use crate::levels::{LEVELS, all_lie_within, next_level, settled};
-use crate::row::Row;
+use crate::levels::{Known, LEVELS, all_lie_within, next_level, settled};
+use crate::row::{FieldRow, Row};
 use interpolator::{Bounded, Error, Formattable, TextWrite};
 use std::alloc::Global;
 
-/// Writes a format over a row, if what the items stand for is known from the item `left` on.
+/// Writes a format over a row, of whose items so much is known.
 #[tactic(auto, using(crate::proofs::LevelLemmas::next_known))]
 pub(crate) fn write_levels<'a, W: TextWrite>(
     alloc: Global,
     out: &mut W,
     format: &str,
-    fields: &'a [Field<'a>],
-    items: &'a [Field<'a>],
-    known: &'a [Formattable<'a, Field<'a>>],
-    left: usize,
-    levels: u32,
+    row: FieldRow<'a>,
+    known: Known<'a>,
 ) -> Result<(), Failure>
-    requires known { let trees = map slots_of known.now in
-        drop left trees ≡ drop left (map (field_slots trees) items.now) }
-    ensures { WritesRow (lie_in_levels levels items.now left) fields.now items.now format.now
-        (W.written out.old) (W.written out.new) result }
+    requires known { let trees = map slots_of known.slots.now in
+        drop known.left trees ≡ drop known.left (map (field_slots trees) row.items.now) }
+    ensures { WritesRow (lie_in_levels known.entry.levels row.entry.items.now known.entry.left)
+        row.entry.fields.now row.entry.items.now format.now (W.written out.old) (W.written out.new)
+        result }
 {
+    let Known {
+        slots,
+        left,
+        levels,
+    } = known;
     if left == 0 {
-        return write_known(alloc, out, format, fields, known);
+        return write_known(alloc, out, format, row.fields, slots);
     }
     if levels == 0 {
         return Err(Failure::Lists);
     }
-    match next_level(alloc, items, known) {
+    match next_level(alloc, row.items, slots) {
         Ok(level) => {
-            let rest = settled(left, items);
-            write_levels(
-                alloc,
-                out,
-                format,
-                &*fields,
-                &*items,
-                &level,
-                rest,
-                levels - 1,
-            )
+            let deeper = Known {
+                slots: &level,
+                left: settled(left, row.items),
+                levels: levels - 1,
+            };
+            let row = FieldRow {
+                fields: &*row.fields,
+                items: &*row.items,
+            };
+            write_levels(alloc, out, format, row, deeper)
         }
         Err(_) => Err(Failure::Fault(Error::NoMemory)),
     }
@@ -92,19 +94,23 @@ pub(crate) fn write_row<'a, W: TextWrite>(
     alloc: Global,
     out: &mut W,
     format: &str,
-    fields: &'a [Field<'a>],
-    items: &'a [Field<'a>],
+    row: FieldRow<'a>,
 ) -> Result<(), Failure>
-    ensures { WritesRow (lists_lie fields.now items.now) fields.now items.now format.now
-        (W.written out.old) (W.written out.new) result }
+    ensures { WritesRow (lists_lie row.entry.fields.now row.entry.items.now) row.entry.fields.now
+        row.entry.items.now format.now (W.written out.old) (W.written out.new) result }
 {
-    if !all_lie_within(fields, items) {
+    if !all_lie_within(row.fields, row.items) {
         return Err(Failure::Lists);
     }
-    if items.is_empty() {
-        return write_known(alloc, out, format, fields, &[]);
+    if row.items.is_empty() {
+        return write_known(alloc, out, format, row.fields, &[]);
     }
-    write_levels(alloc, out, format, fields, items, &[], items.len(), LEVELS)
+    let none = Known {
+        slots: &[],
+        left: row.items.len(),
+        levels: LEVELS,
+    };
+    write_levels(alloc, out, format, row, none)
 }
 
 /// An empty writer that takes at most so many bytes, for which it has memory.
@@ -156,18 +162,17 @@ fn told_written(
 fn write_text<'a>(
     alloc: Global,
     text: &str,
-    fields: &'a [Field<'a>],
-    items: &'a [Field<'a>],
+    row: FieldRow<'a>,
     room: &mut [u8],
     sentence: &mut [u8],
 ) -> Answer
-    ensures { WriteAnswers fields.now items.now text.now room.old room.new sentence.old sentence.new
-        result }
+    ensures { WriteAnswers row.entry.fields.now row.entry.items.now text.now room.old room.new sentence.old
+        sentence.new result }
 {
     let Some(mut out) = bounded(alloc, room.len()) else {
         return told_failure(alloc, &Failure::Fault(Error::NoMemory), sentence);
     };
-    let written = write_row(alloc, &mut out, text, fields, items);
+    let written = write_row(alloc, &mut out, text, row);
     let made = out.as_str();
     if room.len() < made.len() {
         return told_failure(alloc, &Failure::Fault(Error::NoMemory), sentence);
@@ -181,16 +186,15 @@ fn write_text<'a>(
 pub fn write<'a>(
     alloc: Global,
     format: &[u8],
-    fields: &'a [Field<'a>],
-    items: &'a [Field<'a>],
+    row: FieldRow<'a>,
     room: &mut [u8],
     sentence: &mut [u8],
 ) -> Answer
-    ensures { WriteAnswers fields.now items.now format.now room.old room.new sentence.old
+    ensures { WriteAnswers row.entry.fields.now row.entry.items.now format.now room.old room.new sentence.old
         sentence.new result }
 {
     match text_of(format) {
-        Some(text) => write_text(alloc, text, fields, items, room, sentence),
+        Some(text) => write_text(alloc, text, row, room, sentence),
         None => told_failure(alloc, &Failure::NotUtf8, sentence),
     }
 }

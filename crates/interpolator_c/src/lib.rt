@@ -9,7 +9,9 @@ ghost use Rattle.interpolator_border.specs.Checks.{FaultsAnswers, NeverFails};
 ghost use Rattle.interpolator_border.specs.Costs.{CostAnswers};
 ghost use Rattle.interpolator_border.specs.Tables.{RowsAnswers};
 
-use interpolator_border::{Answer, Argument, CostAnswer, Fault, Field, Sizes, Source};
+use interpolator_border::{
+    Answer, Argument, CostAnswer, Fault, Field, FieldRow, Located, Sizes, Source, Table,
+};
 use std::alloc::Global;
 
 /// The whole text of a format over a row, or none.
@@ -23,7 +25,7 @@ pub extern "C" fn interpolator_format<'a>(
 ) -> Answer
     ensures { FormatAnswers fields.now items.now format.now room.old room.new result }
 {
-    interpolator_border::format(alloc, format, fields, items, room)
+    interpolator_border::format(alloc, format, FieldRow { fields, items }, room)
 }
 
 /// The text of a format over a row, up to its first fault.
@@ -39,7 +41,7 @@ pub extern "C" fn interpolator_write<'a>(
     ensures { WriteAnswers fields.now items.now format.now room.old room.new sentence.old
         sentence.new result }
 {
-    interpolator_border::write(alloc, format, fields, items, room, sentence)
+    interpolator_border::write(alloc, format, FieldRow { fields, items }, room, sentence)
 }
 
 /// The first fault of a format over a row of examples.
@@ -54,7 +56,7 @@ pub extern "C" fn interpolator_check<'a>(
     ensures answer { CheckAnswers fields.now items.now format.now room.old room.new result }
     ensures never_fails { result.code ≡ 0 → NeverFails fields.now items.now format.now }
 {
-    interpolator_border::check(alloc, format, fields, items, room)
+    interpolator_border::check(alloc, format, FieldRow { fields, items }, room)
 }
 
 /// The first fault of a format by itself.
@@ -76,7 +78,7 @@ pub extern "C" fn interpolator_faults<'a>(
 ) -> Answer
     ensures { FaultsAnswers fields.now items.now format.now faults.old faults.new result }
 {
-    interpolator_border::faults(alloc, format, fields, items, faults)
+    interpolator_border::faults(alloc, format, FieldRow { fields, items }, faults)
 }
 
 /// One of these faults, as a compiler shows it.
@@ -93,7 +95,11 @@ pub extern "C" fn interpolator_explain<'a>(
     ensures { ExplainAnswers source.now fields.now items.now which format.now room.old room.new
         result }
 {
-    interpolator_border::explain(alloc, source, format, fields, items, which, room)
+    let located = Located {
+        source: &*source,
+        format: &*format,
+    };
+    interpolator_border::explain(alloc, located, FieldRow { fields, items }, which, room)
 }
 
 /// A format over each row of a table.
@@ -109,7 +115,7 @@ pub extern "C" fn interpolator_rows<'a>(
     ensures { RowsAnswers columns.now cells.now format.now ends.old ends.new room.old room.new
         result }
 {
-    interpolator_border::rows(alloc, format, columns, cells, ends, room)
+    interpolator_border::rows(alloc, format, Table { columns, cells }, ends, room)
 }
 
 /// How much a format can write, over values within limits.

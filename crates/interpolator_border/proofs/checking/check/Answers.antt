@@ -7,7 +7,7 @@ use Rattle.interpolator_border.proofs.checking.check.Goals as goal
 
 pub returns-in-Some-clause-answer : goal.returns-in-Some-clause-answer
 returns-in-Some-clause-answer c =
-    first_told c.args.fields.now c.args.items.now c.args.format.now c.in-Ok.found.items
+    first_told c.args.row.fields.now c.args.row.items.now c.args.format.now c.in-Ok.found.items
     c.in-Ok.ensures.0 c.in-Ok.ensures.1 c.told_fault.result c.args.room.now c.told_fault.new.room
     c.in-Some.error.now (rw c.deref.ensures.value at c.in-Some.ensures) c.told_fault.ensures.fault
 
@@ -19,7 +19,7 @@ returns-in-Ok-clause-never_fails c = λ _.
       trees = w.trees;
       are = w.are;
       never = λ row row_items row_trees are alike.
-          c.a_checked_format_means_no_fault.ensures.fault (found_in c.args.fields.now w.trees)
+          c.a_checked_format_means_no_fault.ensures.fault (found_in c.args.row.fields.now w.trees)
           (environment (found_in row row_trees)) (outermost (chars c.args.format.now))
-          (none_first _ (none (row_faults c.args.fields.now w.trees c.args.format.now) w.holds)) alike;
+          (none_first _ (none (row_faults c.args.row.fields.now w.trees c.args.format.now) w.holds)) alike;
     }

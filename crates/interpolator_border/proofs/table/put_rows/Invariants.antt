@@ -7,6 +7,8 @@ abbrev pub invariant-loop-row : goal.invariant-loop-row
 invariant-loop-row l =
     (l.out.refused ≡ false)
     × (length l.ends ≡ length l.initial.ends)
-    × (l.out.text ≡ rows_text l.line.names l.line.text l.width l.cells l.row)
-    × (take l.row l.ends ≡ rows_ends l.line.names l.line.text l.width l.cells l.row)
-    × Faultless l.line.names l.line.text l.width l.cells l.row
+    × (l.out.text
+    ≡ rows_text l.line.names l.line.text (length l.table.columns.now) l.table.cells.now l.row)
+    × (take l.row l.ends
+    ≡ rows_ends l.line.names l.line.text (length l.table.columns.now) l.table.cells.now l.row)
+    × Faultless l.line.names l.line.text (length l.table.columns.now) l.table.cells.now l.row

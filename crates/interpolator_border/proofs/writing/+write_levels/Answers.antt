@@ -7,16 +7,16 @@ use Rattle.interpolator_border.proofs.writing.+write_levels.Goals as goal
 
 pub returns-then-left-eq0 : goal.returns-then-left-eq0
 returns-then-left-eq0 g t c =
-    let trees = map slots_of c.args.known.now in
-    let known : drop c.args.left trees ≡ drop c.args.left (map (field_slots trees) c.args.items.now) =
-    search rules in
-    written_known _ _ _ _ _ _ (map slots_of c.args.known.now) c.write_known.result
-    (known_all c.args.left _ _ c.if-left-eq0.true known) c.write_known.ensures
+    let trees = map slots_of c.args.known.slots.now in
+    let known : drop c.args.known.left trees
+    ≡ drop c.args.known.left (map (field_slots trees) c.args.row.items.now) = search rules in
+    written_known _ _ _ _ _ _ (map slots_of c.args.known.slots.now) c.write_known.result
+    (known_all c.args.known.left _ _ c.if-left-eq0.true known) c.write_known.ensures
 
 pub returns-in-Ok : goal.returns-in-Ok
 returns-in-Ok g t c =
-    let deep = lie_deeper c.args.levels c.args.left c.args.items.now c.if-left-eq0.false
-    c.if-levels-eq0.false in
-    subst (λ lie. WritesRow lie c.args.fields.now c.args.items.now c.args.format.now
+    let deep = lie_deeper c.args.known.levels c.args.known.left c.args.row.items.now
+    c.if-left-eq0.false c.if-levels-eq0.false in
+    subst (λ lie. WritesRow lie c.args.row.fields.now c.args.row.items.now c.args.format.now
     (g.W.TextWrite.written c.args.out.now) (g.W.TextWrite.written c.write_levels.new.out)
-    c.write_levels.result) deep (rw c.settled-rest.ensures at c.write_levels.ensures)
+    c.write_levels.result) deep (rw c.settled.ensures at c.write_levels.ensures)

@@ -7,7 +7,7 @@ pub returns : goal.returns
 returns c =
     let fits : length c.as_str-made.result.now ≤ length c.args.room.now =
     omega (arith, c.if-room-made.false) in
-    writes c.args.fields.now c.args.items.now c.args.text.now c.args.text.now _ _
+    writes c.args.row.fields.now c.args.row.items.now c.args.text.now c.args.text.now _ _
     c.as_str-made.result.now c.args.room.now c.put.new.room c.args.sentence.now
     c.told_written.new.sentence c.told_written.result c.refused.result
     c.write_row-written.result refl (is_utf8-from_IsUtf8 c.args.text.now c.utf8.text) c.in-Some.ensures
