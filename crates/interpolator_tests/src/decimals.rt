@@ -70,90 +70,34 @@ const REFUSED: [(&str, NumberError); 29] = [
     ("-340282366920938463463374607431768211456", NumberError::NegOverflow),
 ];
 
-/// Checks that the text is read as this decimal.
-fn is_read(report: &mut Report, text: &str, wanted: Decimal) {
-    match Decimal::parse(text) {
-        Ok(decimal) => report.holds(text, decimal == wanted),
-        Err(_) => report.holds(text, false),
-    }
-}
-
-/// Checks that the text is refused with this fault.
-fn is_refused(report: &mut Report, text: &str, wanted: NumberError) {
-    match Decimal::parse(text) {
-        Ok(_) => report.holds(text, false),
-        Err(fault) => report.holds(text, fault == wanted),
-    }
-}
-
-/// Checks the texts.
+/// Checks what is read from the texts.
 fn texts(report: &mut Report) {
     for (text, units, scale) in SPELLED {
-        is_read(report, text, Decimal { units, scale });
+        report.holds(text, Decimal::parse(text) == Ok(Decimal { units, scale }));
     }
     for (text, fault) in REFUSED {
-        is_refused(report, text, fault);
+        report.holds(text, Decimal::parse(text) == Err(fault));
     }
 }
 
 /// Decimals are equal if their fields are.
+#[rattlefmt::skip]
 fn equality(report: &mut Report) {
-    let price = Decimal {
-        units: 1250,
-        scale: 2,
-    };
-    let shorter = Decimal {
-        units: 125,
-        scale: 1,
-    };
-    report.holds(
-        "the same fields",
-        price
-            == Decimal {
-                units: 1250,
-                scale: 2,
-            },
-    );
-    report.holds("the same number", price != shorter);
-    report.holds(
-        "other units",
-        price
-            != Decimal {
-                units: -1250,
-                scale: 2,
-            },
-    );
-    report.holds(
-        "another scale",
-        price
-            != Decimal {
-                units: 1250,
-                scale: 3,
-            },
-    );
+    let price = Decimal { units: 1250, scale: 2 };
+    report.holds("the same fields", price == Decimal { units: 1250, scale: 2 });
+    report.holds("the same number", price != Decimal { units: 125, scale: 1 });
+    report.holds("other units", price != Decimal { units: -1250, scale: 2 });
+    report.holds("another scale", price != Decimal { units: 1250, scale: 3 });
 }
 
 /// The views of a decimal.
+#[rattlefmt::skip]
 fn views(report: &mut Report) {
-    let least = Decimal {
-        units: LEAST,
-        scale: u32::MAX,
-    };
-    let shown = View::Decimal {
-        units: LEAST,
-        scale: u32::MAX,
-    };
+    let least = Decimal { units: LEAST, scale: u32::MAX };
+    let shown = View::Decimal { units: LEAST, scale: u32::MAX };
     report.holds("a view", View::from(least) == shown);
-    let spec = Spec {
-        precision: Some(1),
-        ..Spec::default()
-    };
-    for wanted in [
-        Trait::Display,
-        Trait::Debug,
-        Trait::LowerExp,
-        Trait::LowerHex,
-    ] {
+    let spec = Spec { precision: Some(1), ..Spec::default() };
+    for wanted in [Trait::Display, Trait::Debug, Trait::LowerExp, Trait::LowerHex] {
         report.holds("a value", least.view(wanted, &spec) == shown);
     }
 }

@@ -64,11 +64,3 @@ pub fn padded(alloc: Global, parts: Padded<'_>) -> Result<String, AllocError> {
     let middle = part.repeat(alloc, count)?;
     format!(in alloc; "{front}{middle}{end}")
 }
-
-/// The template of a format. If memory is refused, this tries once more.
-pub fn parsed(alloc: Global, format: &str) -> Result<Template, Error> {
-    match Template::parse(alloc, format) {
-        Err(Error::NoMemory) => Template::parse(alloc, format),
-        answer => answer,
-    }
-}

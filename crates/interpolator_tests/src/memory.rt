@@ -3,6 +3,16 @@
 //! allocator `.ci/refuse.c` before the C library. A call whose allocation is refused returns
 //! `NoMemory` and leaves everything as it was; called again, it returns what its row says.
 
+/// What a call returns, which is made once more if it is refused memory.
+macro_rules! again {
+    ($call:expr) => {
+        match $call {
+            Err(Error::NoMemory) => $call,
+            answer => answer,
+        }
+    };
+}
+
 mod decimals;
 mod lists;
 mod loaded;

@@ -24,43 +24,14 @@ fn is_written(report: &mut Report, line: &Prepared, row: &Values<'_>, wanted: (&
 }
 
 /// Rows in the order of the sample, and in others: each name has its last value.
+#[rattlefmt::skip]
 fn named_values_are_found(report: &mut Report, line: &Prepared) {
-    is_written(
-        report,
-        line,
-        &values!(name = "Zoë", n:integer = 7u8),
-        (TEXT, ""),
-    );
-    is_written(
-        report,
-        line,
-        &values!(n:integer = 7u8, name = "Zoë"),
-        (TEXT, ""),
-    );
-    is_written(
-        report,
-        line,
-        &values!(more = 1u8, name = "Zoë", n:integer = 7u8),
-        (TEXT, ""),
-    );
-    is_written(
-        report,
-        line,
-        &values!(n:integer = 1u8, name = "Zoë", n:integer = 7u8),
-        (TEXT, ""),
-    );
-    is_written(
-        report,
-        line,
-        &values!(name = "Zoë"),
-        ("Zoë: ", "MissingValue(\"n\", 9)"),
-    );
-    is_written(
-        report,
-        line,
-        &values!(n = 7u8),
-        ("", "MissingValue(\"name\", 1)"),
-    );
+    is_written(report, line, &values!(name = "Zoë", n:integer = 7u8), (TEXT, ""));
+    is_written(report, line, &values!(n:integer = 7u8, name = "Zoë"), (TEXT, ""));
+    is_written(report, line, &values!(more = 1u8, name = "Zoë", n:integer = 7u8), (TEXT, ""));
+    is_written(report, line, &values!(n:integer = 1u8, name = "Zoë", n:integer = 7u8), (TEXT, ""));
+    is_written(report, line, &values!(name = "Zoë"), ("Zoë: ", "MissingValue(\"n\", 9)"));
+    is_written(report, line, &values!(n = 7u8), ("", "MissingValue(\"name\", 1)"));
     let no_hex = ("Zoë:   7", "MissingTraitImpl(LowerHex, 19)");
     is_written(report, line, &values!(name = "Zoë", n = 7u8), no_hex);
     is_written(report, line, &values!(), ("", "MissingValue(\"name\", 1)"));
@@ -120,13 +91,10 @@ fn faults_as_io_errors(report: &mut Report) -> Result<(), Error> {
     let alloc = report.alloc;
     let fault = Error::MissingValue(String::from_str(alloc, "nàme")?, 3);
     is_told(report, fault, "specified value not in context `nàme` at 3")?;
-    let long = String::from_str(
-        alloc,
-        "123456789012345678901234567890123456789012345678901234567890",
-    )?;
+    let long = "1234567890".repeat(alloc, 6)?;
     let cut = "specified value not in context `123456789012345678901234567890123456789012345...";
     is_told(report, Error::MissingValue(long, 3), cut)?;
-    let wide = String::from_str(alloc, "éééééééééééééééééééééééééééééé")?;
+    let wide = "é".repeat(alloc, 30)?;
     let cut = "specified value not in context `éééééééééééééééééééééé...";
     is_told(report, Error::MissingValue(wide, 3), cut)
 }

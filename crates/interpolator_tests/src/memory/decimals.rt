@@ -23,10 +23,7 @@ fn is_written(report: &mut Report, out: &mut TextBuffer, text: &str) {
 
 pub fn run(report: &mut Report) -> Result<(), Error> {
     let alloc = report.alloc;
-    let room = match String::with_capacity(alloc, ROOM) {
-        Err(_) => String::with_capacity(alloc, ROOM)?,
-        room => room?,
-    };
+    let room = again!(String::with_capacity(alloc, ROOM).map_err(Error::from))?;
     let mut out = TextBuffer::from_string(room);
     is_written(report, &mut out, "-1234.565");
     is_written(report, &mut out, "7");

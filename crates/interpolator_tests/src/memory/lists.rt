@@ -1,8 +1,8 @@
 //! Memory that a padded list or the name of a missing value needs.
 
-use crate::given::{Given, format_given, parsed, write_given};
+use crate::given::{Given, format_given, write_given};
 use crate::report::Report;
-use interpolator::{Error, Formattable, Pairs, TextBuffer};
+use interpolator::{Error, Formattable, Pairs, Template, TextBuffer};
 
 /// A format, what may already be written when memory is needed, the output if memory is given, and
 /// the fault that is then returned.
@@ -32,16 +32,6 @@ const WANTING: [Wanting<'static>; 13] = [
     Wanting { format: "ab{h:6i}{z}", before: &["ab", "ab15    "], text: "ab15    ", fault: "MissingValue(\"z\", 9)" },
 ];
 
-/// Whether the text is one of these.
-fn is_one_of(text: &str, texts: &[&str]) -> bool {
-    for one in texts {
-        if *one == text {
-            return true;
-        }
-    }
-    false
-}
-
 /// More bytes than any row writes.
 const ROOM: usize = 300;
 
@@ -59,7 +49,7 @@ fn is_written(
     let mut out = TextBuffer::from_string(room);
     let answer = write_given(report.alloc, &mut out, given, &pairs);
     if matches!(answer, Err(Error::NoMemory)) {
-        report.refused(row.format, is_one_of(out.as_str(), row.before));
+        report.refused(row.format, row.before.contains(&out.as_str()));
         return false;
     }
     report.written(row.format, (row.text, row.fault), out.as_str(), answer);
@@ -70,10 +60,7 @@ fn is_written(
 fn gives(report: &mut Report, pairs: Pairs<'_, u64>, row: &Wanting<'_>, given: Given<'_>) {
     let written = is_written(report, pairs, row, given) || is_written(report, pairs, row, given);
     report.holds(row.format, written);
-    let made = match format_given(report.alloc, given, &pairs) {
-        Err(Error::NoMemory) => format_given(report.alloc, given, &pairs),
-        made => made,
-    };
+    let made = again!(format_given(report.alloc, given, &pairs));
     report.made(row.format, (row.text, row.fault), made);
 }
 
@@ -83,7 +70,7 @@ fn give(report: &mut Report, numbers: Formattable<'_, u64>) -> Result<(), Error>
     let outer = [numbers];
     for row in &WANTING {
         let pairs = Pairs(&[("h", numbers), ("o", Formattable::iter(&outer))]);
-        let template = parsed(report.alloc, row.format)?;
+        let template = again!(Template::parse(report.alloc, row.format))?;
         gives(report, pairs, row, Given::Text(row.format));
         gives(report, pairs, row, Given::Template(&template));
     }

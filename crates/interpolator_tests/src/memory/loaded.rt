@@ -1,7 +1,6 @@
 //! Memory that a template needs: for its names, its check against a sample, its text, and that of
 //! the format prepared for rows.
 
-use crate::given::parsed;
 use crate::report::Report;
 use interpolator::{Error, Formattable, Interpolate, Pairs, Row, Template};
 use std::alloc::Global;
@@ -33,15 +32,11 @@ const LOADED: [Loading<'static>; 9] = [
 
 /// Whether the names are these, in order.
 fn are_names(names: &[String], wanted: &[&str]) -> bool {
-    if names.len() != wanted.len() {
-        return false;
-    }
-    for (name, one) in names.iter().zip(wanted) {
-        if name.as_str() != *one {
-            return false;
-        }
-    }
-    true
+    names.len() == wanted.len()
+        && names
+            .iter()
+            .zip(wanted)
+            .all(|(name, one)| name.as_str() == *one)
 }
 
 /// Checks the names, and what is found with a sample. A call that is refused memory is called again.
@@ -52,20 +47,11 @@ fn is_checked(
     row: &Loading<'_>,
 ) -> Result<(), Error> {
     let alloc = report.alloc;
-    let names = match template.names(alloc) {
-        Err(Error::NoMemory) => template.names(alloc)?,
-        names => names?,
-    };
+    let names = again!(template.names(alloc))?;
     report.holds(row.format, are_names(&names, row.names));
-    let answer = match sample.check_template(alloc, template) {
-        Err(Error::NoMemory) => sample.check_template(alloc, template),
-        answer => answer,
-    };
+    let answer = again!(sample.check_template(alloc, template));
     report.fault(row.format, row.first, answer);
-    let faults = match sample.template_faults(alloc, template) {
-        Err(Error::NoMemory) => sample.template_faults(alloc, template)?,
-        faults => faults?,
-    };
+    let faults = again!(sample.template_faults(alloc, template))?;
     report.number(row.format, row.count, faults.len());
     Ok(())
 }
@@ -89,15 +75,9 @@ fn is_made(
     row: &Loading<'_>,
 ) {
     let alloc = report.alloc;
-    let made = match sample.format_template(alloc, template) {
-        Err(Error::NoMemory) => sample.format_template(alloc, template),
-        made => made,
-    };
+    let made = again!(sample.format_template(alloc, template));
     report.made(row.format, (row.text, row.first), made);
-    let made = match prepared_text(alloc, template, sample, values) {
-        Err(Error::NoMemory) => prepared_text(alloc, template, sample, values),
-        made => made,
-    };
+    let made = again!(prepared_text(alloc, template, sample, values));
     report.made(row.format, (row.text, row.first), made);
 }
 
@@ -107,7 +87,7 @@ fn gives(
     row: &Loading<'_>,
     numbers: Formattable<'_, u64>,
 ) -> Result<(), Error> {
-    let template = parsed(report.alloc, row.format)?;
+    let template = again!(Template::parse(report.alloc, row.format))?;
     let sample = Pairs(&[("h", numbers), ("x", Formattable::display(&7u64))]);
     let values = Row(&[numbers, Formattable::display(&7u64)]);
     is_checked(report, &template, sample, row)?;

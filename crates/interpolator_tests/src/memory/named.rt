@@ -15,10 +15,6 @@ fn prepared_text(alloc: Global) -> Result<String, Error> {
 
 /// Checks the text, which is made again if it is refused memory.
 pub fn run(report: &mut Report) {
-    let alloc = report.alloc;
-    let made = match prepared_text(alloc) {
-        Err(Error::NoMemory) => prepared_text(alloc),
-        made => made,
-    };
+    let made = again!(prepared_text(report.alloc));
     report.made(FORMAT, ("Zoë:   7", ""), made);
 }

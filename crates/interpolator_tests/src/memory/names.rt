@@ -50,15 +50,9 @@ fn is_missing(fault: &Error, wanted: usize) -> bool {
 /// A copy of a fault.
 fn faults(report: &mut Report) -> Result<(), Error> {
     let alloc = report.alloc;
-    let name = match String::from_str(alloc, "q") {
-        Err(_) => String::from_str(alloc, "q")?,
-        name => name?,
-    };
+    let name = again!(String::from_str(alloc, "q").map_err(Error::from))?;
     let fault = Error::MissingValue(name, 1);
-    let copy = match fault.try_clone(alloc) {
-        Err(Error::NoMemory) => fault.try_clone(alloc)?,
-        copy => copy?,
-    };
+    let copy = again!(fault.try_clone(alloc))?;
     report.holds("a copy of a fault", copy == fault);
     report.holds("the copied fault stays", is_missing(&fault, 1));
     Ok(())
@@ -75,10 +69,7 @@ const ESCAPED: [(&str, &str); 4] = [
 
 fn escapes(report: &mut Report) {
     for (text, doubled) in ESCAPED {
-        let made = match escape(report.alloc, text) {
-            Err(Error::NoMemory) => escape(report.alloc, text),
-            made => made,
-        };
+        let made = again!(escape(report.alloc, text));
         report.made(text, (doubled, ""), made);
     }
 }
