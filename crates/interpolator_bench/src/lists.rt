@@ -39,14 +39,20 @@ fn repeat_list(
 /// A number inside nested lists of one item each.
 pub fn nested(alloc: Global, how: How, repeats: u32) -> Result<String, Failure> {
     let format = nested_format(alloc)?;
-    repeat_nested(
-        alloc,
+    let used = Used {
         how,
-        Formattable::integer(&7u32),
-        DEPTH,
-        format.as_str(),
+        format: format.as_str(),
         repeats,
-    )
+    };
+    repeat_nested(alloc, used, Formattable::integer(&7u32), DEPTH)
+}
+
+// How a format is used, and how many times.
+#[derive(Clone, Copy)]
+struct Used<'a> {
+    how: How,
+    format: &'a str,
+    repeats: u32,
 }
 
 // The format of nested lists: each has one sign fewer than the list around it.
@@ -77,23 +83,14 @@ fn put_signs(format: &mut String, count: usize) -> Result<(), AllocError> {
 // Formats the value under the empty name, wrapped in `depth` lists of one item each.
 fn repeat_nested(
     alloc: Global,
-    how: How,
+    used: Used<'_>,
     value: Formattable<'_, u32>,
     depth: usize,
-    format: &str,
-    repeats: u32,
 ) -> Result<String, Failure> {
     if depth == 0 {
         let pairs = [("", value)];
-        return repeat_format(alloc, how, format, &Pairs(&pairs), repeats);
+        return repeat_format(alloc, used.how, used.format, &Pairs(&pairs), used.repeats);
     }
     let items = [value];
-    repeat_nested(
-        alloc,
-        how,
-        Formattable::iter(&items),
-        depth - 1,
-        format,
-        repeats,
-    )
+    repeat_nested(alloc, used, Formattable::iter(&items), depth - 1)
 }
