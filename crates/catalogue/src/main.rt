@@ -16,8 +16,8 @@
 //! form is that of the first test whose number is the one of the word with its name, or else the last
 //! one. A test compares a name with a whole number of 64 bits: a rule of `n % 10`, or of numbers
 //! between two, cannot be written. A number that is missing is reported, also if a decimal has its
-//! name, and so is a form; a check tells what is wrong with the rule, and not whether each key has
-//! every form.
+//! name, and so is a form; a check reports what is wrong with the rule, but not a key that lacks a
+//! form.
 //!
 //! The status is 0 after a message, or a check without a fault; 1 after a fault, 2 after a wrong use or
 //! a bad word, and 3 if a file cannot be read or the output cannot be written.

@@ -83,8 +83,8 @@ fn numbers_of(
     Ok(numbers)
 }
 
-/// Reports a line that has not as many numbers as are wanted: of the first line at least so many, of
-/// the others as many as the first has.
+/// Reports a line with too few or too many numbers: the first line needs at least as many as are
+/// wanted, the others as many as the first has.
 fn check_count(
     alloc: Global,
     faults: &mut Faults<'_>,

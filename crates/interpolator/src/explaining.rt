@@ -159,7 +159,7 @@ pub fn explain_with_names(
     }
 }
 
-/// The line that tells the names where a name is missing; empty if there are none.
+/// The line that lists the names if one is missing; empty if there are none.
 fn names_line(
     alloc: Global,
     source: &Source<'_>,

@@ -192,7 +192,7 @@ macro_rules! list_of {
     };
 }
 
-/// A row of so many named values.
+/// A row of as many named values as are given.
 #[macro_export]
 macro_rules! values_of {
     () => {
@@ -389,7 +389,7 @@ macro_rules! list {
     };
 }
 
-/// An array of so many views.
+/// An array of as many views as are given.
 #[macro_export]
 macro_rules! views_of {
     ($a:expr) => {

@@ -61,7 +61,7 @@ pub(crate) fn put(room: &mut [u8], text: &[u8])
     }
 }
 
-/// Puts what is told into the places, as much as there is of both.
+/// Copies values into the places, as many as there are of both.
 pub(crate) fn put_front<T: Copy>(told: &[T], places: &mut [T])
     ensures { FillsFront told.now places.old places.new }
 {
@@ -70,7 +70,7 @@ pub(crate) fn put_front<T: Copy>(told: &[T], places: &mut [T])
     front.copy_from_slice(&told[..count]);
 }
 
-/// All went well, and so many bytes are the text's.
+/// Success, with a text of `length` bytes.
 pub(crate) fn well(length: usize) -> Answer
     ensures { result ≡ text_answer length }
 {
@@ -111,7 +111,7 @@ fn coded(code: u32, sentence: &str, room: &mut [u8]) -> Answer
     }
 }
 
-/// The answer of a fault, with so many bytes before it and a sentence of so many.
+/// The answer for a fault after `length` bytes, whose sentence has `message` bytes.
 fn fault_answer(error: &Error, length: usize, message: usize) -> Answer
     ensures told { result
         ≡ record (fault_answer (answer_of error.now) length) { message = message } }
@@ -170,7 +170,7 @@ pub(crate) fn failure_code(failure: &Failure) -> u32
     }
 }
 
-/// The room is too small from a place of the format on, after so many bytes of the text.
+/// The room is too small from a place of the format on, after `length` bytes of the text.
 pub(crate) fn told_full(place: usize, length: usize, sentence: &mut [u8]) -> Answer
     ensures code { result.code ≡ 9 }
     ensures place { result.place ≡ place }

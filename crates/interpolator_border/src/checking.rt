@@ -20,7 +20,7 @@ use interpolator::{Error, Formattable, Template};
 use interpolator_laws::samples::a_checked_format_means_no_fault;
 use std::alloc::Global;
 
-/// The faults of a format over a row of examples, of whose items so much is known.
+/// The faults of a format with a row of examples of whose items this much is known.
 #[tactic(auto, using(crate::proofs::LevelLemmas::next_known, crate::proofs::LevelLemmas::lie_deeper))]
 fn find_levels<'a>(
     alloc: Global,
@@ -61,7 +61,7 @@ fn find_levels<'a>(
     }
 }
 
-/// The faults of a format over a row of examples whose items stand for these.
+/// The faults of a format with a row of examples whose items stand for these.
 fn find_known<'a>(
     alloc: Global,
     template: &Template,
@@ -80,7 +80,7 @@ fn find_known<'a>(
     }
 }
 
-/// The faults of a format over a row of examples, unless a list lies where it may not.
+/// The faults of a format with a row of examples, unless a list lies where it may not.
 #[tactic(auto, using(crate::proofs::LevelLemmas::nothing_known))]
 pub(crate) fn find_faults<'a>(
     alloc: Global,
@@ -114,7 +114,7 @@ pub(crate) fn fault_at(found: &[Error], which: usize) -> Option<&Error>
     found.get(which)
 }
 
-/// The first fault that a format has by itself or over a row of examples. After code 0 no row that
+/// The first fault that a format has by itself or with a row of examples. After code 0 no row that
 /// resembles the examples makes a fault.
 #[tactic(auto, using(crate::proofs::CheckLemmas::first_told))]
 pub fn check<'a>(alloc: Global, format: &[u8], row: FieldRow<'a>, room: &mut [u8]) -> Answer
@@ -133,8 +133,8 @@ pub fn check<'a>(alloc: Global, format: &[u8], row: FieldRow<'a>, room: &mut [u8
     }
 }
 
-/// All faults that a format has by itself or over a row of examples. The places get as many as there
-/// are of both.
+/// All faults that a format has by itself or with a row of examples. As many are copied to the
+/// places as there are of both.
 pub fn faults<'a>(alloc: Global, format: &[u8], row: FieldRow<'a>, places: &mut [Fault]) -> Answer
     ensures { FaultsAnswers row.entry.fields.now row.entry.items.now format.now places.old
         places.new result }

@@ -24,7 +24,7 @@ fn buffer_for(alloc: Global, format: &str) -> Result<TextBuffer, AllocError>
     Ok(TextBuffer::from_string(text))
 }
 
-/// The text of a format over a row.
+/// The text of a format with a row.
 fn format_row<'a>(alloc: Global, format: &[u8], row: FieldRow<'a>) -> Result<String, Failure>
     ensures { FormatsRow row.entry.fields.now row.entry.items.now format.now result }
 {
@@ -45,7 +45,7 @@ fn format_row<'a>(alloc: Global, format: &[u8], row: FieldRow<'a>) -> Result<Str
     }
 }
 
-/// The text of a format over a row, or the fault's sentence, at the front of the room, if it fits.
+/// The text of a format with a row, or the fault's sentence, at the front of the room, if it fits.
 #[tactic(auto, using(crate::proofs::AnswerLemmas::text_told, crate::proofs::AnswerLemmas::format_fails,))]
 pub fn format<'a>(alloc: Global, format: &[u8], row: FieldRow<'a>, room: &mut [u8]) -> Answer
     ensures { FormatAnswers row.entry.fields.now row.entry.items.now format.now room.old room.new

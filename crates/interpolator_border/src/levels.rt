@@ -24,14 +24,14 @@ pub(crate) struct Known<'a> {
     pub(crate) levels: u32,
 }
 
-/// Whether what a field names lies within so many items.
+/// Whether the items of a list field are among the first `count`.
 fn lies_within(count: usize, field: &Field<'_>) -> bool
     ensures { result ≡ lies_within count field.now }
 {
     field.kind != LIST || (field.first <= field.end && field.end <= count)
 }
 
-/// Whether what the fields name lies within so many items.
+/// Whether the items of all list fields are among the first `count`.
 pub(crate) fn all_within(count: usize, fields: &[Field<'_>]) -> bool
     ensures { result ≡ all_within count fields.now }
 {

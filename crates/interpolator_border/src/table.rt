@@ -67,7 +67,7 @@ fn prepare<'a>(alloc: Global, format: &[u8], columns: &'a [Field<'a>]) -> Result
     }
 }
 
-/// Appends a row of cells, and tells where it ends.
+/// Appends a row of cells, and returns where it ends.
 #[tactic(auto, using(crate::proofs::AnswerLemmas::appended, interpolator_eval::proofs::FieldNameLemmas::name_bytes))]
 fn put_row<'a>(
     alloc: Global,
@@ -106,7 +106,7 @@ struct RowFault {
     error: Error,
 }
 
-/// Appends the rows of a table, and tells where each ends.
+/// Appends the rows of a table, and notes where each ends.
 fn put_rows<'a>(
     alloc: Global,
     out: &mut TextBuffer,

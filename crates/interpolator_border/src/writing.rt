@@ -16,7 +16,7 @@ use crate::row::{FieldRow, Row};
 use interpolator::{Bounded, Error, Formattable, TextWrite};
 use std::alloc::Global;
 
-/// Writes a format over a row, of whose items so much is known.
+/// Writes a format with a row of whose items this much is known.
 #[tactic(auto, using(crate::proofs::LevelLemmas::next_known))]
 pub(crate) fn write_levels<'a, W: TextWrite>(
     alloc: Global,
@@ -59,7 +59,7 @@ pub(crate) fn write_levels<'a, W: TextWrite>(
     }
 }
 
-/// Writes a format over a row whose items stand for these.
+/// Writes a format with a row whose items stand for these.
 #[inline(always)]
 fn write_known<'a, W: TextWrite>(
     alloc: Global,
@@ -88,7 +88,7 @@ pub(crate) fn failing(written: Result<(), Error>) -> Result<(), Failure>
     }
 }
 
-/// Writes a format over a row, unless a list lies where it may not.
+/// Writes a format with a row, unless a list lies where it may not.
 #[tactic(auto, using(crate::proofs::LevelLemmas::nothing_known))]
 pub(crate) fn write_row<'a, W: TextWrite>(
     alloc: Global,
@@ -113,7 +113,7 @@ pub(crate) fn write_row<'a, W: TextWrite>(
     write_levels(alloc, out, format, row, none)
 }
 
-/// An empty writer that takes at most so many bytes, for which it has memory.
+/// An empty writer that takes at most `most` bytes, for which it has memory.
 fn bounded(alloc: Global, most: usize) -> Option<Bounded>
     ensures { MatchOption result (Unit {0})
         (λ out. bounded_writer out ≡ record { text = []; refused = false }) }
@@ -125,7 +125,7 @@ fn bounded(alloc: Global, most: usize) -> Option<Bounded>
     }
 }
 
-/// What is told of a fault beside a text of so many bytes that was written.
+/// The answer for a fault after the bytes of the text that were written.
 fn told_beside(
     alloc: Global,
     error: &Error,
@@ -141,7 +141,7 @@ fn told_beside(
     told_fault(alloc, error, length, sentence)
 }
 
-/// What is told beside a text of so many bytes that was written.
+/// The answer beside the bytes of the text that were written.
 fn told_written(
     alloc: Global,
     written: &Result<(), Failure>,
@@ -158,7 +158,7 @@ fn told_written(
     }
 }
 
-/// Writes the text of a format over a row into a room, up to its first fault.
+/// Writes the text of a format with a row into a room, up to its first fault.
 fn write_text<'a>(
     alloc: Global,
     text: &str,
@@ -181,7 +181,7 @@ fn write_text<'a>(
     told_written(alloc, &written, out.refused(), made.len(), sentence)
 }
 
-/// Writes the text of a format over a row into a room, up to its first fault, whose sentence comes
+/// Writes the text of a format with a row into a room, up to its first fault, whose sentence comes
 /// into a second room.
 pub fn write<'a>(
     alloc: Global,

@@ -14,7 +14,7 @@ use interpolator_border::{
 };
 use std::alloc::Global;
 
-/// The whole text of a format over a row, or none.
+/// The whole text of a format with a row, or none.
 #[unsafe(no_mangle)]
 pub extern "C" fn interpolator_format<'a>(
     alloc: Global,
@@ -28,7 +28,7 @@ pub extern "C" fn interpolator_format<'a>(
     interpolator_border::format(alloc, format, FieldRow { fields, items }, room)
 }
 
-/// The text of a format over a row, up to its first fault.
+/// The text of a format with a row, up to its first fault.
 #[unsafe(no_mangle)]
 pub extern "C" fn interpolator_write<'a>(
     alloc: Global,
@@ -44,7 +44,7 @@ pub extern "C" fn interpolator_write<'a>(
     interpolator_border::write(alloc, format, FieldRow { fields, items }, room, sentence)
 }
 
-/// The first fault of a format over a row of examples.
+/// The first fault of a format with a row of examples.
 #[unsafe(no_mangle)]
 pub extern "C" fn interpolator_check<'a>(
     alloc: Global,
@@ -67,7 +67,7 @@ pub extern "C" fn interpolator_check_alone(alloc: Global, format: &[u8], room: &
     interpolator_border::check_alone(alloc, format, room)
 }
 
-/// All faults of a format over a row of examples.
+/// All faults of a format with a row of examples.
 #[unsafe(no_mangle)]
 pub extern "C" fn interpolator_faults<'a>(
     alloc: Global,
@@ -102,7 +102,7 @@ pub extern "C" fn interpolator_explain<'a>(
     interpolator_border::explain(alloc, located, FieldRow { fields, items }, which, room)
 }
 
-/// A format over each row of a table.
+/// A format with each row of a table.
 #[unsafe(no_mangle)]
 pub extern "C" fn interpolator_rows<'a>(
     alloc: Global,

@@ -111,7 +111,7 @@ pub fn buffer_for(alloc: Global, format: &str) -> Result<TextBuffer, AllocError>
     Ok(TextBuffer::from_string(text))
 }
 
-/// A format that was read: its text, and the pieces of that.
+/// A format that was read: its text and its pieces.
 #[derive(Clone, Copy)]
 pub struct Parsed<'a> {
     pub text: &'a str,

@@ -103,6 +103,7 @@ fn put_digits<W: TextWrite>(
     }
 }
 
+/// Writes a number in base two.
 #[inline(never)]
 fn put_binary<W: TextWrite>(
     out: &mut W,
@@ -116,6 +117,7 @@ fn put_binary<W: TextWrite>(
     put_digits(out, Radix::Binary, spec, n, negative)
 }
 
+/// Writes a number in base eight.
 #[inline(never)]
 fn put_octal<W: TextWrite>(
     out: &mut W,
@@ -129,6 +131,7 @@ fn put_octal<W: TextWrite>(
     put_digits(out, Radix::Octal, spec, n, negative)
 }
 
+/// Writes a number in base sixteen, by `a` to `f`.
 #[inline(never)]
 fn put_lower_hex<W: TextWrite>(
     out: &mut W,
@@ -143,6 +146,7 @@ fn put_lower_hex<W: TextWrite>(
     put_digits(out, Radix::LowerHex, spec, n, negative)
 }
 
+/// Writes a number in base sixteen, by `A` to `F`.
 #[inline(never)]
 fn put_upper_hex<W: TextWrite>(
     out: &mut W,
@@ -157,6 +161,7 @@ fn put_upper_hex<W: TextWrite>(
     put_digits(out, Radix::UpperHex, spec, n, negative)
 }
 
+/// Writes a number in base ten.
 #[inline(never)]
 fn put_decimal<W: TextWrite>(
     out: &mut W,

@@ -107,7 +107,7 @@ impl<T: Drop> From<AllocFailed<T>> for Error {
     }
 }
 
-/// Converts to `Error::Fmt` at place 0, for a text of your own between formats: a [`Refusal`] tells
+/// Converts to `Error::Fmt` at place 0, for a text of your own between formats: a [`Refusal`] has
 /// no place in a format.
 ///
 /// ```text

@@ -97,7 +97,7 @@ fn long_line(report: &mut Report) -> Result<(), Error> {
     Ok(())
 }
 
-/// A missing name, the names that there are, and the line that tells them, by hand.
+/// A missing name, the names that there are, and the line that lists them, by hand.
 #[rattlefmt::skip]
 const NAMES: [(&str, &[&str], &str); 8] = [
     ("nme", &["n", "name", "nm"], "\n  = did you mean `name`? names: `n`, `name`, `nm`"),

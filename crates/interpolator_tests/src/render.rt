@@ -38,7 +38,7 @@ const CALLS: [Row<'static>; 9] = [
     (View::Text("letters ten"), Trait::Display, PLAIN, ("letters ten", "", 0, ""), 1),
 ];
 
-/// Checks that the view is written by at most so many calls, none of them with an empty text:
+/// Checks that the view is written by no more calls than the row says, none with an empty text:
 /// digits, padding and the runs of a quoted text are handed over as slices.
 fn is_written_by_few(report: &mut Report, row: &Row<'_>) -> Result<(), Error> {
     let (view, t, spec, parts, most) = row;

@@ -134,7 +134,7 @@ impl<'a> FormatRow<'a> {
         }
     }
 
-    /// The fault, so many bytes further on.
+    /// The fault, this many bytes further on.
     pub fn moved_fault(&self, bytes: usize) -> Read<Option<Error>> {
         match self.fault {
             Some(words) => fault_of(Some(words.moved(bytes))),
@@ -208,7 +208,7 @@ fn bytes_of(parts: &[&str]) -> usize {
 }
 
 /// Runs the parts with a writer that takes a number of characters, fewer than the text has: it gets
-/// so many of the row's text, and the fault is `Fmt` at a place within the parts.
+/// that many of the row's text, and the fault is `Fmt` at a place within the parts.
 fn run_refused(
     report: &mut Report<'_>,
     context: &ContextMap<'_, Cell>,

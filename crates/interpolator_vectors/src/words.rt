@@ -30,7 +30,7 @@ impl<'a> Words<'a> {
         }
     }
 
-    /// The same words, whose faults are so many bytes further on.
+    /// The same words, whose faults are this many bytes further on.
     pub fn moved(mut self, bytes: usize) -> Words<'a> {
         self.shift = bytes;
         self

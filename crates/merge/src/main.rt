@@ -51,7 +51,7 @@ struct Files<'a> {
     table: &'a str,
 }
 
-/// The fault of a line, as a line of text, in a table whose first line has so many names.
+/// The fault of a line, as a line of text, in a table whose first line has `wanted` names.
 fn told_line(alloc: Global, table: &str, fault: LineFault, wanted: usize) -> Result<String, Error> {
     let line = fault.line;
     let told = match fault.trouble {

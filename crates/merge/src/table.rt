@@ -42,7 +42,7 @@ pub fn quote_trouble(reading: &Reading) -> Option<Trouble>
     }
 }
 
-/// What is wrong with the number of fields of a line, if there are so many names.
+/// What is wrong with the number of fields of a line, for this number of names.
 fn count_trouble(count: usize, names: usize) -> Option<Trouble>
     ensures { result ≡ count_trouble count names }
 {
@@ -52,7 +52,7 @@ fn count_trouble(count: usize, names: usize) -> Option<Trouble>
     Some(Trouble::Fields(count))
 }
 
-/// What is wrong with the quotes or the number of fields of a line, if there are so many names.
+/// What is wrong with the quotes or the number of fields of a line, for this number of names.
 pub fn trouble_in(reading: &Reading, names: usize) -> Option<Trouble>
     ensures { result ≡ trouble_in names (reading_of reading.now) }
 {

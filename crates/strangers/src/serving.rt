@@ -128,7 +128,7 @@ fn check_cost(cost: &Cost, most: &Cost) -> Result<(), Refused>
     check(Count::Buffered, cost.buffered, most.buffered)
 }
 
-/// Writes a template that has no fault with pairs to a writer of so many characters, with these.
+/// Writes a template that has no fault with these pairs to a writer that is limited in characters.
 fn written<'a>(
     alloc: Global,
     characters: usize,

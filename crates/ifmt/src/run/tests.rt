@@ -56,7 +56,7 @@ impl Write for Spy {
     }
 }
 
-/// What is asked of the writers.
+/// What the writers are called for.
 #[derive(Clone, Copy, Debug)]
 enum Call {
     Text,
@@ -113,7 +113,7 @@ fn refused_memory_is_reported(rt: HostRuntime) {
 }
 
 /// Whether a run writes its line, if both writers have their room before it. Else memory was
-/// refused: for this room, or to the run, which tells it and writes no text.
+/// refused: for this room, or to the run, which reports it and writes no text.
 fn is_run(rt: &impl Abort, alloc: Global, line: Line) -> bool {
     let (format, text, fault, wanted) = line;
     let Ok(mut out) = Vec::with_capacity(alloc, 128) else {

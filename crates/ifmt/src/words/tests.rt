@@ -188,8 +188,7 @@ fn is_split(rt: &impl Abort, alloc: Global, text: &str, wanted: &[&str]) -> bool
     }
 }
 
-// If memory is refused, as `rt try --test --fail-alloc` does once, the items are given when they
-// are asked again.
+// If memory is refused, as `rt try --test --fail-alloc` does once, a second call returns the items.
 #[test]
 fn lists_are_split_or_want_memory(rt: HostRuntime) {
     for (text, wanted) in ITEMS {

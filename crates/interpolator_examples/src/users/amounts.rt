@@ -8,7 +8,7 @@ use interpolator::{
 };
 use std::alloc::Global;
 
-/// The amount of so many cents.
+/// The amount of a number of cents.
 fn amount(cents: i128) -> Decimal {
     Decimal {
         units: cents,

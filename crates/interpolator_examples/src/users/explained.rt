@@ -15,8 +15,8 @@ fn greeting_fault(alloc: Global, greeting: &str) -> Result<String, Error> {
     }
 }
 
-/// What is wrong with a letter that may use the names `name` and `city`; empty if nothing is. Of a
-/// name that is missing, it tells these names.
+/// What is wrong with a letter that may use the names `name` and `city`; empty if nothing is. If a
+/// name is missing, these names are listed.
 fn letter_fault(alloc: Global, letter: &str) -> Result<String, Error> {
     let template = Template::parse(alloc, letter)?;
     let sample = Pairs(&[
