@@ -1,7 +1,8 @@
 -- What a writer over a `String` took or refused.
+use Rattle.std.proofs.lemmas.Grind.{common_steps}
 use Rattle.std.proofs.Common.{◌≡◌, ℕ, ◌+◌, ◌<◌, ◌≤◌, true, false, List, [], ◌∷◌, ◌++◌, length, refl}
 use Rattle.std.proofs.Common.{sym, ◌∙◌, ap, arith, append-nil, encode_utf8, encode_utf8_all, Bool}
-use Rattle.std.proofs.Common.{Result, Ok, Err, OnOk, OnErr, MatchResult, Option, None, Some}
+use Rattle.std.proofs.Common.{Result, OnOk, OnErr, MatchResult, Option}
 use Rattle.std.proofs.Common.{chars, IsUtf8}
 use Rattle.interpolator_render.specs.declared.text_write.Refusal.{Refusal}
 use Rattle.std.specs.Char.{IsScalar}
@@ -12,8 +13,7 @@ use Rattle.interpolator_render.specs.Written.{AppendsWithin, StaysWithin, byte_c
 
 -- an empty text changes nothing
 pub appends_nothing : (w : Written) (bytes : List ℕ) → length bytes ≡ 0 → Appends w (chars bytes) w
-appends_nothing w [] e = grind (arith, chars-nil, append-nil)
-appends_nothing w (b ∷ bs) e = cc
+appends_nothing w bytes e = grind (arith, common_steps, chars-nil, append-nil)
 
 pub ruleset empty_text = chars-nil
 
@@ -33,8 +33,7 @@ pub ruleset one_character = chars-encode
 -- what a writer appended or returned, whatever its limit
 pub appended_within : (limit after : Option ℕ) (now new : Written) (text : List ℕ) →
     AppendsWithin limit after now text new → Appends now text new
-appended_within None after now new text p = p
-appended_within (Some most) after now new text p = p.0
+appended_within limit after now new text p = grind arith
 
 pub whatever_limit : (limit after : Option ℕ) (now new : Written) (text : List ℕ)
     (answer : Result (Unit {0}) Refusal) →
@@ -42,8 +41,7 @@ pub whatever_limit : (limit after : Option ℕ) (now new : Written) (text : List
     (λ refusal. Refuses now text refusal.taken new) →
     MatchResult answer (λ _. Appends now text new)
     (λ refusal. Refuses now text refusal.taken new)
-whatever_limit limit after now new text (Ok x) p = appended_within limit after now new text p
-whatever_limit limit after now new text (Err r) p = p
+whatever_limit limit after now new text answer p = grind (arith, appended_within)
 
 pub stays_within : (limit after : Option ℕ) (now new : Written) →
     StaysWithin limit after now new → new ≡ now
@@ -72,23 +70,6 @@ chars_nonempty bytes u ne = at (chars bytes) (encodes-chars bytes u)
     at : (cs : List ℕ) → encode_utf8_all cs ≡ bytes → 0 < length cs
     at [] e = absurd (omega (arith, ap length e))
     at (c ∷ cs) e = omega arith
-
--- what a buffer took of a text, or did not
-pub buffer_writes : (old : Written) (bytes after more text : List ℕ) (refused refused_after : Bool)
-    (answer : Result (Unit {0}) Refusal) →
-    IsUtf8 bytes → record { text = chars bytes; refused = refused } ≡ old → chars more ≡ text →
-    0 < length text →
-    OnOk answer ((after ≡ bytes ++ more) × (refused ≡ false) × (refused_after ≡ false)) →
-    OnErr answer ((after ≡ bytes) × (refused_after ≡ true)) →
-    MatchResult answer (λ _. Unit {0}) (λ refusal. refusal.taken ≡ 0) →
-    MatchResult answer (λ _. Appends old text
-    (record { text = chars after; refused = refused_after }))
-    (λ refusal. Refuses old text refusal.taken
-    (record { text = chars after; refused = refused_after }))
-buffer_writes old bytes after more text refused refused_after (Ok x) u e t n ok err none =
-    rw (← e, ← t) (buffer_appends _ _ bytes more u refl ok.1 (ap chars ok.0) ok.2)
-buffer_writes old bytes after more text refused refused_after (Err refusal) u e t n ok err none =
-    rw (← e, none) (refuses_all _ _ text n (ap chars err.0) err.1)
 
 -- the room of a `String` for this many more bytes, by its characters
 pub ready_for : (after : List ℕ) (room count : ℕ) (refused refused_after : Bool)
