@@ -1,9 +1,10 @@
 -- Texts walked character by character: where a number of characters ends.
-use Rattle.std.proofs.Common.{◌≡◌, ℕ, ◌-◌, ◌+◌, List, [], ◌∷◌, ◌++◌, length, take}
+use Rattle.std.proofs.lemmas.Grind.{common_steps}
+use Rattle.std.proofs.Common.{◌≡◌, ℕ, ◌-◌, ◌+◌, List, ◌++◌, length, take}
 use Rattle.std.proofs.Common.{refl, sym, ◌∙◌, ap, arith, append_assoc, append-nil, length-append}
 use Rattle.std.proofs.Common.{encode_utf8, chars, IsUtf8, IsCharBoundary}
 use Rattle.std.specs.Char.{IsScalar}
-use Rattle.std.proofs.lemmas.Str.{chars-append, chars-nil, IsUtf8-append, IsUtf8-encode, IsUtf8-nil}
+use Rattle.std.proofs.lemmas.Str.{chars-append, chars-nil, IsUtf8-append, IsUtf8-encode}
 use Rattle.std.proofs.lemmas.Str.{IsCharBoundary-at_seam, cons_from_encodes, IsUtf8-past_char}
 use Rattle.std.proofs.Math.Seq.{take-append_seam}
 use Rattle.interpolator_render.proofs.WrittenLemmas.{chars-encode}
@@ -21,7 +22,7 @@ pub record Walked (text rest : List ℕ) (count : ℕ) : Type 0 where
   pub rest_valid : IsUtf8 rest
 
 pub walked_none : (text : List ℕ) → IsUtf8 text → Walked text text 0
-walked_none text u = grind (arith, chars-nil, IsUtf8-nil)
+walked_none text u = grind (arith, chars-nil)
 
 pub walked_more : (text rest after : List ℕ) (count c : ℕ) → rest ≡ encode_utf8 c ++ after →
     Walked text rest count → Walked text after (count + 1)
@@ -43,12 +44,11 @@ walked_chars text rest count w = grind (arith, chars-append, take-append_seam)
 
 walked_length : (text rest : List ℕ) (count : ℕ) → (w : Walked text rest count) →
     length text - length rest ≡ length w.after
-walked_length text rest count w = omega (arith, ap length w.parts, length-append {A = ℕ})
+walked_length text rest count w = grind (arith, length-append)
 
 pub walked_take : (text rest : List ℕ) (count : ℕ) → (w : Walked text rest count) →
     take (length text - length rest) text ≡ w.after
-walked_take text rest count w =
-    rw (walked_length text rest count w, w.parts) (take-append_seam w.after rest)
+walked_take text rest count w = grind (arith, common_steps, walked_length, take-append_seam)
 
 pub walked_end : (text rest : List ℕ) (count : ℕ) → Walked text rest count →
     chars (take (length text - length rest) text) ≡ take count (chars text)
@@ -63,11 +63,9 @@ walked_boundary text rest count w = rw (walked_length text rest count w)
 -- all of a text was walked, and its characters counted
 pub walked_all : (text rest : List ℕ) (count : ℕ) → length rest ≡ 0 → Walked text rest count →
     length (chars text) ≡ count
-walked_all text [] count e w =
-    let whole : text ≡ w.after = w.parts ∙ append-nil w.after in rw whole w.counted
-walked_all text (b ∷ bs) count e w = absurd (omega arith)
+walked_all text rest count e w = grind (arith, common_steps, append-nil)
 
 -- the characters walked are as many as were counted
 pub walked_count : (text rest : List ℕ) (count : ℕ) → Walked text rest count →
     length (chars (take (length text - length rest) text)) ≡ count
-walked_count text rest count w = rw (walked_take text rest count w) w.counted
+walked_count text rest count w = grind (arith, common_steps, walked_take)

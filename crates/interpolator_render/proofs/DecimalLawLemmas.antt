@@ -1,6 +1,6 @@
 -- What the text of a decimal spells, and how far it is from the decimal.
 use Rattle.std.proofs.Common.{◌≡◌, ℕ, ◌<◌, ◌≤◌, ◌-◌, ◌+◌, ◌*◌, ◌/◌, ◌%◌, ◌^◌, false, List, []}
-use Rattle.std.proofs.Common.{◌∷◌, ◌++◌, length, refl, ◌∙◌, arith, rules, pow-suc, nat_lt, None}
+use Rattle.std.proofs.Common.{◌∷◌, ◌++◌, length, refl, ◌∙◌, arith, pow-suc, nat_lt, None}
 use Rattle.std.proofs.Common.{Some, Option, append-nil, Bool}
 use Rattle.std.specs.Char.{digit_value}
 use Rattle.std.specs.Str.Parse.{digits_value, digits_value_after}
@@ -32,11 +32,10 @@ value_over n (digit ∷ before) after = value_over (n * 10 + digit_value digit) 
 
 value_both : (before after : List ℕ) → digits_value 10 (before ++ after)
     ≡ digits_value 10 before * 10 ^ length after + digits_value 10 after
-value_both before after = value_over 0 before after ∙ value_after (digits_value 10 before) after
+value_both before after = grind (arith, value_over, value_after)
 
 placed_value : (places part : ℕ) → part < 10 ^ places → digits_value 10 (placed places part) ≡ part
-placed_value places part h =
-    grind (arith, placed_none, placed_some, value_of_zeros, digits_read 10 part false)
+placed_value places part h = grind (arith, placed_none, placed_some, value_of_zeros, digits_read)
 
 -- ---- decimals
 
@@ -59,15 +58,12 @@ units_spelled places count =
 
 pub plain_spelled : (scale units : ℕ) → SpellsUnits scale units (decimal_text None scale units)
 unfolding decimal_text
-plain_spelled scale units =
-    let f : nat_lt scale scale ≡ false = search rules in
-    let same : scale - scale ≡ 0 = omega arith in
-    let one : units * 10 ^ 0 ≡ units = omega arith in rw (f, same, one) (units_spelled scale units)
+plain_spelled scale units = grind (arith, nat_lt scale scale, units_spelled scale units)
 
 pub precise_spelled : (places scale units : ℕ) →
     SpellsUnits places (units_at places scale units) (decimal_text (Some places) scale units)
 unfolding decimal_text
-precise_spelled places scale units = units_spelled places (units_at places scale units)
+precise_spelled places scale units = grind (arith, units_spelled)
 
 pub rounded_nearest : (places scale units : ℕ) → places < scale →
     IsNearest units (10 ^ (scale - places)) (units_at places scale units)

@@ -11,7 +11,6 @@ use Rattle.std.proofs.lemmas.Int.Digits.{all_below_base_digits_of}
 use Rattle.std.proofs.lemmas.List.{map-append, drop-set, length-map, take-set, take-set-le}
 use Rattle.std.proofs.lemmas.Bool.Decides.{nat_tests}
 use Rattle.std.proofs.lemmas.Str.{IsUtf8-from_ascii}
-use Rattle.std.proofs.lemmas.Str.Ascii.{IsAscii-cons}
 use Rattle.std.proofs.Math.Nat.{pow-le-pow_left, div-eq_of_lt}
 use Rattle.std.proofs.Math.Seq.{drop-length}
 use Rattle.interpolator_render.specs.Digits.{digit_text}
@@ -30,15 +29,14 @@ digit_text_map base n upper h = grind (arith, nat_tests)
 -- a number has a digit at least
 pub digit_text_some : (base n : ℕ) (upper : Bool) → 2 ≤ base → 0 < length (digit_text base upper n)
 unfolding digit_text
-digit_text_some base n upper b =
-    grind (arith, nat_tests, length-map, length-digits_of_step base n b)
+digit_text_some base n upper b = grind (arith, nat_tests, length-map, length-digits_of_step)
 
 -- a number below a power of the base has at most as many digits as the power says
 pub length-digit_text-le : (base k n : ℕ) (upper : Bool) → 2 ≤ base → 0 < k → n < base ^ k →
     length (digit_text base upper n) ≤ k
 unfolding digit_text
 length-digit_text-le base k n upper b p h =
-    grind (arith, nat_tests, length-map, length-digits_of-le base k n b h)
+    grind (arith, nat_tests, length-map, length-digits_of-le)
 
 -- the buffer has room for the digits of any number
 pub text_fits : (base n : ℕ) (upper : Bool) → 2 ≤ base → n < 2 ^ 128 →
@@ -54,23 +52,17 @@ nothing_after out size e = rw (← e) (drop-length out)
 
 -- ---- ASCII
 
-IsAscii-glyph : (d : ℕ) (upper : Bool) → d < 16 → digit_glyph upper d < 128
-IsAscii-glyph d upper h = grind (arith, nat_tests)
-
 IsAscii-glyphs : (base : ℕ) (upper : Bool) (ds : List ℕ) → base ≤ 16 → AllBelowBase base ds →
     IsAscii (map (digit_glyph upper) ds)
 IsAscii-glyphs base upper [] h a = λ i. omega arith
-IsAscii-glyphs base upper (d ∷ ds) h a = IsAscii-cons _ _
-    (IsAscii-glyph d upper (omega (arith, a.0))) (IsAscii-glyphs base upper ds h a.1)
+IsAscii-glyphs base upper (d ∷ ds) h a =
+    grind (arith, nat_tests, IsAscii-glyphs base upper ds h a.1)
 
 pub digits_ascii : (base : ℕ) (upper : Bool) (n : ℕ) → 2 ≤ base → base ≤ 16 →
     IsAscii (digit_text base upper n)
-digits_ascii base upper n l h = elim (eq-zero-or-pos n) [
-  | inl e ↦ rw (digit_text_zero base upper n e)
-      (IsAscii-cons 48 [] (omega arith) (λ i. omega arith))
-  | inr m ↦ rw (digit_text_map base n upper m)
-      (IsAscii-glyphs base upper _ h (all_below_base_digits_of base n l))
-]
+unfolding digit_text
+digits_ascii base upper n l h =
+    grind (arith, nat_tests, IsAscii-glyphs, all_below_base_digits_of)
 
 pub ruleset ascii_texts = IsUtf8-from_ascii
 
@@ -91,7 +83,7 @@ pub digit_text_one : (base n : ℕ) (upper : Bool) → 2 ≤ base → n < base �
     digit_text base upper n ≡ digit_glyph upper n ∷ []
 unfolding digit_text
 digit_text_one base n upper b h =
-    grind (arith, nat_tests, digits_of_step base n b, div-eq_of_lt, mod-eq_of_lt)
+    grind (arith, nat_tests, digits_of_step, div-eq_of_lt, mod-eq_of_lt)
 
 pub one_count : (base n : ℕ) (upper : Bool) → 2 ≤ base → n < base →
     length (digit_text base upper n) ≡ 1
@@ -114,9 +106,7 @@ four_count base n upper b h = grind (arith, div-le_self, digit_count_step)
 
 pub led : (text after there : List ℕ) (first : ℕ) → 0 < length text →
     first ∷ there ≡ text ++ after → (text ≡ first ∷ drop 1 text) × (there ≡ drop 1 text ++ after)
-led [] after there first h e = absurd (omega arith)
-led (x ∷ xs) after there first h e =
-    (ap (λ (l : List ℕ). get_or l 0 0 ∷ xs) (sym e), ap (drop 1) e)
+led text after there first h e = grind arith
 
 -- digits left of a number, written after its first: the whole but for that
 pub low_written : (base n rest first at end : ℕ) (upper : Bool) (new mid old : List ℕ) → 2 ≤ base →
@@ -131,8 +121,7 @@ low_written base n rest first at end upper new mid old b leads written all =
 -- all digits but the first
 pub low_count : (base n : ℕ) (upper : Bool) → 2 ≤ base →
     length (drop 1 (digit_text base upper n)) + 1 ≡ length (digit_text base upper n)
-low_count base n upper b =
-    omega (arith, digit_text_some base n upper b, length-drop 1 (digit_text base upper n))
+low_count base n upper b = grind (arith, digit_text_some, length-drop)
 
 -- for digits written one at a time
 pub ruleset one_steps = (digit_count_step, one_count, low_count)
@@ -162,8 +151,7 @@ pair_step n at out h p l =
 
 pub pair_count : (n : ℕ) → 100 ≤ n → length (digit_text 10 false n)
     ≡ length (digit_text 10 false (n / 100)) + 2
-pair_count n h =
-    let rest : n / 10 / 10 ≡ n / 100 = omega arith in grind (arith, digit_count_step)
+pair_count n h = grind (arith, digit_count_step)
 
 -- a number of two digits alone
 pub pair_alone : (n : ℕ) → 10 ≤ n → n < 100 →
@@ -177,16 +165,15 @@ three_alone n l h = grind (arith, digit_text_step, pair_alone, nat_tests)
 
 -- and of one
 pub one_alone : (n : ℕ) → n < 10 → digit_text 10 false n ≡ (48 + n) ∷ []
-one_alone n h = rw (digit_text_one 10 n false (omega arith) h) (grind (arith, nat_tests))
+one_alone n h = grind (arith, digit_text_one, nat_tests)
 
 pub take_less : (k at : ℕ) (new old : List ℕ) → k ≤ at → take at new ≡ take at old →
     take k new ≡ take k old
-take_less k at new old h e = sym (take-take k at new h) ∙ (ap (take k) e ∙ take-take k at old h)
+take_less k at new old h e = grind (arith, take-take k at new h, take-take k at old h)
 
 pub pair_in_front : (out old : List ℕ) (at first second : ℕ) → 2 ≤ at → take at out ≡ take at old →
     take (at - 2) (set (set out (at - 1) first) (at - 2) second) ≡ take (at - 2) old
-pair_in_front out old at first second h e =
-    grind (arith, take-set-le, take_less (at - 2) at out old)
+pair_in_front out old at first second h e = grind (arith, take-set-le, take_less)
 
 -- ---- the whole number at the end of the buffer
 

@@ -35,14 +35,6 @@ leading_then : (digits after : List ℕ) → 0 < length digits →
     leading digits after ++ after ≡ with_point (digits ++ after)
 leading_then digits after h = grind arith
 
-leading_more : (digits after : List ℕ) (first : ℕ) → digits ≡ first ∷ drop 1 digits →
-    1 < length digits + length after → leading digits after ≡ first ∷ 46 ∷ drop 1 digits
-leading_more digits after first e h = grind (arith, ap length e)
-
-leading_alone : (digits after : List ℕ) (first : ℕ) → digits ≡ first ∷ drop 1 digits →
-    length digits + length after ≡ 1 → leading digits after ≡ first ∷ []
-leading_alone digits after first e h = grind (arith, ap length e)
-
 -- how many digits a number has
 pub more_digits : (n : ℕ) → 10 ≤ n → 1 < length (digit_text 10 false n)
 more_digits n h = grind (arith, digit_count_step, digit_text_some)
@@ -58,14 +50,13 @@ pub leading_pieces : (digits after : List ℕ) (first : ℕ) (row low point all 
     point ≡ put_before (46 ∷ []) low → all ≡ put_before ((48 + first) ∷ []) point →
     all ≡ put_before (leading digits after) row
 leading_pieces digits after first row low point all h e more a b c =
-    grind (arith, small_glyph, leading_more, grown_twice)
+    grind (arith, small_glyph, grown_twice)
 
 pub alone_pieces : (digits after : List ℕ) (first : ℕ) (row low all : Buffered) → first < 10 →
     digits ≡ digit_glyph false first ∷ drop 1 digits → length digits + length after ≡ 1 →
     low ≡ put_before (drop 1 digits) row → all ≡ put_before ((48 + first) ∷ []) low →
     all ≡ put_before (leading digits after) row
-alone_pieces digits after first row low all h e single a b =
-    grind (arith, small_glyph, leading_alone, grown_twice)
+alone_pieces digits after first row low all h e single a b = grind (arith, small_glyph, grown_twice)
 
 -- digits and zeros in front of any text
 pub digits_before : (digits zeros : ℕ) (after : List ℕ) (row tail padded all : Buffered) →
@@ -79,8 +70,7 @@ pub shown_pieces : (upper : Bool) (digits zeros exponent : ℕ) (row tail padded
     tail ≡ put_before (exponent_tail upper exponent) row → padded ≡ put_before (replicate zeros 48) tail →
     all ≡ put_before (leading (digit_text 10 false digits) (replicate zeros 48)) padded →
     all ≡ put_before (shown_text upper digits zeros exponent) row
-shown_pieces upper digits zeros exponent row tail padded all a b c =
-    digits_before digits zeros (exponent_tail upper exponent) row tail padded all a b c
+shown_pieces upper digits zeros exponent row tail padded all a b c = grind (arith, digits_before)
 
 -- ---- the whole
 
@@ -117,8 +107,7 @@ pub exponent_parts : (upper : Bool) (digits count exponent : ℕ) (head tail : L
     head ≡ leading (digit_text 10 false digits) (replicate count 48) →
     tail ≡ exponent_tail upper exponent →
     head ++ (replicate count 48 ++ tail) ≡ shown_text upper digits count exponent
-exponent_parts upper digits count exponent head tail h t =
-    digits_parts digits count head tail (exponent_tail upper exponent) h t
+exponent_parts upper digits count exponent head tail h t = grind (arith, digits_parts)
 
 -- a text alone in a row
 pub grown_alone : (text : List ℕ) (row empty : Buffered) → empty.text ≡ [] →
@@ -131,7 +120,7 @@ pub shown_exponent : (upper : Bool) (precision : Option ℕ) (n digits count exp
     exponent ≡ (scientific precision n).exponent →
     shown_text upper digits count exponent ≡ exponent_text upper precision n
 unfolding exponent_text
-shown_exponent upper precision n digits count exponent d e = rw (d, e) refl
+shown_exponent upper precision n digits count exponent d e = grind arith
 
 pub ruleset shown_steps = (length-replicate, shown_pieces, two_digits)
 

@@ -1,4 +1,5 @@
 -- The laws.
+use Rattle.std.proofs.lemmas.Grind.{common_steps}
 use Rattle.std.proofs.Common.{◌≡◌, ◌≢◌, ℕ, suc, ◌<◌, ◌≤◌, ◌-◌, ◌+◌, ◌*◌, ◌/◌, ◌%◌, ◌^◌, max, ℤ, pos}
 use Rattle.std.proofs.Common.{negsuc, ◌+ℤ◌, ◌*ℤ◌, neg_ℤ, Bool, false, List, [], ◌∷◌, ◌++◌, length}
 use Rattle.std.proofs.Common.{map, get_or, replicate, refl, ap, arith, length-append}
@@ -29,37 +30,29 @@ use Rattle.interpolator_render.proofs.NumberLemmas.{before_within}
 
 -- ---- digits
 
-digit_value-glyph : (d : ℕ) (upper : Bool) → d < 16 → digit_value (digit_glyph upper d) ≡ d
-digit_value-glyph d upper h = grind (arith, nat_tests)
-
 values_of_glyphs : (base : ℕ) (upper : Bool) (ds : List ℕ) → base ≤ 16 → AllBelowBase base ds →
     map digit_value (map (digit_glyph upper) ds) ≡ ds
 values_of_glyphs base upper [] h a = refl
 values_of_glyphs base upper (d ∷ ds) h a =
-    rw (digit_value-glyph d upper (omega (arith, a.0)), values_of_glyphs base upper ds h a.1)
-    refl
+    grind (arith, nat_tests, values_of_glyphs base upper ds h a.1)
 
 pub digits_read : (base n : ℕ) (upper : Bool) → 2 ≤ base → base ≤ 16 →
     digits_value base (digit_text base upper n) ≡ n
-digits_read base n upper l h = elim (eq-zero-or-pos n) [
-  | inl e ↦ rw (digit_text_zero base upper n e) (omega arith)
-  | inr m ↦ let low = all_below_base_digits_of base n l in
-      rw (digit_text_map base n upper m, digits_value_is, values_of_glyphs base upper _ h low)
-      (number_digits_of base n l)
-]
+unfolding digit_text
+digits_read base n upper l h =
+    let low = all_below_base_digits_of base n l in
+    grind (arith, nat_tests, digits_value_is, values_of_glyphs, number_digits_of)
 
 pub glyph_some : (d : ℕ) (upper : Bool) → 0 < d → digit_glyph upper d ≢ 48
-glyph_some d upper h = λ e. grind (arith, nat_tests)
+glyph_some d upper h = grind (arith, nat_tests)
 
 first_glyph : (upper : Bool) (ds : List ℕ) → 0 < get_or ds 0 0 →
     get_or (map (digit_glyph upper) ds) 0 0 ≢ 48
-first_glyph upper [] h = absurd (omega arith)
-first_glyph upper (d ∷ ds) h = glyph_some d upper h
+first_glyph upper ds h = grind (arith, common_steps, glyph_some)
 
 pub first_digit : (base n : ℕ) (upper : Bool) → 2 ≤ base → 0 < n →
     get_or (digit_text base upper n) 0 0 ≢ 48
-first_digit base n upper l h = rw (digit_text_map base n upper h)
-    (first_glyph upper (digits_of base n) (first_digits_of base n l h))
+first_digit base n upper l h = grind (arith, digit_text_map, first_glyph, first_digits_of)
 
 pub ruleset digit_laws = (digits_read, first_digit)
 
@@ -78,16 +71,12 @@ exponent_bounds_of n h =
 
 -- zero has one digit
 pub exponent_of_zero : exponent_of 0 ≡ 0
-exponent_of_zero = rw (digit_text_zero 10 false 0 refl) refl
+exponent_of_zero = grind (arith, digit_text_zero)
 
 -- ---- rounding
 
-near_tie : (n unit low rest : ℕ) → n ≡ low * unit + rest → 2 * rest ≡ unit →
-    IsNearest n unit (low + low % 2)
-near_tie n unit low rest e h = grind (arith, eq-zero-or-pos)
-
 pub nearest_is_nearest : (n unit : ℕ) → 0 < unit → IsNearest n unit (nearest n unit)
-nearest_is_nearest n unit h = grind (arith, cases_order, nat_tests, near_tie)
+nearest_is_nearest n unit h = grind (arith, cases_order, nat_tests, eq-zero-or-pos)
 
 -- of two counts only one lies nearest
 nearest_one : (n unit less more : ℕ) → 0 < unit → less < more → IsNearest n unit less →
@@ -137,23 +126,16 @@ trimmed_tail (digit ∷ digits) = let after = less_zeros_tail digits in
 last_after : (digit : ℕ) (rest : List ℕ) → 0 < length rest →
     get_or rest (length rest - 1) 0 ≢ 48 →
     get_or (digit ∷ rest) (length (digit ∷ rest) - 1) 0 ≢ 48
-last_after digit [] some last = absurd (omega arith)
-last_after digit (second ∷ rest) some last =
-    let place : suc (suc (length rest)) - 1 ≡ suc (suc (length rest) - 1) = omega arith in
-    rw place last
+last_after digit rest some last = grind arith
 
 less_zeros_last : (digits : List ℕ) → 0 < length (less_zeros digits) →
     get_or (less_zeros digits) (length (less_zeros digits) - 1) 0 ≢ 48
 less_zeros_last [] some = absurd (omega arith)
-less_zeros_last (digit ∷ digits) some =
-    let after = last_after digit (less_zeros digits) in
-    grind (arith, nat_tests, after, less_zeros_last digits)
+less_zeros_last (digit ∷ digits) some = grind (arith, last_after, nat_tests, less_zeros_last digits)
 
 pub trimmed_last : (digits : List ℕ) → 1 < length (significant_digits digits) →
     get_or (significant_digits digits) (length (significant_digits digits) - 1) 0 ≢ 48
-trimmed_last [] more = absurd (omega arith)
-trimmed_last (digit ∷ digits) more = last_after digit (less_zeros digits) (omega arith)
-    (less_zeros_last digits (omega arith))
+trimmed_last digits more = grind (arith, last_after, less_zeros_last)
 
 pub ruleset trimmed_laws = (trimmed_tail, trimmed_last)
 
@@ -183,7 +165,7 @@ pub remainder_below : (z : ℤ) (m : ℕ) → 0 < m → remainder z m < m
 remainder_below z m h = grind arith
 
 pub twos_complement_below : (z : ℤ) (bits : Bits) → twos_complement z bits < 2 ^ bit_count bits
-twos_complement_below z bits = remainder_below z (2 ^ bit_count bits) (pow_pos (bit_count bits))
+twos_complement_below z bits = grind (arith, remainder_below, pow_pos)
 
 minus_plus : (turned rest n : ℕ) → turned ≡ n + 1 + rest → negsuc n ≡ neg_ℤ (pos turned) +ℤ pos rest
 minus_plus turned rest n e = omega (arith, ints)
@@ -196,7 +178,6 @@ remainder_congruent (negsuc n) m h =
 
 pub twos_complement_congruent : (z : ℤ) (bits : Bits) →
     (turns : ℤ) × (z ≡ (turns *ℤ pos (2 ^ bit_count bits)) +ℤ pos (twos_complement z bits))
-twos_complement_congruent z bits = remainder_congruent z (2 ^ bit_count bits)
-    (pow_pos (bit_count bits))
+twos_complement_congruent z bits = grind (arith, remainder_congruent, pow_pos)
 
 pub ruleset twos_complement_laws = (twos_complement_below, twos_complement_congruent)

@@ -1,4 +1,5 @@
 -- Texts written part after part, up to a refusal.
+use Rattle.std.proofs.lemmas.Grind.{common_steps}
 use Rattle.std.proofs.Common.{take-append-drop, length-append, append_assoc, MatchResult, replicate}
 use Rattle.std.proofs.Common.{append-nil, flat_map, IsAscii, length, get_or, Result, ℕ}
 use Rattle.std.proofs.Common.{IsUtf8, arith, chars, zero, List, ◌++◌, refl, take, drop, ◌≡◌, suc}
@@ -7,7 +8,6 @@ use Rattle.std.proofs.lemmas.Str.{IsCharBoundary-at_seam, chars_from_encodes, en
 use Rattle.std.proofs.lemmas.Str.{len_utf8_bounds, encodes-append, chars-IsAscii, encodes-chars}
 use Rattle.std.proofs.lemmas.Str.{IsUtf8-append, IsUtf8-encode, length-encode, IsUtf8-nil}
 use Rattle.std.specs.Char.{len_utf8}
-use Rattle.std.proofs.lemmas.Str.Ascii.{IsAscii-cons}
 use Rattle.std.proofs.lemmas.List.{take_more}
 use Rattle.std.proofs.lemmas.Grind.{flat_map-append}
 use Rattle.interpolator_render.specs.declared.text_write.Refusal.{Refusal}
@@ -36,14 +36,12 @@ stops_in_first a b t u p = grind (arith, append_assoc, length-append)
 -- what a call returned, whatever its error says
 pub writes_from_puts : (a b : Written) (t : List ℕ) (r : Result (Unit {0}) Refusal) → Puts a t r b →
     Writes a t r b
-writes_from_puts a b t (Ok x) p = p
-writes_from_puts a b t (Err refusal) p = p.part
+writes_from_puts a b t r p = grind arith
 
 -- one text was written, and another after it or a part of it
 pub writes_second : (a b c : Written) (t u : List ℕ) (r : Result (Unit {0}) Refusal) →
     Appends a t b → Writes b u r c → Writes a (t ++ u) r c
-writes_second a b c t u (Ok x) p q = appends_both a b c t u p q
-writes_second a b c t u (Err refusal) p q = stops_in_second a b c t u p q
+writes_second a b c t u r p q = grind (arith, common_steps, appends_both, stops_in_second)
 
 pub byte_count-append : (t u : List ℕ) → byte_count (t ++ u) ≡ byte_count t + byte_count u
 byte_count-append t u = grind (arith, encodes-append, length-append)
@@ -76,14 +74,14 @@ puts_from_write a b t (Err x) f p = record {
 
 pub IsAscii-replicate : (n c : ℕ) → c < 128 → IsAscii (replicate n c)
 IsAscii-replicate zero c h = λ i. omega arith
-IsAscii-replicate (suc n) c h = IsAscii-cons c (replicate n c) h (IsAscii-replicate n c h)
+IsAscii-replicate (suc n) c h = grind (arith, IsAscii-replicate n c h)
 
 pub bytes_of_copies : (n c : ℕ) → byte_count (replicate n c) ≡ n * len_utf8 c
 bytes_of_copies zero c = omega arith
 bytes_of_copies (suc n) c = omega (arith, length-append {A = ℕ}, length-encode c, bytes_of_copies n c)
 
 pub byte_count-chars : (bytes : List ℕ) → IsUtf8 bytes → byte_count (chars bytes) ≡ length bytes
-byte_count-chars bytes u = ap length (encodes-chars bytes u)
+byte_count-chars bytes u = grind (arith, encodes-chars)
 
 -- the pieces up to one, and that one
 pub parts_more : {X : Type 0} (f : X → List ℕ) (parts : List X) (i : ℕ) (d : X) → i < length parts →
@@ -111,18 +109,18 @@ pub parts_count : {X : Type 0} (f : X → List ℕ) (parts : List X) (i : ℕ) (
     len ≡ min (byte_count (f (get_or parts i d))) (2 ^ 64 - 1) →
     more ≡ min (done + len) (2 ^ 64 - 1) →
     more ≡ min (byte_count (flat_map f (take (i + 1) parts))) (2 ^ 64 - 1)
-parts_count f parts i d done len more h e k l = rw (← parts_more f parts i d h)
-    (omega (arith, byte_count-append))
+parts_count f parts i d done len more h e k l =
+    grind (arith, common_steps, parts_more, byte_count-append)
 
 pub parts_append : {X : Type 0} (f : X → List ℕ) (a b c : Written) (parts : List X) (i : ℕ)
     (d : X) → i < length parts →
     Appends a (flat_map f (take i parts)) b → Appends b (f (get_or parts i d)) c →
     Appends a (flat_map f (take (i + 1) parts)) c
-parts_append f a b c parts i d h p q = rw (← parts_more f parts i d h) (appends_both a b c _ _ p q)
+parts_append f a b c parts i d h p q = grind (arith, common_steps, parts_more, appends_both)
 
 -- a character's bytes are at most four
 pub bytes_of_character : (c : ℕ) → byte_count (c ∷ []) ≤ 4
-bytes_of_character c = omega (arith, length-append {A = ℕ}, length-encode c, (len_utf8_bounds c).1)
+bytes_of_character c = grind (arith, length-append, length-encode, len_utf8_bounds)
 
 -- for one call of a writer
 pub ruleset one_write = (puts_from_write, byte_count-chars, bytes_of_character, chars-IsAscii)

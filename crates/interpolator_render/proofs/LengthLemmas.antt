@@ -17,7 +17,7 @@ use Rattle.interpolator_render.specs.declared.view.Spec.{Spec}
 use Rattle.interpolator_render.specs.declared.view.Trait.{Trait}
 use Rattle.interpolator_render.specs.Characters.{double_quote, single_quote, space, delete}
 use Rattle.interpolator_render.specs.Decimals.{decimal_body, decimal_exponent_text, decimal_text}
-use Rattle.interpolator_render.specs.Decimals.{placed, scale_of, units_at}
+use Rattle.interpolator_render.specs.Decimals.{placed, units_at}
 use Rattle.interpolator_render.specs.Digits.{digit_text}
 use Rattle.interpolator_render.specs.Exponent.{exponent_of, significant_digits, scientific}
 use Rattle.interpolator_render.specs.Exponent.{with_point, exponent_text}
@@ -28,11 +28,11 @@ use Rattle.interpolator_render.specs.Numbers.{base_of, sign_text, distance_from_
 use Rattle.interpolator_render.specs.Numbers.{has_minus, magnitude, front_text, number_text}
 use Rattle.interpolator_render.specs.Numbers.{is_negative}
 use Rattle.interpolator_render.specs.Padding.{displayed_text}
-use Rattle.interpolator_render.specs.Quoting.{escape_letter, escape_by, escape_of, quotation}
+use Rattle.interpolator_render.specs.Quoting.{escape_by, escape_of, quotation}
 use Rattle.interpolator_render.specs.Texts.{in_form, padded_decimal, truth_text, under, view_text}
 use Rattle.interpolator_render.specs.Views.{Shown, signed_number, unsigned_number, truth_value}
 use Rattle.interpolator_render.specs.Views.{decimal_number, one_character, some_text, plain_text}
-use Rattle.interpolator_render.specs.Views.{integer_width, bit_count}
+use Rattle.interpolator_render.specs.Views.{integer_width}
 use Rattle.interpolator_render.proofs.CountLemmas.{scientific_count}
 use Rattle.interpolator_render.proofs.DecimalLemmas.{length-placed, remainder_fits, scaled_quotient}
 use Rattle.interpolator_render.proofs.DecimalRowLemmas.{length-pointed, length-scaled_tail}
@@ -54,60 +54,36 @@ length-with_point : (digits : List ℕ) → length (with_point digits) ≤ lengt
 length-with_point digits = grind arith
 
 few_digits : (n : ℕ) → n < 2 ^ 128 → exponent_of n ≤ 38
-few_digits n h = let most = decimal_digits n h in omega arith
+few_digits n h = grind (arith, decimal_digits)
 
 trimmed_within : (digits : List ℕ) → length (significant_digits digits) ≤ length digits
 trimmed_within digits =
     let tail = trimmed_tail digits in
     let all = ap length tail.1 ∙ length-append (significant_digits digits) _ in omega arith
 
+ruleset form_counts =
+    (length-append, length-with_point, trimmed_within, decimal_digits, scientific_count)
+
 exponent_within : (precision : Option ℕ) (n : ℕ) → n < 2 ^ 128
     → (scientific precision n).exponent ≤ 39
 unfolding scientific
-exponent_within precision n h = grind (arith, few_digits n h)
-
-precise_within : (upper : Bool) (places : ℕ) (digits : List ℕ) → length digits ≡ places + 1
-    → length (with_point digits) + 3 ≤ most_body (InExponent upper) (Some places)
-precise_within upper places digits h = grind arith
+exponent_within precision n h = grind (arith, few_digits)
 
 exponent_text_within : (upper : Bool) (precision : Option ℕ) (n : ℕ) → n < 2 ^ 128
     → length (exponent_text upper precision n) ≤ most_body (InExponent upper) precision
 unfolding exponent_text scientific
-exponent_text_within upper None n h =
-    let two = two_digits (exponent_of n) (exponent_within None n h) in
-    omega (arith, length-append {A = ℕ}, length-with_point, trimmed_within, decimal_digits n h)
-exponent_text_within upper (Some places) n h =
-    let s = scientific (Some places) n in
-    let precise = precise_within upper places s.digits (scientific_count places n) in
-    omega (arith, length-append {A = ℕ}, two_digits s.exponent (exponent_within (Some places) n h))
+exponent_text_within upper precision n h =
+    grind (arith, form_counts, two_digits, exponent_within)
 
 -- ---- numbers
 
 sign_within : (negative : Bool) (sign : Sign) → length (sign_text negative sign) ≤ 1
 sign_within negative sign = grind arith
 
--- a number that is not negative
-front_within : (form : NumberForm) (spec : Spec)
-    → length (front_text form spec false) ≤ most_front form spec
-front_within form spec = grind (arith, length-append {A = ℕ}, sign_within)
-
--- and a signed one
-signed_front_within : (form : NumberForm) (spec : Spec) (z : ℤ)
-    → length (front_text form spec (has_minus form z)) ≤ most_front form spec
-signed_front_within form spec z = grind (arith, length-append {A = ℕ}, sign_within)
-
-power_within : (bits : Bits) → 2 ^ bit_count bits ≤ 2 ^ 128
-power_within bits = grind arith
-
 -- a signed number lies within 128 bits
 distance_within : (z : ℤ) (bits : Bits) → FitsSigned (integer_width bits) z
     → distance_from_zero z < 2 ^ 128
-distance_within z bits h = grind (arith, h.sfits)
-
-magnitude_within : (form : NumberForm) (z : ℤ) (bits : Bits) → FitsSigned (integer_width bits) z
-    → magnitude form z bits < 2 ^ 128
-magnitude_within form z bits h =
-    grind (arith, distance_within z bits h, twos_complement_below z bits, power_within bits)
+distance_within z bits h = grind arith
 
 number_within : (form : NumberForm) (spec : Spec) (negative : Bool) (n : ℕ)
     → length (front_text form spec negative) ≤ most_front form spec → n < 2 ^ 128
@@ -144,29 +120,18 @@ plain_within places scale units h =
     let point = length-pointed (placed places (count % 10 ^ places)) in
     omega (arith, length-append {A = ℕ})
 
-scale_within : (scale units : ℕ) → scale < 2 ^ 32 → scale_of scale units < 2 ^ 32
-scale_within scale units h = grind arith
-
 scaled_within : (upper : Bool) (precision : Option ℕ) (scale units : ℕ) → units < 2 ^ 128
     → scale < 2 ^ 32
     → length (decimal_exponent_text upper precision scale units) + 1 ≤ most_scaled precision
 unfolding decimal_exponent_text scientific
-scaled_within upper None scale units h s =
-    let few = few_digits units h in
-    let tail = length-scaled_tail upper (exponent_of units) (scale_of scale units) (omega arith)
-    (scale_within scale units s) in
-    omega (arith, length-append {A = ℕ}, length-with_point, trimmed_within, decimal_digits units h)
-scaled_within upper (Some places) scale units h s =
-    let few = exponent_within (Some places) units h in
-    let tail = length-scaled_tail upper _ (scale_of scale units) few (scale_within scale units s) in
-    omega (arith, length-append {A = ℕ}, length-with_point, scientific_count places units)
+scaled_within upper precision scale units h s =
+    grind (arith, form_counts, few_digits, length-scaled_tail, exponent_within)
 
 -- without precision the text is one that is counted among the texts
 plain_most : (precision : Option ℕ) (scale units most : ℕ) → units < 2 ^ 128
     → length (decimal_text None scale units) < most
     → length (decimal_text precision scale units) + 1 ≤ max (most_plain precision) most
-plain_most None scale units most h l = omega (arith, l)
-plain_most (Some places) scale units most h l = omega (arith, plain_within places scale units h)
+plain_most precision scale units most h l = grind (arith, plain_within)
 
 decimal_within : (t : Trait) (spec : Spec) (negative : Bool) (scale units number most : ℕ)
     → units < 2 ^ 128 → scale < 2 ^ 32 → length (decimal_text None scale units) < most
@@ -180,26 +145,23 @@ decimal_within t spec negative scale units number most h s l =
 
 displayed_within : (spec : Spec) (text : List ℕ) (most : ℕ) → length text ≤ most
     → length (displayed_text spec text) ≤ max (unwrap_or spec.width 0) most
-displayed_within spec text most h = grind (arith, padded_text_count, length-take {A = ℕ})
+displayed_within spec text most h = grind (arith, padded_text_count, length-take)
 
 control_digits : (c : ℕ) → (nat_lt c space || (c == delete)) ≡ true
     → length (digit_text 16 false c) ≤ 2
-control_digits c h =
-    length-digit_text-le 16 2 c false (omega arith) (omega arith) (grind (arith, nat_tests))
+control_digits c h = grind (arith, length-digit_text-le, nat_tests)
 
 escaped_within : (letter : Option ℕ) (c : ℕ) → length (escape_by letter c) ≤ 6
-escaped_within letter c = grind (arith, length-append {A = ℕ}, control_digits c)
+escaped_within letter c = grind (arith, length-append, control_digits)
 
 all_escaped : (quote : ℕ) (text : List ℕ)
     → length (flat_map (escape_of quote) text) ≤ length text * 6
 all_escaped quote [] = omega arith
-all_escaped quote (c ∷ cs) =
-    let first = escaped_within (escape_letter quote c) c in
-    omega (arith, length-append {A = ℕ}, all_escaped quote cs)
+all_escaped quote (c ∷ cs) = grind (arith, escaped_within, length-append, all_escaped quote cs)
 
 quoted_within : (quote : ℕ) (text : List ℕ) (most : ℕ) → length text ≤ most
     → length (quotation quote text) ≤ most * 6 + 2
-quoted_within quote text most h = omega (arith, length-append {A = ℕ}, all_escaped)
+quoted_within quote text most h = grind (arith, length-append, all_escaped)
 
 -- ---- views
 
@@ -218,18 +180,14 @@ under_within t spec most shown debugged text quotes h k s d = grind arith
 unsigned_within : (o : Option NumberForm) (spec : Spec) (n more : ℕ) → n < 2 ^ 128
     → HasAtMost (max (unwrap_or spec.width 0) (max (most_number o spec) more))
     (in_form o (λ form. number_text form spec false n))
-unsigned_within None spec n more h = tt
-unsigned_within (Some form) spec n more h =
-    omega (arith, number_within form spec false n (front_within form spec) h)
+unsigned_within o spec n more h = grind (arith, number_within, length-append, sign_within)
 
 signed_within : (o : Option NumberForm) (spec : Spec) (z : ℤ) (bits : Bits) (more : ℕ)
     → FitsSigned (integer_width bits) z
     → HasAtMost (max (unwrap_or spec.width 0) (max (most_number o spec) more))
     (in_form o (λ form. number_text form spec (has_minus form z) (magnitude form z bits)))
-signed_within None spec z bits more h = tt
-signed_within (Some form) spec z bits more h =
-    let within = magnitude_within form z bits h in
-    omega (arith, number_within form spec _ _ (signed_front_within form spec z) within)
+signed_within o spec z bits more h =
+    grind (arith, distance_within, twos_complement_below, number_within, length-append, sign_within)
 
 pub view_within : (t : Trait) (spec : Spec) (most : ℕ) (shown : Shown)
     → IsShownWithin most shown → HasAtMost (most_written t spec most) (view_text shown t spec)
@@ -260,8 +218,7 @@ view_within t spec most _ h = tt
 pub written_grows : (t : Trait) (spec : Spec) (few many : ℕ) → few ≤ many
     → most_written t spec few ≤ most_written t spec many
 unfolding most_written
-written_grows t spec few many h =
-    let more : most_text t few ≤ most_text t many = grind arith in omega arith
+written_grows t spec few many h = grind arith
 
 -- ---- as the code counts
 

@@ -17,11 +17,6 @@ pub before_within : (alignment : Alignment) (missing unset : ℕ) → unset ≤ 
     fill_before alignment missing unset ≤ missing
 before_within alignment missing unset h = grind arith
 
--- a width is a `usize`, so a count of characters may stop at the greatest
-missing_capped : (spec : Spec) (count total : ℕ) → unwrap_or spec.width 0 < 2 ^ 64 →
-    count ≡ min total (2 ^ 64 - 1) → missing_to spec count ≡ missing_to spec total
-missing_capped spec count total w e = omega arith
-
 -- the parts of a number, written in order, are its padded text
 pub number_parts : (spec : Spec) (sign prefix head tail : List ℕ)
     (count before padding trailing after : ℕ) →
@@ -34,7 +29,7 @@ pub number_parts : (spec : Spec) (sign prefix head tail : List ℕ)
     ≡ padded_number spec (sign ++ prefix) (head ++ (replicate trailing 48 ++ tail))
 unfolding padded_number
 number_parts spec sign prefix head tail count before padding trailing after n l =
-    grind (arith, missing_capped, append-nil, append_assoc)
+    grind (arith, append-nil, append_assoc)
 
 -- a number under the zero flag, written from its end to its front
 pub zero_padded : (spec : Spec) (front body : List ℕ) (missing fill : ℕ) → spec.zero ≡ true →
@@ -57,14 +52,13 @@ fill_padded spec front body missing before fill z f e b = grind (arith, append_a
 pub nothing_padded : (spec : Spec) (front body : List ℕ) → spec.zero ≡ false →
     0 ≡ missing_to spec (length front + length body) → front ++ body ≡ padded_number spec front body
 unfolding padded_number
-nothing_padded spec front body z m =
-    grind (arith, before_within spec.alignment 0 0, append-nil)
+nothing_padded spec front body z m = grind (arith, before_within, append-nil)
 
 -- a number without a width
 pub unpadded : (spec : Spec) (front body : List ℕ) → spec.width ≡ None →
     front ++ body ≡ padded_number spec front body
 unfolding padded_number
-unpadded spec front body w = grind (arith, before_within spec.alignment 0 0, append-nil)
+unpadded spec front body w = grind (arith, before_within, append-nil)
 
 -- a number that is written by its digits alone, after a minus if it is negative
 pub bare_number : (spec : Spec) (negative : Bool) (n : ℕ) → spec.width ≡ None →
@@ -78,8 +72,7 @@ pub bare_body : (spec : Spec) (negative : Bool) (body : List ℕ) → spec.width
     spec.zero ≡ false → spec.sign ≡ NoSign →
     padded_number spec (sign_text negative spec.sign) body ≡ sign_text negative NoSign ++ body
 unfolding padded_number
-bare_body spec negative body w z s =
-    rw s (sym (nothing_padded spec (sign_text negative NoSign) body z (rw w (omega arith))))
+bare_body spec negative body w z s = grind (arith, nothing_padded)
 
 pub ruleset bare_texts = (bare_number, bare_body)
 

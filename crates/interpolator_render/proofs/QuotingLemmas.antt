@@ -45,7 +45,7 @@ plain_chars f (c ∷ cs) wide plain =
 pub plain_run : (f : ℕ → List ℕ) (run : List ℕ) → ((c : ℕ) → 128 ≤ c → f c ≡ c ∷ []) → IsUtf8 run →
     ((k : ℕ) → k < length run → f (get_or run k 0) ≡ get_or run k 0 ∷ []) →
     flat_map f (chars run) ≡ chars run
-plain_run f run wide u plain = plain_chars f (chars run) wide (rw (encodes-chars run u) plain)
+plain_run f run wide u plain = grind (arith, plain_chars, encodes-chars)
 
 -- ---- the text up to a place
 
@@ -73,8 +73,7 @@ run_plain : (f : ℕ → List ℕ) (text : List ℕ) (start index k : ℕ) → s
     ((j : ℕ) → start ≤ j → j < index → f (get_or text j 0) ≡ get_or text j 0 ∷ []) →
     k < length (slice_range text start index) →
     f (get_or (slice_range text start index) k 0) ≡ get_or (slice_range text start index) k 0 ∷ []
-run_plain f text start index k s l plain h =
-    grind (arith, length-take, get_or-take, get_or-drop, plain (start + k))
+run_plain f text start index k s l plain h = grind (arith, length-take, get_or-take, get_or-drop)
 
 -- a run of characters that are written as they are, and one ASCII character after it
 pub run_more : (f : ℕ → List ℕ) (text : List ℕ) (start index : ℕ) →

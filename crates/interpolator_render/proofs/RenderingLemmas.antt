@@ -1,5 +1,6 @@
 -- What a text is without options, and what `render` returns for what a writer returned.
-use Rattle.std.proofs.Common.{◌≡◌, ℕ, List, refl, Result, Ok, Err, None, Some, ℤ}
+use Rattle.std.proofs.Common.{rules}
+use Rattle.std.proofs.Common.{◌≡◌, ℕ, List, refl, Result, None, Some, ℤ}
 use Rattle.std.proofs.Common.{◌++◌, ◌∙◌, ap, append-nil, arith, false}
 use Rattle.interpolator_render.specs.declared.number_form.NumberForm.{NumberForm}
 use Rattle.interpolator_render.specs.declared.number_form.NumberForm.TheVariants.{Digits as InDigits}
@@ -24,16 +25,14 @@ use Rattle.interpolator_render.proofs.NumberLemmas.{bare_number, before_within}
 pub displayed_as_it_is : (spec : Spec) (text : List ℕ) → spec.precision ≡ None →
     spec.width ≡ None → displayed_text spec text ≡ text
 unfolding padded_text
-displayed_as_it_is spec text p w =
-    grind (arith, before_within spec.alignment 0 0, append-nil)
+displayed_as_it_is spec text p w = grind (arith, before_within, append-nil)
 
 -- what a writer returned is what `render` returns
 pub renders_puts : (old new : Written) (text : List ℕ) (answer : Result (Unit {0}) Refusal)
     (meaning : ViewText) (result : Result (Unit {0}) RenderFault) →
     meaning ≡ has_text text → result ≡ render_answer answer → Puts old text answer new →
     Renders meaning old result new
-renders_puts old new text (Ok x) meaning result e f p = rw (e, f) p
-renders_puts old new text (Err refusal) meaning result e f p = rw (e, f) p.part
+renders_puts old new text answer meaning result e f p = grind arith
 
 pub signed_text : (z : ℤ) (bits : Bits) (t : Trait) (spec : Spec) (form : NumberForm) →
     number_form t spec.hex_debug ≡ Some form →
@@ -52,7 +51,7 @@ unsigned_text n t spec form e = rw e refl
 
 pub plain_text : (text : List ℕ) → view_text (some_text text) Display unset_spec ≡ has_text text
 unfolding view_text
-plain_text text = ap has_text (displayed_as_it_is unset_spec text refl refl)
+plain_text text = search (rules, displayed_as_it_is)
 
 pub plain_unsigned : (n : ℕ) →
     view_text (unsigned_number n) Display unset_spec ≡ has_text (digit_text 10 false n)

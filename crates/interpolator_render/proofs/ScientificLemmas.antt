@@ -1,6 +1,7 @@
 -- What exponent form shows of a number, found by powers of ten and by remainders.
-use Rattle.std.proofs.Common.{◌≡◌, ◌≢◌, ℕ, ◌<◌, ◌≤◌, ◌+◌, ◌/◌, ◌%◌, ◌^◌, false, get_or, refl, sym}
-use Rattle.std.proofs.Common.{arith, inl, inr, eqb, eqb→eq, eq-zero-or-pos}
+use Rattle.std.proofs.Common.{rules}
+use Rattle.std.proofs.Common.{◌≡◌, ◌≢◌, ℕ, ◌<◌, ◌≤◌, ◌+◌, ◌/◌, ◌%◌, ◌^◌, false, get_or, sym}
+use Rattle.std.proofs.Common.{arith, eqb, eqb→eq, eq-zero-or-pos}
 use Rattle.interpolator_render.specs.declared.scientific.TheConstants.{POWERS}
 use Rattle.interpolator_render.specs.Digits.{digit_text}
 use Rattle.interpolator_render.specs.Exponent.{exponent_of, significant_digits}
@@ -17,11 +18,7 @@ power_at i h = eqb→eq _ _ (at_below (λ n. eqb (get_or POWERS n 0) (10 ^ n)) 3
 
 -- the exponent between two powers
 pub exponent_found : (n e : ℕ) → (0 < e → 10 ^ e ≤ n) → n < 10 ^ (e + 1) → e ≡ exponent_of n
-exponent_found n e low high = elim (eq-zero-or-pos e) [
-  | inl none ↦ let few : n < 10 = rw none at high in
-      let one = one_count 10 n false (omega arith) few in omega arith
-  | inr some ↦ let count = digits_between n e (low some) high in omega arith
-]
+exponent_found n e low high = search (rules, eq-zero-or-pos, one_count, digits_between)
 
 -- ---- the zeros at the end
 
@@ -36,6 +33,6 @@ pub trim_done : (n : ℕ) → 10 ≤ n → n % 10 ≢ 0 →
 trim_done n h z = grind (arith, digit_text_step, trimmed_other, glyph_some)
 
 pub trim_short : (n : ℕ) → n < 10 → digit_text 10 false n ≡ significant_digits (digit_text 10 false n)
-trim_short n h = rw (digit_text_one 10 n false (omega arith) h) refl
+trim_short n h = grind (arith, digit_text_one)
 
 pub ruleset trims = (trim_zero, trim_done, trim_short)

@@ -1,10 +1,10 @@
 -- A quoted text, read back, is the text.
 use Rattle.std.proofs.Common.{eq-zero-or-pos, append_assoc, flat_map, Option}
-use Rattle.std.proofs.Common.{false, arith, rules, codes, true, List, ◌++◌, ◌==◌, refl, Some}
-use Rattle.std.proofs.Common.{None, ◌≡◌, ◌≢◌, ◌<◌, ◌+◌, ◌*◌, inl, inr, ◌∷◌, map, ◌∙◌, [], ap, ℕ}
+use Rattle.std.proofs.Common.{false, arith, codes, List, ◌++◌, ◌==◌, refl, Some}
+use Rattle.std.proofs.Common.{None, ◌≡◌, ◌≢◌, ◌<◌, ◌+◌, ◌*◌, ◌∷◌, map, [], ℕ}
 use Rattle.std.specs.Char.{digit_value}
 use Rattle.std.specs.Fmt.{digit_glyph}
-use Rattle.std.specs.Int.Digits.{digits_of, AllBelowBase}
+use Rattle.std.specs.Int.Digits.{AllBelowBase}
 use Rattle.std.specs.Str.Parse.{digits_value, digits_value_after}
 use Rattle.std.proofs.lemmas.Bool.Decides.{nat_tests}
 use Rattle.std.proofs.lemmas.Int.Digits.{all_below_base_digits_of}
@@ -22,7 +22,7 @@ record StandsForItself (quote : ℕ) : Type 0 where
   own : escape_meaning quote ≡ quote
 
 quotes_stand : (quote : ℕ) → IsQuote quote → StandsForItself quote
-quotes_stand quote q = grind (arith, q)
+quotes_stand quote q = grind arith
 
 -- ---- numbers
 
@@ -41,11 +41,8 @@ number_read quote n (d ∷ ds) rest a =
 text_read : (quote n : ℕ) (rest : List ℕ) →
     unquoted_from quote (in_number 0) (digit_text 16 false n ++ 125 ∷ rest)
     ≡ preceded_by (digits_value 16 (digit_text 16 false n)) (unquoted_from quote at_character rest)
-text_read quote n rest = elim (eq-zero-or-pos n) [
-  | inl e ↦ rw (digit_text_zero 16 false n e) refl
-  | inr h ↦ rw (digit_text_map 16 n false h)
-      (number_read quote 0 (digits_of 16 n) rest (all_below_base_digits_of 16 n (omega arith)))
-]
+unfolding digit_text
+text_read quote n rest = grind (arith, nat_tests, number_read, all_below_base_digits_of)
 
 -- a character that is written after a backslash by its number
 code_read : (quote c : ℕ) (rest : List ℕ) → StandsForItself quote →
@@ -66,26 +63,21 @@ none_read quote c rest p q s e = grind (arith, nat_tests, code_read)
 letter_meaning : (quote c letter : ℕ) → StandsForItself quote
     → escape_letter quote c ≡ Some letter →
     ((letter == 117) ≡ false) × (escape_meaning letter ≡ c)
-letter_meaning quote c letter p e = let l = p.letter in let o = p.own in
-    (grind (arith, nat_tests), grind (arith, nat_tests))
+letter_meaning quote c letter p e = grind (arith, nat_tests)
 
 escaped_read : (quote c : ℕ) (rest : List ℕ) (letter : Option ℕ) → StandsForItself quote →
     escape_letter quote c ≡ letter → unquoted_from quote at_character (escape_of quote c ++ rest)
     ≡ preceded_by c (unquoted_from quote at_character rest)
-escaped_read quote c rest None p e =
-    none_read quote c rest p (λ s. grind (arith, nat_tests)) (λ s. grind (arith, nat_tests)) e
-escaped_read quote c rest (Some letter) p e = let m = letter_meaning quote c letter p e in
-    rw (e, p.slash, m.0, m.1) refl
+escaped_read quote c rest letter p e = grind (arith, none_read, nat_tests, letter_meaning)
 
 -- ---- texts
 
 inside_read : (quote : ℕ) (text after : List ℕ) → StandsForItself quote →
     unquoted_from quote at_character (flat_map (escape_of quote) text ++ quote ∷ after)
     ≡ record { text = text; after = after }
-inside_read quote [] after p = let t : (quote == quote) ≡ true = search rules in rw t refl
+inside_read quote [] after p = grind arith
 inside_read quote (c ∷ cs) after p =
-    rw append_assoc (escaped_read quote c (flat_map (escape_of quote) cs ++ quote ∷ after) _ p refl
-    ∙ ap (preceded_by c) (inside_read quote cs after p))
+    grind (arith, append_assoc, escaped_read, flat_map, inside_read quote cs after p)
 
 pub quoted_read : (quote : ℕ) (text after : List ℕ) → IsQuote quote →
     text_in_quotes quote (quotation quote text ++ after) ≡ Some (record { text = text; after = after })
