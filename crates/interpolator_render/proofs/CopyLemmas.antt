@@ -19,9 +19,7 @@ use Rattle.interpolator_render.proofs.LayoutLemmas.{IsAscii-replicate, refuses_i
 -- copies of a character are UTF-8
 pub IsUtf8-copies : (n c : ℕ) → IsScalar c → IsUtf8 (encode_utf8_all (replicate n c))
 IsUtf8-copies zero c s = IsUtf8-nil
-IsUtf8-copies (suc n) c s =
-    IsUtf8-append (encode_utf8 c) (encode_utf8_all (replicate n c)) (IsUtf8-encode c s)
-    (IsUtf8-copies n c s)
+IsUtf8-copies (suc n) c s = IsUtf8-append _ _ (IsUtf8-encode c s) (IsUtf8-copies n c s)
 
 pub chars-copies : (n c : ℕ) → IsScalar c →
     chars (encode_utf8_all (replicate n c)) ≡ replicate n c
@@ -33,16 +31,13 @@ copies_cut : (c count : ℕ) → count ≤ 64 →
     ≡ encode_utf8_all (replicate count c) ++ encode_utf8_all (replicate (64 - count) c)
 copies_cut c count few =
     let all = replicate-append-replicate count (64 - count) c in
-    let some : count + (64 - count) ≡ 64 = omega arith in
-    rw (← encodes-append, all, some) refl
+    grind (arith, encodes-append (replicate count c), all)
 
 -- the first copies of a run
 pub first_copies : (c count : ℕ) → count ≤ 64 →
     slice_range (encode_utf8_all (replicate 64 c)) 0 (count * len_utf8 c)
     ≡ encode_utf8_all (replicate count c)
-first_copies c count few =
-    let size : count * len_utf8 c - 0 ≡ count * len_utf8 c = omega arith in
-    rw (size, copies_cut c count few) (take_at _ _ _ (bytes_of_copies count c))
+first_copies c count few = grind (arith, copies_cut c count few, take_at, bytes_of_copies)
 
 -- and it may be cut after them
 pub copies_boundary : (c count : ℕ) → IsScalar c → count ≤ 64 →
@@ -55,17 +50,11 @@ copies_boundary c count s few = rw (← bytes_of_copies count c)
 pub few_bytes : (count c : ℕ) → count ≤ 64 → count * len_utf8 c ≤ 256
 few_bytes count c few = mul-le count (len_utf8 c) 64 4 few (len_utf8_bounds c).1
 
--- the copies that are done, and those that come
-pub copies_split : (count left k c : ℕ) → k ≤ left → left ≤ count → replicate (count - left) c
-    ++ replicate k c ≡ replicate (count - (left - k)) c
-copies_split count left k c h l = grind (arith, replicate-append-replicate)
-
 -- a piece of a run was written
 pub copies_more : (a b d : Written) (count left k c : ℕ) → k ≤ left → left ≤ count →
     Appends a (replicate (count - left) c) b → Appends b (replicate k c) d →
     Appends a (replicate (count - (left - k)) c) d
-copies_more a b d count left k c h l p q = rw (← copies_split count left k c h l)
-    (appends_both a b d _ _ p q)
+copies_more a b d count left k c h l p q = grind (arith, append_assoc, replicate-append-replicate)
 
 -- a piece of a run was refused
 pub copies_stop : (a b d : Written) (count left k c done taken all : ℕ) → k ≤ left → left ≤ count →
@@ -74,9 +63,9 @@ pub copies_stop : (a b d : Written) (count left k c done taken all : ℕ) → k 
     Appends a (replicate (count - left) c) b → RefusesLong b (replicate k c) taken d →
     RefusesLong a (replicate count c) all d
 copies_stop a b d count left k c done taken all m l n e p q =
-    let whole : replicate (count - (left - k)) c ++ replicate (left - k) c ≡ replicate count c =
-    grind (arith, replicate-append-replicate) in
-    rw (← whole, ← copies_split count left k c m l)
+    let whole : (replicate (count - left) c ++ replicate k c) ++ replicate (left - k) c
+    ≡ replicate count c = grind (arith, replicate-append-replicate) in
+    rw (← whole)
     (refuses_in_first a d _ _ all (refuses_in_second a b d _ _ done taken all n e p q))
 
 -- a text over the places of copies
@@ -97,25 +86,18 @@ block_front : (fill before after : ℕ) (text : List ℕ) → before + length te
     ≡ between_fill fill before after text
 block_front fill before after text h =
     let rest = replicate (64 - (before + length text)) fill in
-    let size : before + length text + after ≡ length (replicate before fill) + (length text + after)
-    = omega (arith, length-replicate before fill) in
-    rw (
-      size,
-      take-append-add (replicate before fill) (text ++ rest) (length text + after),
-      take-append-add text rest after,
-      take-replicate after (64 - (before + length text)) fill (omega arith),
-    ) refl
+    let front = take-append-add (replicate before fill) (text ++ rest) (length text + after) in
+    let next = take-append-add text rest after in grind (arith, length-replicate, take-replicate)
 
 -- they are a text
 pub block_utf8 : (fill before after : ℕ) (text block : List ℕ) → fill < 128 → IsUtf8 text →
     before + length text + after ≤ 64 →
     block ≡ replicate before fill ++ (text ++ replicate (64 - (before + length text)) fill) →
     IsUtf8 (take (before + length text + after) block)
-block_utf8 fill before after text block a u h e = rw (e, block_front fill before after text h)
-    (IsUtf8-append (replicate before fill) _
-    (IsUtf8-from_ascii _ (IsAscii-replicate before fill a))
-    (IsUtf8-append text (replicate after fill) u
-    (IsUtf8-from_ascii _ (IsAscii-replicate after fill a))))
+block_utf8 fill before after text block a u h e =
+    let copies = λ (n : ℕ). IsUtf8-from_ascii _ (IsAscii-replicate n fill a) in
+    rw (e, block_front fill before after text h)
+    (IsUtf8-append _ _ (copies before) (IsUtf8-append text _ u (copies after)))
 
 -- with these characters
 pub block_chars : (fill before after : ℕ) (text block : List ℕ) → fill < 128 → IsUtf8 text →
@@ -124,13 +106,4 @@ pub block_chars : (fill before after : ℕ) (text block : List ℕ) → fill < 1
     chars (take (before + length text + after) block)
     ≡ between_fill fill before after (chars text)
 block_chars fill before after text block a u h e =
-    let front = IsAscii-replicate before fill a in
-    let back = IsAscii-replicate after fill a in
-    rw (
-      e,
-      block_front fill before after text h,
-      chars-append (replicate before fill) (text ++ replicate after fill) (IsUtf8-from_ascii _ front),
-      chars-append text (replicate after fill) u,
-      chars-IsAscii (replicate before fill) front,
-      chars-IsAscii (replicate after fill) back,
-    ) refl
+    grind (arith, block_front, chars-append, IsUtf8-from_ascii, chars-IsAscii, IsAscii-replicate)

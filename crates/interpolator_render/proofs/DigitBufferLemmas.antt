@@ -30,29 +30,13 @@ pub IsBuffered-grows : (old new piece : List ℕ) (fill from start end : ℕ) �
     drop from new ≡ piece ++ drop start old →
     IsBuffered old fill start end → IsBuffered new fill from end
 IsBuffered-grows old new piece fill from start end a s t e row =
-    let high = row.ordered in
-    let first : take from old ≡ take from (take start old) = sym
-    (take-take from start old (omega arith)) in
-    record {
-      ordered = omega arith;
-      within = row.within;
-      fill_ascii = row.fill_ascii;
-      ascii = rw (← take-append-drop from new, t, e)
-          (IsAscii-append (take from old) (piece ++ drop start old)
-          (IsAscii-take old from row.ascii) (IsAscii-append piece (drop start old) a
-          (IsAscii-drop old start row.ascii)));
-      filled_before = t ∙ (first ∙ (ap (take from) row.filled_before
-          ∙ take-replicate from start fill (omega arith)));
-      filled_after =
-          let there : from + (length piece + (end - start)) ≡ end = omega arith in
-          let here : start + (end - start) ≡ end = omega arith in
-          ap (λ (k : ℕ). drop k new) (sym there)
-          ∙ (sym (drop-drop (length piece + (end - start)) from new)
-          ∙ (ap (drop (length piece + (end - start))) e
-          ∙ (drop-append-add piece (drop start old) (end - start)
-          ∙ (drop-drop (end - start) start old
-          ∙ (ap (λ (k : ℕ). drop k old) here ∙ row.filled_after)))));
-    }
+    let first = take-take from start old in
+    let there = drop-drop (length piece + (end - start)) from new in
+    let here = drop-drop (end - start) start old in
+    let ascii : IsAscii new = rw (← take-append-drop from new, t, e)
+    (IsAscii-append _ _ (IsAscii-take old from row.ascii) (IsAscii-append piece _ a
+    (IsAscii-drop old start row.ascii))) in
+    grind (arith, take-replicate, drop-append-add)
 
 -- one byte more
 pub byte_in_front : (old : List ℕ) (start byte : ℕ) → 1 ≤ start → start ≤ length old →
@@ -64,12 +48,8 @@ pub copies_in_front : (old : List ℕ) (fill count start end : ℕ) → count �
     start ≤ length old → IsBuffered old fill start end → drop (start - count) old ≡ replicate count fill
     ++ drop start old
 copies_in_front old fill count start end h l row =
-    let size = length-take-le start old l in
-    let rest : start - (start - count) ≡ count = omega arith in
-    let before : drop (start - count) (take start old) ≡ replicate count fill =
-    rw (row.filled_before, drop-replicate (start - count) start fill, rest) refl in
-    let split = drop-append-le (start - count) (take start old) (drop start old) (omega arith) in
-    grind (arith, take-append-drop, split, before)
+    let split = drop-append-le (start - count) (take start old) (drop start old) in
+    grind (arith, length-take-le, take-append-drop, drop-replicate)
 
 -- and after it
 pub row_grows_after : (old : List ℕ) (fill count start end : ℕ) → end + count ≤ 128 →
@@ -77,35 +57,14 @@ pub row_grows_after : (old : List ℕ) (fill count start end : ℕ) → end + co
     buffer_row old fill start (end + count) ≡ put_after (replicate count fill)
     (buffer_row old fill start end)
 row_grows_after old fill count start end h row =
-    let high = row.ordered in
-    let n = length-replicate count fill in
-    let there : start + (end - start) ≡ end = omega arith in
-    let long : end + count - start ≡ end - start + count = omega arith in
-    let room : 128 - (end + count) ≡ 128 - end - length (replicate count fill) = omega arith in
-    let after : take count (drop (end - start) (drop start old)) ≡ replicate count fill =
-    ap (take count) (drop-drop (end - start) start old
-    ∙ (ap (λ (k : ℕ). drop k old) there ∙ row.filled_after))
-    ∙ take-replicate count (128 - end) fill (omega arith) in
-    let text : slice_range old start (end + count) ≡ slice_range old start end
-    ++ replicate count fill =
-    ap (λ (k : ℕ). take k (drop start old)) long
-    ∙ (take-add (end - start) count (drop start old)
-    ∙ ap (λ (x : List ℕ). slice_range old start end ++ x) after) in
-    rw (text, room) refl
+    let there = drop-drop (end - start) start old in
+    let parts = take-add (end - start) count (drop start old) in
+    grind (arith, length-replicate, take-replicate)
 
 pub IsBuffered-grows_after : (old : List ℕ) (fill count start end : ℕ) → end + count ≤ 128 →
     IsBuffered old fill start end → IsBuffered old fill start (end + count)
-IsBuffered-grows_after old fill count start end h row = record {
-  ordered = let high = row.ordered in omega arith;
-  within = h;
-  fill_ascii = row.fill_ascii;
-  ascii = row.ascii;
-  filled_before = row.filled_before;
-  filled_after = sym (drop-drop count end old)
-      ∙ (ap (drop count) row.filled_after ∙ (drop-replicate count (128 - end) fill
-      ∙ ap (λ (k : ℕ). replicate k fill) (let e : 128 - end - count
-      ≡ 128 - (end + count) = omega arith in e)));
-}
+IsBuffered-grows_after old fill count start end h row =
+    grind (arith, drop-drop count end old, drop-replicate count (128 - end) fill)
 
 -- an empty row
 pub new_row : (fill : ℕ) → fill < 128 → IsBuffered (replicate 128 fill) fill 88 88

@@ -60,14 +60,10 @@ pub ruleset digit_laws = (digits_read, first_digit)
 
 pub exponent_bounds_of : (n : ℕ) → 0 < n → (10 ^ exponent_of n ≤ n) × (n < 10 ^ (exponent_of n + 1))
 exponent_bounds_of n h =
-    let size : exponent_of n ≡ length (digits_of 10 n) - 1 =
-    rw (digit_text_map 10 n false h, length-map) refl in
-    let step = length-digits_of_step 10 n (omega arith) h in
-    let next : length (digits_of 10 n) - 1 + 1 ≡ length (digits_of 10 n) = omega arith in
     let low = all_below_base_digits_of 10 n (omega arith) in
     let above = rw (number_digits_of 10 n (omega arith)) at (number_lt 10 (digits_of 10 n) low) in
     let few = length-digits_of-le 10 (length (digits_of 10 n) - 1) n (omega arith) in
-    rw (size, next) (grind (arith, few), above)
+    grind (arith, digit_text_map, length-map, length-digits_of_step, few)
 
 -- zero has one digit
 pub exponent_of_zero : exponent_of 0 ≡ 0
@@ -123,19 +119,14 @@ trimmed_tail [] = (0, refl)
 trimmed_tail (digit ∷ digits) = let after = less_zeros_tail digits in
     (after.0, ap (λ (x : List ℕ). digit ∷ x) after.1)
 
-last_after : (digit : ℕ) (rest : List ℕ) → 0 < length rest →
-    get_or rest (length rest - 1) 0 ≢ 48 →
-    get_or (digit ∷ rest) (length (digit ∷ rest) - 1) 0 ≢ 48
-last_after digit rest some last = grind arith
-
 less_zeros_last : (digits : List ℕ) → 0 < length (less_zeros digits) →
     get_or (less_zeros digits) (length (less_zeros digits) - 1) 0 ≢ 48
 less_zeros_last [] some = absurd (omega arith)
-less_zeros_last (digit ∷ digits) some = grind (arith, last_after, nat_tests, less_zeros_last digits)
+less_zeros_last (digit ∷ digits) some = grind (arith, nat_tests, less_zeros_last digits)
 
 pub trimmed_last : (digits : List ℕ) → 1 < length (significant_digits digits) →
     get_or (significant_digits digits) (length (significant_digits digits) - 1) 0 ≢ 48
-trimmed_last digits more = grind (arith, last_after, less_zeros_last)
+trimmed_last digits more = grind (arith, less_zeros_last)
 
 pub ruleset trimmed_laws = (trimmed_tail, trimmed_last)
 
@@ -167,14 +158,10 @@ remainder_below z m h = grind arith
 pub twos_complement_below : (z : ℤ) (bits : Bits) → twos_complement z bits < 2 ^ bit_count bits
 twos_complement_below z bits = grind (arith, remainder_below, pow_pos)
 
-minus_plus : (turned rest n : ℕ) → turned ≡ n + 1 + rest → negsuc n ≡ neg_ℤ (pos turned) +ℤ pos rest
-minus_plus turned rest n e = omega (arith, ints)
-
 pub remainder_congruent : (z : ℤ) (m : ℕ) → 0 < m →
     (turns : ℤ) × (z ≡ (turns *ℤ pos m) +ℤ pos (remainder z m))
-remainder_congruent (pos n) m h = (pos (n / m), ap pos (omega arith))
-remainder_congruent (negsuc n) m h =
-    (negsuc (n / m), minus_plus (suc (n / m) * m) (m - 1 - n % m) n (omega arith))
+remainder_congruent (pos n) m h = (pos (n / m), grind arith)
+remainder_congruent (negsuc n) m h = (negsuc (n / m), omega (arith, ints))
 
 pub twos_complement_congruent : (z : ℤ) (bits : Bits) →
     (turns : ℤ) × (z ≡ (turns *ℤ pos (2 ^ bit_count bits)) +ℤ pos (twos_complement z bits))

@@ -57,9 +57,7 @@ few_digits : (n : ℕ) → n < 2 ^ 128 → exponent_of n ≤ 38
 few_digits n h = grind (arith, decimal_digits)
 
 trimmed_within : (digits : List ℕ) → length (significant_digits digits) ≤ length digits
-trimmed_within digits =
-    let tail = trimmed_tail digits in
-    let all = ap length tail.1 ∙ length-append (significant_digits digits) _ in omega arith
+trimmed_within digits = grind (arith, trimmed_tail digits, length-append)
 
 ruleset form_counts =
     (length-append, length-with_point, trimmed_within, decimal_digits, scientific_count)
@@ -127,19 +125,13 @@ unfolding decimal_exponent_text scientific
 scaled_within upper precision scale units h s =
     grind (arith, form_counts, few_digits, length-scaled_tail, exponent_within)
 
--- without precision the text is one that is counted among the texts
-plain_most : (precision : Option ℕ) (scale units most : ℕ) → units < 2 ^ 128
-    → length (decimal_text None scale units) < most
-    → length (decimal_text precision scale units) + 1 ≤ max (most_plain precision) most
-plain_most precision scale units most h l = grind (arith, plain_within)
-
 decimal_within : (t : Trait) (spec : Spec) (negative : Bool) (scale units number most : ℕ)
     → units < 2 ^ 128 → scale < 2 ^ 32 → length (decimal_text None scale units) < most
     → HasAtMost (max (unwrap_or spec.width 0)
     (max number (max (most_decimal t spec.precision) (most_text t most))))
     (padded_decimal spec negative (decimal_body t spec.precision scale units))
 decimal_within t spec negative scale units number most h s l =
-    grind (arith, plain_most, scaled_within, padded_number_count, sign_within)
+    grind (arith, plain_within, scaled_within, padded_number_count, sign_within)
 
 -- ---- texts
 
@@ -165,18 +157,6 @@ quoted_within quote text most h = grind (arith, length-append, all_escaped)
 
 -- ---- views
 
--- a text that is shown under display and debug alone: under debug a number may be longer than any
--- character in quotes
-under_within : (t : Trait) (spec : Spec) (most shown debugged : ℕ) (text quotes : List ℕ)
-    → length text ≤ max (unwrap_or spec.width 0) (max shown 5)
-    → length quotes ≤ max (unwrap_or spec.width 0) (max debugged 8)
-    → shown ≤ most → debugged ≤ most * 6 + 2
-    → HasAtMost (max (unwrap_or spec.width 0)
-    (max (most_number (number_form t spec.hex_debug) spec)
-    (max (most_decimal t spec.precision) (most_text t most))))
-    (under t text quotes)
-under_within t spec most shown debugged text quotes h k s d = grind arith
-
 unsigned_within : (o : Option NumberForm) (spec : Spec) (n more : ℕ) → n < 2 ^ 128
     → HasAtMost (max (unwrap_or spec.width 0) (max (most_number o spec) more))
     (in_form o (λ form. number_text form spec false n))
@@ -196,23 +176,15 @@ view_within t spec most (signed_number z bits) h =
     signed_within (number_form t spec.hex_debug) spec z bits _ h
 view_within t spec most (unsigned_number n) h =
     unsigned_within (number_form t spec.hex_debug) spec n _ h
-view_within t spec most (truth_value truth) h =
-    let text = displayed_within spec (truth_text truth) 5 (grind arith) in
-    under_within t spec most 0 0 _ _ (omega arith) (omega arith) (omega arith) (omega arith)
+view_within t spec most (truth_value truth) h = grind (arith, displayed_within)
 view_within t spec most (decimal_number units scale) h =
     decimal_within t spec (is_negative units) scale (distance_from_zero units)
     _ most (distance_within units B128 h.0) h.1 h.2
 view_within t spec most (one_character c) h =
-    let text = displayed_within spec (c ∷ []) 1 (omega arith) in
     let quotes = quoted_within single_quote (c ∷ []) 1 (omega arith) in
-    under_within t spec most 0 0 _ _ (omega arith) (omega arith) (omega arith) (omega arith)
-view_within t spec most (some_text text) h =
-    let shown = displayed_within spec text most h in
-    let quotes = quoted_within double_quote text most h in
-    under_within t spec most most (most * 6 + 2) _ _ (omega arith) (omega arith) (omega arith)
-    (omega arith)
-view_within t spec most (plain_text text) h =
-    let more : most ≤ most_text t most = grind arith in omega arith
+    grind (arith, displayed_within)
+view_within t spec most (some_text text) h = grind (arith, displayed_within, quoted_within)
+view_within t spec most (plain_text text) h = grind arith
 view_within t spec most _ h = tt
 
 pub written_grows : (t : Trait) (spec : Spec) (few many : ℕ) → few ≤ many

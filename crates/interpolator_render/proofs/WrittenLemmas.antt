@@ -70,16 +70,3 @@ chars_nonempty bytes u ne = at (chars bytes) (encodes-chars bytes u)
     at : (cs : List ℕ) → encode_utf8_all cs ≡ bytes → 0 < length cs
     at [] e = absurd (omega (arith, ap length e))
     at (c ∷ cs) e = omega arith
-
--- the room of a `String` for this many more bytes, by its characters
-pub ready_for : (after : List ℕ) (room count : ℕ) (refused refused_after : Bool)
-    (answer : Result (Unit {0}) Refusal) → IsUtf8 after →
-    OnOk answer ((refused_after ≡ refused) × (length after + count ≤ room)) →
-    OnOk answer (byte_count (chars after) + count ≤ room)
-ready_for after room count refused refused_after answer u h = grind (arith, encodes-chars)
-
--- and the lack of it
-pub lacks_room : (bytes : List ℕ) (room count : ℕ) (answer : Result (Unit {0}) Refusal) →
-    IsUtf8 bytes → OnErr answer (room < length bytes + count) →
-    OnErr answer (room < byte_count (chars bytes) + count)
-lacks_room bytes room count answer u h = grind (arith, encodes-chars)

@@ -1,14 +1,10 @@
-use Rattle.std.proofs.Common.{◌++◌, refl, replicate, chars}
+use Rattle.std.proofs.Common.{refl}
 use Rattle.interpolator_render.proofs.LayoutLemmas.{refuses_in_first, refuses_in_second}
 use Rattle.interpolator_render.proofs.copies.put_amid.Goals as goal
 
 pub returns-in-Err : goal.returns-in-Err
-returns-in-Err g c = refuses_in_first _ _ (replicate c.args.before c.args.run.c)
-    (chars c.args.text.now ++ replicate c.args.after c.args.run.c) _ c.in-Err.ensures
+returns-in-Err g c = refuses_in_first _ _ _ _ _ c.in-Err.ensures
 
 pub returns-in-Err-put_before : goal.returns-in-Err-put_before
-returns-in-Err-put_before g c =
-    refuses_in_second _ _ _ (replicate c.args.before c.args.run.c)
-    (chars c.args.text.now ++ replicate c.args.after c.args.run.c) _
-    c.in-Err-put_before.refusal.taken _ refl c.refused_after.ensures c.in_default.ensures
-    c.in-Err-put_before.ensures
+returns-in-Err-put_before g c = refuses_in_second _ _ _ _ _ _ _ _ refl c.refused_after.ensures
+    c.in_default.ensures c.in-Err-put_before.ensures

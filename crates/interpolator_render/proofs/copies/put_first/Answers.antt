@@ -1,6 +1,5 @@
-use Rattle.std.proofs.Common.{arith, rules}
-use Rattle.std.specs.Char.{IsScalar}
-use Rattle.interpolator_render.proofs.CopyLemmas.{chars-copies, few_bytes, copies_boundary}
+use Rattle.std.proofs.Common.{arith}
+use Rattle.interpolator_render.proofs.CopyLemmas.{chars-copies, copies_boundary, few_bytes}
 use Rattle.interpolator_render.proofs.CopyLemmas.{first_copies}
 use Rattle.interpolator_render.proofs.LayoutLemmas.{bytes_of_copies, puts_from_write}
 use Rattle.interpolator_render.proofs.WrittenLemmas.{whatever_limit}
@@ -10,15 +9,5 @@ pub range-requires-clause-end_boundary : goal.range-requires-clause-end_boundary
 range-requires-clause-end_boundary g c = grind (arith, copies_boundary)
 
 pub returns : goal.returns
-returns g c =
-    let s : IsScalar c.args.c = search rules in
-    let n = bytes_of_copies c.args.count c.args.c in
-    let few = few_bytes c.args.count c.args.c c.requires.few in
-    puts_from_write _ _ _ _ (omega arith)
-    (rw (
-      c.range.ensures.value,
-      c.requires.copies,
-      c.requires.unit,
-      first_copies c.args.c c.args.count c.requires.few,
-      chars-copies c.args.count c.args.c s,
-    ) at (whatever_limit _ _ _ _ _ _ c.write_str.ensures))
+returns g c = let few = few_bytes c.args.count c.args.c in
+    grind (arith, bytes_of_copies, puts_from_write, first_copies, chars-copies, whatever_limit)
