@@ -25,11 +25,7 @@ digits_between n places low high =
     let bounds = exponent_bounds_of n (omega arith) in
     let one = digit_text_some 10 n false (omega arith) in
     let most = length-digit_text-le 10 (places + 1) n false (omega arith) (omega arith) high in
-    elim (cases_lt (exponent_of n) places) [
-      | inl below ↦ let grows : 10 ^ (exponent_of n + 1) ≤ 10 ^ places = pow-le-pow_right
-          (omega arith) (omega arith) in absurd (omega (arith, bounds.1))
-      | inr enough ↦ omega arith
-    ]
+    grind (arith, cases_lt (exponent_of n) places, pow-le-pow_right)
 
 -- the nearest number of units lies between the powers that the quotient lies between
 nearest_within : (n unit low high count : ℕ) → 0 < unit → low * unit ≤ n → n < high * unit →
@@ -41,10 +37,7 @@ split_bounds : (n places rest exponent : ℕ) → places + rest ≡ exponent →
     n < 10 ^ (exponent + 1) →
     (10 ^ places * 10 ^ rest ≤ n) × (n < 10 ^ (places + 1) * 10 ^ rest)
 split_bounds n places rest exponent e low high =
-    let whole = sym (pow-add 10 places rest) ∙ ap (λ (k : ℕ). 10 ^ k) e in
-    let next : places + 1 + rest ≡ exponent + 1 = omega arith in
-    let more = sym (pow-add 10 (places + 1) rest) ∙ ap (λ (k : ℕ). 10 ^ k) next in
-    (omega arith, omega arith)
+    grind (arith, pow-add 10 places rest, pow-add 10 (places + 1) rest)
 
 next_power : (places : ℕ) → 10 ^ places < 10 ^ (places + 1)
 next_power places = grind (arith, common_steps, pow_some, pow-suc)
@@ -62,12 +55,7 @@ rounded_count places n h =
     let some = pow_some (exponent_of n - places) in
     let within = nearest_within n unit (10 ^ places) (10 ^ (places + 1)) (nearest n unit) some
     split.0 split.1 (nearest_is_nearest n unit some) in
-    elim (cases_eq (nearest n unit) (10 ^ (places + 1))) [
-      | inl carry ↦ let t : (nearest n unit == 10 ^ (places + 1)) ≡ true = search rules in
-          rw t (digits_between (10 ^ places) places (omega arith) (next_power places))
-      | inr none ↦ let f : (nearest n unit == 10 ^ (places + 1)) ≡ false = search rules in
-          rw f (digits_between (nearest n unit) places within.0 (omega (arith, none)))
-    ]
+    grind (arith, cases_eq (nearest n unit) (10 ^ (places + 1)), digits_between, next_power)
 
 -- with a precision there are exactly that many digits after the first
 pub scientific_count : (places n : ℕ) → length (scientific (Some places) n).digits ≡ places + 1
@@ -88,20 +76,14 @@ pub scientific_whole : (places n : ℕ) → exponent_of n ≤ places →
 scientific_whole places n h = grind (arith, value_of_zeros, digits_read, scientific_short)
 
 -- a carry raises the exponent by one
-carry_value : (places exponent : ℕ) → places < exponent → 10 ^ places * 10 ^ (exponent + 1 - places)
-    ≡ 10 ^ (places + 1) * 10 ^ (exponent - places)
-carry_value places exponent h =
-    let left = sym (pow-add 10 places (exponent + 1 - places)) in
-    let right = sym (pow-add 10 (places + 1) (exponent - places)) in
-    let same : places + (exponent + 1 - places) ≡ places + 1 + (exponent - places) = omega arith in
-    left ∙ (ap (λ (k : ℕ). 10 ^ k) same ∙ sym right)
-
 rounded_value : (places n exponent : ℕ) → places < exponent →
     (places ≤ (rounding places n exponent).exponent)
     × (digits_value 10 (rounding places n
     exponent).digits * 10 ^ ((rounding places n exponent).exponent - places)
     ≡ nearest n (10 ^ (exponent - places)) * 10 ^ (exponent - places))
-rounded_value places n exponent h = grind (arith, cases_eq, digits_read, carry_value)
+rounded_value places n exponent h =
+    let carried = pow-add 10 places (exponent + 1 - places) in
+    let whole = pow-add 10 (places + 1) (exponent - places) in grind (arith, cases_eq, digits_read)
 
 -- if it has more, they and the exponent make the nearest number of units
 pub scientific_rounded : (places n : ℕ) → places < exponent_of n →

@@ -16,10 +16,7 @@ use Rattle.interpolator_render.proofs.ExponentLemmas.{pow_some, pow_more, digit_
 -- ---- powers past every number of 128 bits
 
 pub wide_power : (k : ℕ) → 38 < k → 2 ^ 128 + 2 ^ 128 < 10 ^ k
-wide_power k h = let more = power_grows 10 39 k (omega arith) h in omega arith
-  where
-    power_grows : (base i j : ℕ) → 1 ≤ base → i ≤ j → base ^ i ≤ base ^ j
-    power_grows base i j b h = pow-le-pow_right b h
+wide_power k h = let more : 10 ^ 39 ≤ 10 ^ k = pow-le-pow_right (omega arith) h in omega arith
 
 pub rounded_away : (n k : ℕ) → n < 2 ^ 128 → 38 < k → 0 ≡ nearest n (10 ^ k)
 rounded_away n k h w = grind (arith, wide_power, div-eq_of_lt, mod-eq_of_lt, nat_lt)
@@ -57,9 +54,6 @@ pub length-placed : (places part : ℕ) → part < 10 ^ places → length (place
 length-placed places part h =
     grind (arith, length-digit_text-le, length-append, length-replicate, placed_some)
 
-zeros_after : (places count : ℕ) → placed (places + count) 0 ≡ placed places 0 ++ replicate count 48
-zeros_after places count = grind (arith, zeros_placed, replicate-append-replicate)
-
 digits_after : (places count part : ℕ) → 0 < part → 0 < places →
     placed (places + count) (part * 10 ^ count) ≡ placed places part ++ replicate count 48
 digits_after places count part some h =
@@ -68,20 +62,11 @@ digits_after places count part some h =
 -- the digits after the point, and zeros after them, are those of the number with so many zeros
 pub placed_more : (places count part : ℕ) → part < 10 ^ places →
     placed (places + count) (part * 10 ^ count) ≡ placed places part ++ replicate count 48
-placed_more places count part h = elim (eq-zero-or-pos part) [
-  | inl e ↦ let none : part * 10 ^ count ≡ 0 = rw e (omega arith) in
-      rw (none, e) (zeros_after places count)
-  | inr some ↦ elim (eq-zero-or-pos places) [
-    | inl none ↦ absurd (let low = rw none at h in omega arith)
-    | inr more ↦ digits_after places count part some more
-  ]
-]
+placed_more places count part h =
+    let cases = eq-zero-or-pos part in let whole = eq-zero-or-pos places in
+    grind (arith, zeros_placed, replicate-append-replicate, digits_after)
 
 -- ---- the whole
-
-split_plain : (count places : ℕ) →
-    split_text (count / 10 ^ places) (count % 10 ^ places) places 0 ≡ units_text places count
-split_plain count places = grind (arith, append-nil)
 
 split_more : (count places more : ℕ) →
     split_text (count / 10 ^ places) (count % 10 ^ places) places more
@@ -92,14 +77,14 @@ split_more count places more =
 pub plain_decimal : (scale units : ℕ) →
     split_text (units / 10 ^ scale) (units % 10 ^ scale) scale 0 ≡ decimal_text None scale units
 unfolding decimal_text
-plain_decimal scale units = grind (arith, nat_lt, split_plain)
+plain_decimal scale units = grind (arith, nat_lt, append-nil)
 
 pub rounded_decimal : (places scale units : ℕ) → places < scale →
     split_text (nearest units (10 ^ (scale - places)) / 10 ^ places)
     (nearest units (10 ^ (scale - places)) % 10 ^ places) places 0
     ≡ decimal_text (Some places) scale units
 unfolding decimal_text
-rounded_decimal places scale units h = grind (arith, nat_lt, split_plain)
+rounded_decimal places scale units h = grind (arith, nat_lt, append-nil)
 
 pub longer_decimal : (places scale units : ℕ) → scale ≤ places →
     split_text (units / 10 ^ scale) (units % 10 ^ scale) scale (places - scale)

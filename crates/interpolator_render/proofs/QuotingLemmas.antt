@@ -35,12 +35,7 @@ plain_chars f (c ∷ cs) wide plain =
     let after = plain_chars f cs wide (λ k h.
     let here = plain (length (encode_utf8 c) + k) (omega arith) in
     rw get_or-append-add at here) in
-    let first : f c ≡ c ∷ [] = elim (cases_lt c 128) [
-      | inl narrow ↦ let one = encode_ascii c narrow in
-          let here = plain 0 (let n = ap length one in omega arith) in rw one at here
-      | inr past ↦ wide c past
-    ] in
-    rw (first, after) refl
+    grind (arith, cases_lt c 128, encode_ascii c, plain 0)
 
 pub plain_run : (f : ℕ → List ℕ) (run : List ℕ) → ((c : ℕ) → 128 ≤ c → f c ≡ c ∷ []) → IsUtf8 run →
     ((k : ℕ) → k < length run → f (get_or run k 0) ≡ get_or run k 0 ∷ []) →
@@ -53,11 +48,9 @@ plain_run f run wide u plain = grind (arith, plain_chars, encodes-chars)
 pub part_after : (text : List ℕ) (start end : ℕ) → start ≤ end → take end text ≡ take start text
     ++ slice_range text start end
 part_after text start end h =
-    let place : start + (end - start) ≡ end = omega arith in
-    let whole = take-append-drop start (take end text) in
-    let front = take-take start end text h in
-    let back = rw place at (drop-take start (end - start) text) in
-    sym (rw (front, back) at whole)
+    let front = take-take start end text in
+    let back = drop-take start (end - start) text in
+    grind (arith, take-append-drop start (take end text))
 
 -- the characters of the text up to a place, and those after
 pub split_at : (f : ℕ → List ℕ) (text : List ℕ) (place : ℕ) → IsUtf8 text →
@@ -88,16 +81,13 @@ run_more f text start index wide u b s l ascii plain =
     let c = get_or text index 0 in
     let valid_run : IsUtf8 run = IsUtf8-between text start index u s b
     (IsCharBoundary-before_ascii text index l ascii) in
-    let as_is : flat_map f (chars run) ≡ chars run = plain_run f run wide valid_run
+    let as_is = plain_run f run wide valid_run
     (λ k h. run_plain f text start index k s l plain h) in
-    let alone : chars (c ∷ []) ≡ c ∷ [] = chars-IsAscii (c ∷ [])
-    (IsAscii-cons c [] ascii (λ i. omega arith)) in
-    let parts : take (index + 1) text ≡ take start text ++ (run ++ c ∷ []) =
-    take_more text index 0 l ∙ (ap (λ (x : List ℕ). x ++ c ∷ []) (part_after text start index s)
-    ∙ append_assoc (take start text) run (c ∷ [])) in
-    rw (parts, chars-append (take start text) (run ++ c ∷ []) (IsUtf8-take text start u b))
-    (rw (chars-append run (c ∷ []) valid_run, alone, flat_map-append f (chars (take start text)) _)
-    (rw (flat_map-append f (chars run) (c ∷ []), as_is, append-nil (f c)) refl))
+    let alone = chars-IsAscii (c ∷ []) (IsAscii-cons c [] ascii (λ i. omega arith)) in
+    let valid = IsUtf8-take text start u b in
+    let more = take_more text index 0 l in
+    let parts = part_after text start index s in
+    grind (arith, append_assoc, chars-append, flat_map-append, append-nil)
 
 -- a run of characters that are written as they are, up to the end of the text
 pub run_to_end : (f : ℕ → List ℕ) (text : List ℕ) (start : ℕ) → ((c : ℕ) → 128 ≤ c → f c ≡ c ∷ []) →
@@ -105,9 +95,8 @@ pub run_to_end : (f : ℕ → List ℕ) (text : List ℕ) (start : ℕ) → ((c 
     ((k : ℕ) → start ≤ k → k < length text → f (get_or text k 0) ≡ get_or text k 0 ∷ []) →
     flat_map f (chars (take start text)) ++ chars (drop start text) ≡ flat_map f (chars text)
 run_to_end f text start wide u b plain =
-    let as_is = plain_run f (drop start text) wide (IsUtf8-drop text start u b)
-    (λ k h. grind (arith, length-drop, get_or-drop, plain (start + k))) in
-    grind (arith, split_at f text start u b, as_is)
+    let as_is = plain_run f (drop start text) wide in
+    grind (arith, split_at f text start u b, as_is, IsUtf8-drop, length-drop, get_or-drop)
 
 -- ---- what was written
 
@@ -135,13 +124,9 @@ pub runs_escaped : (f : ℕ → List ℕ) (text : List ℕ) (start index : ℕ) 
     index < length text → get_or text index 0 < 128 → Runs f text start index before now →
     Appends now (chars (slice_range text start index) ++ f (get_or text index 0)) after →
     Runs f text (index + 1) (index + 1) before after
-runs_escaped f text start index before now after wide u l ascii runs p = record {
-  below = omega arith;
-  boundary = IsCharBoundary-after_ascii text index u l ascii;
-  plain = λ k s h. absurd (omega arith);
-  written = rw (← run_more f text start index wide u runs.boundary runs.below l ascii runs.plain)
-      (appends_both before now after _ _ runs.written p);
-}
+runs_escaped f text start index before now after wide u l ascii runs p =
+    let more = run_more f text start index wide u runs.boundary runs.below l ascii runs.plain in
+    grind (arith, IsCharBoundary-after_ascii, append_assoc)
 
 -- or refused there
 pub runs_stop : (f : ℕ → List ℕ) (text : List ℕ) (start index : ℕ) (before now after : Written) →
