@@ -27,14 +27,12 @@ walked_none text u = grind (arith, chars-nil)
 pub walked_more : (text rest after : List ℕ) (count c : ℕ) → rest ≡ encode_utf8 c ++ after →
     Walked text rest count → Walked text after (count + 1)
 walked_more text rest after count c e w = let s = scalar_first rest after c w.rest_valid e in
-    let u = IsUtf8-past_char rest after c w.rest_valid e in record {
+    record {
       after = w.after ++ encode_utf8 c;
-      parts = w.parts ∙ (ap (λ (x : List ℕ). w.after ++ x) e
-          ∙ sym (append_assoc w.after (encode_utf8 c) after));
-      counted = rw (chars-append w.after (encode_utf8 c) w.after_valid, chars-encode c s)
-          (rw (length-append, w.counted) refl);
-      after_valid = IsUtf8-append w.after (encode_utf8 c) w.after_valid (IsUtf8-encode c s);
-      rest_valid = u;
+      parts = grind (arith, append_assoc);
+      counted = grind (arith, chars-append w.after, chars-encode, length-append);
+      after_valid = IsUtf8-append _ _ w.after_valid (IsUtf8-encode c s);
+      rest_valid = IsUtf8-past_char rest after c w.rest_valid e;
     }
 
 -- where the first `count` characters end

@@ -42,18 +42,13 @@ placed_value places part h = grind (arith, placed_none, placed_some, value_of_ze
 units_spelled : (places count : ℕ) → SpellsUnits places count (units_text places count)
 units_spelled places count =
     let part = count % 10 ^ places in
-    let fits = remainder_fits count places in
-    let long = length-placed places part fits in
-    let whole = digits_read 10 (count / 10 ^ places) false (omega arith) (omega arith) in
-    let whole_and_part : count / 10 ^ places * 10 ^ places + part ≡ count = omega arith in
     record {
       before = digit_text 10 false (count / 10 ^ places);
       after = placed places part;
       parts = refl;
       some = digit_text_some 10 (count / 10 ^ places) false (omega arith);
-      as_many = long;
-      value = value_both (digit_text 10 false (count / 10 ^ places)) (placed places part)
-          ∙ rw (whole, long, placed_value places part fits) whole_and_part;
+      as_many = length-placed places part (remainder_fits count places);
+      value = grind (arith, value_both, length-placed, placed_value, digits_read, remainder_fits);
     }
 
 pub plain_spelled : (scale units : ℕ) → SpellsUnits scale units (decimal_text None scale units)

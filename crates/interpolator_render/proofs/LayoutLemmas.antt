@@ -90,8 +90,7 @@ parts_more f parts i d h = rw (take_more parts i d h) (simp (flat_map-append, ap
 
 pub parts_all : {X : Type 0} (f : X → List ℕ) (parts : List X) (i : ℕ) → flat_map f (take i parts)
     ++ flat_map f (drop i parts) ≡ flat_map f parts
-parts_all f parts i = sym (flat_map-append f (take i parts) (drop i parts))
-    ∙ ap (flat_map f) (take-append-drop i parts)
+parts_all f parts i = grind (arith, flat_map-append f (take i parts), take-append-drop)
 
 pub parts_stop : {X : Type 0} (f : X → List ℕ) (a b c : Written) (parts : List X) (i : ℕ) (d : X)
     (done taken all : ℕ) → i < length parts →

@@ -38,37 +38,12 @@ option_same a b e = grind (arith, eqb-true)
 option_refl : (a : Option ℕ) → option_eq eqb a a ≡ true
 option_refl a = grind (arith, nat_tests)
 
-abbrev made : Option ℕ → Alignment → Sign → Bool → Bool → Option ℕ → Option ℕ → HexDebug → Spec
-made fill alignment sign alternate zero_flag width precision hex_debug = record {
-  fill = fill;
-  alignment = alignment;
-  sign = sign;
-  alternate = alternate;
-  zero = zero_flag;
-  width = width;
-  precision = precision;
-  hex_debug = hex_debug;
-}
-
-joined : (left right : Spec) → left.fill ≡ right.fill → left.alignment ≡ right.alignment →
-    left.sign ≡ right.sign →
-    left.alternate ≡ right.alternate → left.zero ≡ right.zero →
-    left.width ≡ right.width → left.precision ≡ right.precision → left.hex_debug ≡ right.hex_debug →
-    left ≡ right
-joined left right l a s t z w p h = grind arith
-
 pub same_from_fields : (left right : Spec) → same_fields left right ≡ true → left ≡ right
 same_from_fields left right e =
-    let l = both_true _ _ e in let a = both_true _ _ l.1 in let b = both_true _ _ a.1 in
-    let c = both_true _ _ b.1 in let d = both_true _ _ c.1 in
-    let f = both_true _ _ d.1 in let g = both_true _ _ f.1 in
-    joined left right (option_same left.fill right.fill l.0)
-    (same_true alignments (search rules) left.alignment right.alignment a.0)
-    (same_true signs (search rules) left.sign right.sign b.0)
-    (beq_same left.alternate right.alternate c.0) (beq_same left.zero right.zero d.0)
-    (option_same left.width right.width f.0)
-    (option_same left.precision right.precision g.0)
-    (same_true hex_debugs (search rules) left.hex_debug right.hex_debug g.1)
+    let a = same_true alignments (search rules) in
+    let s = same_true signs (search rules) in
+    let h = same_true hex_debugs (search rules) in
+    grind (arith, both_true, option_same, beq_same, a, s, h)
 
 pub fields_from_same : (spec : Spec) → same_fields spec spec ≡ true
 fields_from_same spec = grind (arith, option_refl, beq_refl)

@@ -18,15 +18,7 @@ pub overflow_sub-result : goal.overflow_sub-result
 overflow_sub-result c = grind (arith, text_fits, low_count)
 
 pub returns-clause-written : goal.returns-clause-written
-returns-clause-written c =
-    let wide = c.write_wide-many in
-    let low = c.write_low-few in
-    let fits = text_fits c.args.base c.args.n c.args.upper c.requires.lowest c.ranges.n.fits in
-    let rest = low_count c.args.base wide.result.1 c.args.upper c.requires.lowest in
-    text_written c.args.base c.args.n wide.result.1 low.result.1 low.result.0 wide.result.0
-    c.args.upper low.new.out wide.new.out c.args.out.now _ c.told-out low.array_long
-    (omega arith) (omega arith) c.digit_in_base.ensures low.ensures.leads
-    low.ensures.written wide.ensures.written
+returns-clause-written c = grind (arith, text_fits, low_count, text_written)
 
 pub returns-clause-ascii : goal.returns-clause-ascii
 returns-clause-ascii c = rw (returns-clause-written c)
