@@ -1,7 +1,7 @@
 -- Texts walked character by character: where a number of characters ends.
 use Rattle.std.proofs.lemmas.Grind.{common_steps}
 use Rattle.std.proofs.Common.{◌≡◌, ℕ, ◌-◌, ◌+◌, List, ◌++◌, length, take}
-use Rattle.std.proofs.Common.{refl, sym, ◌∙◌, ap, arith, append_assoc, append-nil, length-append}
+use Rattle.std.proofs.Common.{◌∙◌, ap, arith, append_assoc, append-nil, length-append}
 use Rattle.std.proofs.Common.{encode_utf8, chars, IsUtf8, IsCharBoundary}
 use Rattle.std.specs.Char.{IsScalar}
 use Rattle.std.proofs.lemmas.Str.{chars-append, chars-nil, IsUtf8-append, IsUtf8-encode}

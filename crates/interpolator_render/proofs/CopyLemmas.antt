@@ -1,6 +1,6 @@
 -- Runs of copies of a character, and what is written of them.
 use Rattle.std.proofs.Common.{◌≡◌, ℕ, zero, suc, ◌≤◌, ◌-◌, ◌+◌, ◌*◌, ◌^◌, min, ◌++◌, refl, arith}
-use Rattle.std.proofs.Common.{replicate, IsUtf8, chars, encode_utf8, encode_utf8_all, slice_range}
+use Rattle.std.proofs.Common.{replicate, IsUtf8, chars, encode_utf8_all, slice_range}
 use Rattle.std.proofs.Common.{◌<◌, List, length, take, drop, append_assoc}
 use Rattle.std.specs.Str.{IsCharBoundary}
 use Rattle.std.specs.Char.{IsScalar, len_utf8}
@@ -13,7 +13,7 @@ use Rattle.std.proofs.lemmas.List.{replicate-append-replicate, take_at}
 use Rattle.std.proofs.lemmas.Nat.{mul-le}
 use Rattle.interpolator_render.specs.Padding.{between_fill}
 use Rattle.interpolator_render.specs.Written.{Written, byte_count, Appends, RefusesLong}
-use Rattle.interpolator_render.proofs.LayoutLemmas.{appends_both, bytes_of_copies, refuses_in_first}
+use Rattle.interpolator_render.proofs.LayoutLemmas.{bytes_of_copies, refuses_in_first}
 use Rattle.interpolator_render.proofs.LayoutLemmas.{IsAscii-replicate, refuses_in_second}
 
 -- copies of a character are UTF-8

@@ -1,8 +1,8 @@
 -- How many digits a number has in exponent form, and between which powers it lies.
 use Rattle.std.proofs.lemmas.Grind.{common_steps}
-use Rattle.std.proofs.Common.{◌≡◌, ℕ, ◌<◌, ◌≤◌, ◌-◌, ◌+◌, ◌*◌, ◌^◌, true, false, List, length}
-use Rattle.std.proofs.Common.{replicate, ◌++◌, zero, refl, sym, ◌∙◌, ap, arith, rules}
-use Rattle.std.proofs.Common.{length-append, ◌==◌, suc, inl, inr, Some, pow-add, pow-suc}
+use Rattle.std.proofs.Common.{◌≡◌, ℕ, ◌<◌, ◌≤◌, ◌-◌, ◌+◌, ◌*◌, ◌^◌, false, List, length}
+use Rattle.std.proofs.Common.{replicate, ◌++◌, zero, refl, arith}
+use Rattle.std.proofs.Common.{length-append, suc, Some, pow-add, pow-suc}
 use Rattle.std.proofs.Common.{eq-zero-or-pos, lt_of_mul-lt-mul_right}
 use Rattle.std.proofs.lemmas.Bool.{cases_eq, cases_lt}
 use Rattle.std.proofs.lemmas.List.{length-replicate}

@@ -1,6 +1,6 @@
 -- What the text of a decimal spells, and how far it is from the decimal.
 use Rattle.std.proofs.Common.{◌≡◌, ℕ, ◌<◌, ◌≤◌, ◌-◌, ◌+◌, ◌*◌, ◌/◌, ◌%◌, ◌^◌, false, List, []}
-use Rattle.std.proofs.Common.{◌∷◌, ◌++◌, length, refl, ◌∙◌, arith, pow-suc, nat_lt, None}
+use Rattle.std.proofs.Common.{◌∷◌, ◌++◌, length, refl, arith, pow-suc, nat_lt, None}
 use Rattle.std.proofs.Common.{Some, Option, append-nil, Bool}
 use Rattle.std.specs.Char.{digit_value}
 use Rattle.std.specs.Str.Parse.{digits_value, digits_value_after}

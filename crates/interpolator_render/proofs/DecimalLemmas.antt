@@ -2,7 +2,7 @@
 use Rattle.std.proofs.lemmas.Grind.{common_steps}
 use Rattle.std.proofs.Common.{◌≡◌, ℕ, ◌<◌, ◌≤◌, ◌-◌, ◌+◌, ◌*◌, ◌/◌, ◌%◌, ◌^◌, false, [], ◌++◌}
 use Rattle.std.proofs.Common.{length, replicate, refl, arith, append_assoc, append-nil}
-use Rattle.std.proofs.Common.{length-append, nat_lt, None, Some, inl, inr, eq-zero-or-pos, pow-add}
+use Rattle.std.proofs.Common.{length-append, nat_lt, None, Some, eq-zero-or-pos, pow-add}
 use Rattle.std.proofs.lemmas.List.{length-replicate, replicate-append-replicate}
 use Rattle.std.proofs.Math.Arith.{mod-mul}
 use Rattle.std.proofs.Math.Nat.{div-div-eq-div-mul, mul-div_cancel, mul-mod_left, div-eq_of_lt}

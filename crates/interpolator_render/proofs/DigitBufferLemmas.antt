@@ -1,7 +1,7 @@
 -- A row that grows at its front or at its end.
 use Rattle.std.proofs.Common.{append_assoc, ◌≡◌, ℕ, Bool, ◌<◌, ◌≤◌, ◌-◌, ◌+◌, ◌^◌, List, [], ◌∷◌}
-use Rattle.std.proofs.Common.{◌++◌, length, take, drop, set, replicate, slice_range, refl, sym, ◌∙◌}
-use Rattle.std.proofs.Common.{ap, arith, length-append, drop-drop, take-take, take-append-drop}
+use Rattle.std.proofs.Common.{◌++◌, length, take, drop, set, replicate}
+use Rattle.std.proofs.Common.{arith, length-append, drop-drop, take-take, take-append-drop}
 use Rattle.std.proofs.Common.{length-take-le, unwrap_or, IsAscii, take-add, false}
 use Rattle.std.proofs.lemmas.List.{length-replicate, take-replicate, drop-replicate, drop-append-le}
 use Rattle.std.proofs.lemmas.List.{drop-set}

@@ -3,7 +3,7 @@ use Rattle.std.proofs.lemmas.Grind.{common_steps}
 use Rattle.std.proofs.Common.{take-append-drop, length-append, append_assoc, MatchResult, replicate}
 use Rattle.std.proofs.Common.{append-nil, flat_map, IsAscii, length, get_or, Result, ℕ}
 use Rattle.std.proofs.Common.{IsUtf8, arith, chars, zero, List, ◌++◌, refl, take, drop, ◌≡◌, suc}
-use Rattle.std.proofs.Common.{◌<◌, ◌≤◌, ◌-◌, ◌+◌, ◌*◌, ◌^◌, min, ◌∷◌, sym, ◌∙◌, Err, [], ap, Ok}
+use Rattle.std.proofs.Common.{◌<◌, ◌≤◌, ◌-◌, ◌+◌, ◌*◌, ◌^◌, min, ◌∷◌, sym, Err, [], ap, Ok}
 use Rattle.std.proofs.lemmas.Str.{IsCharBoundary-at_seam, chars_from_encodes, encodes-IsAscii}
 use Rattle.std.proofs.lemmas.Str.{len_utf8_bounds, encodes-append, chars-IsAscii, encodes-chars}
 use Rattle.std.proofs.lemmas.Str.{IsUtf8-append, IsUtf8-encode, length-encode, IsUtf8-nil}

@@ -1,7 +1,7 @@
 -- How many characters the text of a view has at most.
 use Rattle.std.proofs.Common.{length-append, FitsSigned, unwrap_or, pow-add, length, Option, nat_lt}
-use Rattle.std.proofs.Common.{arith, false, Bool, true, List, None, Some, ◌==◌, ◌||◌, ◌≡◌, ◌∙◌, ◌+◌}
-use Rattle.std.proofs.Common.{◌*◌, ◌^◌, ◌<◌, ◌≤◌, ◌∷◌, max, ◌/◌, ◌%◌, ap, [], ℕ, ℤ}
+use Rattle.std.proofs.Common.{arith, false, Bool, true, List, None, Some, ◌==◌, ◌||◌, ◌≡◌, ◌+◌}
+use Rattle.std.proofs.Common.{◌*◌, ◌^◌, ◌<◌, ◌≤◌, ◌∷◌, max, ◌/◌, ◌%◌, [], ℕ, ℤ}
 use Rattle.std.specs.List.{flat_map}
 use Rattle.std.proofs.lemmas.Bool.{cases_lt}
 use Rattle.std.proofs.lemmas.Bool.Decides.{nat_tests}
@@ -15,7 +15,7 @@ use Rattle.interpolator_render.specs.declared.view.Bits.TheVariants.{B128}
 use Rattle.interpolator_render.specs.declared.view.Sign.{Sign}
 use Rattle.interpolator_render.specs.declared.view.Spec.{Spec}
 use Rattle.interpolator_render.specs.declared.view.Trait.{Trait}
-use Rattle.interpolator_render.specs.Characters.{double_quote, single_quote, space, delete}
+use Rattle.interpolator_render.specs.Characters.{single_quote, space, delete}
 use Rattle.interpolator_render.specs.Decimals.{decimal_body, decimal_exponent_text, decimal_text}
 use Rattle.interpolator_render.specs.Decimals.{placed, units_at}
 use Rattle.interpolator_render.specs.Digits.{digit_text}
@@ -23,13 +23,13 @@ use Rattle.interpolator_render.specs.Exponent.{exponent_of, significant_digits, 
 use Rattle.interpolator_render.specs.Exponent.{with_point, exponent_text}
 use Rattle.interpolator_render.specs.Lengths.{IsShownWithin, most_digits, most_front, most_body}
 use Rattle.interpolator_render.specs.Lengths.{most_number, most_text, most_written, HasAtMost}
-use Rattle.interpolator_render.specs.Lengths.{usize_count, most_decimal, most_plain, most_scaled}
+use Rattle.interpolator_render.specs.Lengths.{usize_count, most_decimal, most_scaled}
 use Rattle.interpolator_render.specs.Numbers.{base_of, sign_text, distance_from_zero, number_form}
 use Rattle.interpolator_render.specs.Numbers.{has_minus, magnitude, front_text, number_text}
 use Rattle.interpolator_render.specs.Numbers.{is_negative}
 use Rattle.interpolator_render.specs.Padding.{displayed_text}
 use Rattle.interpolator_render.specs.Quoting.{escape_by, escape_of, quotation}
-use Rattle.interpolator_render.specs.Texts.{in_form, padded_decimal, truth_text, under, view_text}
+use Rattle.interpolator_render.specs.Texts.{in_form, padded_decimal, view_text}
 use Rattle.interpolator_render.specs.Views.{Shown, signed_number, unsigned_number, truth_value}
 use Rattle.interpolator_render.specs.Views.{decimal_number, one_character, some_text, plain_text}
 use Rattle.interpolator_render.specs.Views.{integer_width}

@@ -1,8 +1,8 @@
 -- Quoted texts, written run by run.
 use Rattle.std.proofs.Common.{◌≡◌, ℕ, ◌<◌, ◌≤◌, ◌+◌, ◌-◌, List, [], ◌∷◌, ◌++◌, length, take, drop}
-use Rattle.std.proofs.Common.{get_or, slice_range, refl, sym, ◌∙◌, ap, arith, append_assoc}
-use Rattle.std.proofs.Common.{append-nil, length-append, length-take, length-drop, below_more, inl}
-use Rattle.std.proofs.Common.{inr, Result, encode_utf8, encode_utf8_all, take-append-drop}
+use Rattle.std.proofs.Common.{get_or, slice_range, refl, arith, append_assoc}
+use Rattle.std.proofs.Common.{append-nil, length-append, length-take, length-drop, below_more}
+use Rattle.std.proofs.Common.{Result, encode_utf8, encode_utf8_all, take-append-drop}
 use Rattle.std.proofs.Common.{take-take, get_or-append-add, get_or-drop, get_or-take, flat_map}
 use Rattle.std.proofs.Common.{chars, IsUtf8, IsCharBoundary}
 use Rattle.std.proofs.lemmas.Bool.{cases_lt}
@@ -16,7 +16,7 @@ use Rattle.interpolator_render.specs.declared.text_write.Refusal.{Refusal}
 use Rattle.interpolator_render.specs.Quoting.{escape_of}
 use Rattle.interpolator_render.specs.Written.{Written, Appends, AppendsBeginning, Puts, Writes}
 use Rattle.interpolator_render.proofs.LayoutLemmas.{writes_from_puts, stops_in_second, appends_none}
-use Rattle.interpolator_render.proofs.LayoutLemmas.{stops_in_first, writes_second, appends_both}
+use Rattle.interpolator_render.proofs.LayoutLemmas.{stops_in_first, writes_second}
 use Rattle.std.proofs.lemmas.Bool.Decides.{nat_tests}
 
 -- ---- characters that are written as they are

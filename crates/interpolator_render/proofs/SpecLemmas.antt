@@ -3,9 +3,6 @@ use Rattle.std.proofs.Common.{◌≡◌, ℕ, Bool, true, ◌&&◌, Option, eqb,
 use Rattle.std.specs.Option.{option_eq}
 use mathlib.Core.Bool.{beq}
 use denote.Enum.Bare.{sameb, same_true}
-use Rattle.interpolator_render.specs.declared.view.Alignment.{Alignment}
-use Rattle.interpolator_render.specs.declared.view.HexDebug.{HexDebug}
-use Rattle.interpolator_render.specs.declared.view.Sign.{Sign}
 use Rattle.interpolator_render.specs.declared.view.Spec.{Spec}
 use Rattle.interpolator_render.specs.contracts.view.Alignment.{the_type as alignments}
 use Rattle.interpolator_render.specs.contracts.view.HexDebug.{the_type as hex_debugs}

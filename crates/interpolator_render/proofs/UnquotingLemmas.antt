@@ -1,5 +1,5 @@
 -- A quoted text, read back, is the text.
-use Rattle.std.proofs.Common.{eq-zero-or-pos, append_assoc, flat_map, Option}
+use Rattle.std.proofs.Common.{append_assoc, flat_map, Option}
 use Rattle.std.proofs.Common.{false, arith, codes, List, ◌++◌, ◌==◌, refl, Some}
 use Rattle.std.proofs.Common.{None, ◌≡◌, ◌≢◌, ◌<◌, ◌+◌, ◌*◌, ◌∷◌, map, [], ℕ}
 use Rattle.std.specs.Char.{digit_value}
@@ -12,7 +12,6 @@ use Rattle.interpolator_render.specs.Digits.{digit_text}
 use Rattle.interpolator_render.specs.Quoting.{escape_letter, escape_of, quotation}
 use Rattle.interpolator_render.specs.Unquoting.{IsQuote, preceded_by, escape_meaning, unquoted_from}
 use Rattle.interpolator_render.specs.Unquoting.{text_in_quotes, at_character, in_number}
-use Rattle.interpolator_render.proofs.DigitLemmas.{digit_text_zero, digit_text_map}
 use Rattle.interpolator_render.proofs.LawLemmas.{digits_read}
 
 -- what a quote has to be: neither a backslash nor `u`, and standing for itself

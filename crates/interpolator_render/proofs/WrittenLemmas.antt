@@ -1,15 +1,15 @@
 -- What a writer over a `String` took or refused.
 use Rattle.std.proofs.lemmas.Grind.{common_steps}
-use Rattle.std.proofs.Common.{◌≡◌, ℕ, ◌+◌, ◌<◌, ◌≤◌, true, false, List, [], ◌∷◌, ◌++◌, length, refl}
-use Rattle.std.proofs.Common.{sym, ◌∙◌, ap, arith, append-nil, encode_utf8, encode_utf8_all, Bool}
-use Rattle.std.proofs.Common.{Result, OnOk, OnErr, MatchResult, Option}
+use Rattle.std.proofs.Common.{◌≡◌, ℕ, ◌<◌, true, false, List, [], ◌∷◌, ◌++◌, length, refl}
+use Rattle.std.proofs.Common.{sym, ◌∙◌, ap, arith, append-nil, encode_utf8, encode_utf8_all}
+use Rattle.std.proofs.Common.{Result, MatchResult, Option}
 use Rattle.std.proofs.Common.{chars, IsUtf8}
 use Rattle.interpolator_render.specs.declared.text_write.Refusal.{Refusal}
 use Rattle.std.specs.Char.{IsScalar}
 use Rattle.std.proofs.lemmas.Str.{chars-append, chars-nil, IsUtf8-encode, chars_past_char}
 use Rattle.std.proofs.lemmas.Str.{encodes-chars}
 use Rattle.interpolator_render.specs.Written.{Written, Appends, Refuses}
-use Rattle.interpolator_render.specs.Written.{AppendsWithin, StaysWithin, byte_count}
+use Rattle.interpolator_render.specs.Written.{AppendsWithin, StaysWithin}
 
 -- an empty text changes nothing
 pub appends_nothing : (w : Written) (bytes : List ℕ) → length bytes ≡ 0 → Appends w (chars bytes) w
