@@ -1,7 +1,7 @@
 -- How many characters the text of a view has at most.
 use Rattle.std.proofs.Common.{length-append, FitsSigned, unwrap_or, pow-add, length, Option, nat_lt}
 use Rattle.std.proofs.Common.{arith, false, Bool, true, List, None, Some, ◌==◌, ◌||◌, ◌≡◌, ◌+◌}
-use Rattle.std.proofs.Common.{◌*◌, ◌^◌, ◌<◌, ◌≤◌, ◌∷◌, max, ◌/◌, ◌%◌, [], ℕ, ℤ}
+use Rattle.std.proofs.Common.{◌*◌, ◌^◌, ◌<◌, ◌≤◌, ◌∷◌, max, ◌/◌, [], ℕ, ℤ}
 use Rattle.std.specs.List.{flat_map}
 use Rattle.std.proofs.lemmas.Bool.{cases_lt}
 use Rattle.std.proofs.lemmas.Bool.Decides.{nat_tests}
@@ -17,7 +17,7 @@ use Rattle.interpolator_render.specs.declared.view.Spec.{Spec}
 use Rattle.interpolator_render.specs.declared.view.Trait.{Trait}
 use Rattle.interpolator_render.specs.Characters.{single_quote, space, delete}
 use Rattle.interpolator_render.specs.Decimals.{decimal_body, decimal_exponent_text, decimal_text}
-use Rattle.interpolator_render.specs.Decimals.{placed, units_at}
+use Rattle.interpolator_render.specs.Decimals.{units_at}
 use Rattle.interpolator_render.specs.Digits.{digit_text}
 use Rattle.interpolator_render.specs.Exponent.{exponent_of, significant_digits, scientific}
 use Rattle.interpolator_render.specs.Exponent.{with_point, exponent_text}
@@ -114,9 +114,7 @@ plain_within places scale units h =
     let low = whole_within places scale units in
     let whole = length-digit_text-le 10 39 (count / 10 ^ places) false (omega arith) (omega arith)
     (omega arith) in
-    let part = length-placed places (count % 10 ^ places) (remainder_fits count places) in
-    let point = length-pointed (placed places (count % 10 ^ places)) in
-    omega (arith, length-append {A = ℕ})
+    grind (arith, length-append, length-pointed, length-placed, remainder_fits)
 
 scaled_within : (upper : Bool) (precision : Option ℕ) (scale units : ℕ) → units < 2 ^ 128
     → scale < 2 ^ 32

@@ -1,5 +1,5 @@
 -- Equality of specs, field by field.
-use Rattle.std.proofs.Common.{◌≡◌, ℕ, Bool, true, ◌&&◌, Option, eqb, rules, arith}
+use Rattle.std.proofs.Common.{◌≡◌, Bool, true, ◌&&◌, eqb, rules, arith}
 use Rattle.std.specs.Option.{option_eq}
 use mathlib.Core.Bool.{beq}
 use denote.Enum.Bare.{sameb, same_true}
@@ -23,24 +23,12 @@ same_fields left right =
 both_true : (a b : Bool) → (a && b) ≡ true → (a ≡ true) × (b ≡ true)
 both_true a b e = grind arith
 
-beq_same : (a b : Bool) → beq a b ≡ true → a ≡ b
-beq_same a b e = grind arith
-
-beq_refl : (a : Bool) → beq a a ≡ true
-beq_refl a = grind arith
-
-option_same : (a b : Option ℕ) → option_eq eqb a b ≡ true → a ≡ b
-option_same a b e = grind (arith, eqb-true)
-
-option_refl : (a : Option ℕ) → option_eq eqb a a ≡ true
-option_refl a = grind (arith, nat_tests)
-
 pub same_from_fields : (left right : Spec) → same_fields left right ≡ true → left ≡ right
 same_from_fields left right e =
     let a = same_true alignments (search rules) in
     let s = same_true signs (search rules) in
     let h = same_true hex_debugs (search rules) in
-    grind (arith, both_true, option_same, beq_same, a, s, h)
+    grind (arith, both_true, eqb-true, a, s, h)
 
 pub fields_from_same : (spec : Spec) → same_fields spec spec ≡ true
-fields_from_same spec = grind (arith, option_refl, beq_refl)
+fields_from_same spec = grind (arith, nat_tests)
