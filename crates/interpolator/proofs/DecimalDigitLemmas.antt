@@ -47,8 +47,7 @@ pub loop_over : (n number : ℕ) (ds : List ℕ) (i : ℕ) → i < length ds →
     ¬ (n * 10 + digit_value (get_or ds i 0) < 2 ^ 128) →
     ¬ (digits_value_after 10 number ds < 2 ^ 128)
 loop_over n number ds i within so_far over fits =
-    let next = n * 10 + digit_value (get_or ds i 0) in
-    over (omega (arith, so_far, value_step n ds i within, grows next (drop (i + 1) ds)))
+    grind (arith, value_step n ds i within, grows)
 
 pub loop_end : (n number : ℕ) (ds : List ℕ) (i : ℕ) → length ds ≤ i → n < 2 ^ 128 →
     digits_value_after 10 n (drop i ds) ≡ digits_value_after 10 number ds →
@@ -60,7 +59,7 @@ loop_end n number ds i past fits so_far = grind (arith, drop_all)
 pub front_over : (before after : List ℕ) → ¬ (digits_value 10 before < 2 ^ 128) →
     ¬ (digits_value 10 (before ++ after) < 2 ^ 128)
 front_over before after over fits =
-    over (omega (arith, value_over 0 before after, grows (digits_value 10 before) after))
+    grind (arith, value_over 0 before after, grows (digits_value 10 before) after)
 
 pub count_after : (before after : List ℕ) (whole : ℕ) (answer : Option ℕ) →
     whole ≡ digits_value 10 before →
