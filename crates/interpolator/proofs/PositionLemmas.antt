@@ -2,10 +2,9 @@
 -- byte, and the last line.
 use Rattle.std.proofs.Common.{◌≡◌, ◌≢◌, ℕ, ◌<◌, ◌≤◌, ◌+◌, ◌-◌, not, cond, List, [], ◌∷◌, ◌++◌}
 use Rattle.std.proofs.Common.{length, take, drop, refl, sym, ◌∙◌, ap, arith, append-nil, append_assoc}
-use Rattle.std.proofs.Common.{Bool, true, false}
+use native.Mathlib.Numerals.{unary_clauses}
 use Rattle.std.specs.Prelude.{◌==◌, reverse, encode_utf8}
 use Rattle.std.specs.Char.{len_utf8}
-use Rattle.std.specs.List.{take_while, prefix_len}
 use Rattle.std.specs.Str.{chars, IsUtf8, IsCharBoundary}
 use Rattle.std.proofs.Math.Seq.{take-add}
 use Rattle.std.proofs.lemmas.List.{append_cancel_right, drop-drop, length-reverse, length-take}
@@ -42,36 +41,35 @@ BegunAfter text count end place = begun_before place (chars text)
     ≡ take count (chars text) ++ begun_before (place - end) (drop count (chars text))
 
 pub begun_start : (text : List ℕ) (place : ℕ) → BegunAfter text 0 0 place
-begun_start text place = let e : place - 0 ≡ place = omega arith in rw e refl
+begun_start text place = simp unary_clauses
 
 module _ {text rest : List ℕ} {count end : ℕ} (u : IsUtf8 text) (r : Read text rest count end) where
   -- the characters up to there
   pub read_front : chars (take end text) ≡ take count (chars text)
   read_front =
-      let cs = chars text in
-      let seam = chars-append (take end text) (drop end text) (IsUtf8-take text end u r.boundary) in
-      append_cancel_right (chars (take end text)) (take count cs) (drop count cs)
-      (ap (λ xs. chars (take end text) ++ xs) (sym r.left ∙ sym (ap chars r.there)) ∙ sym seam
-      ∙ ap chars (take-append-drop end text) ∙ sym (take-append-drop count cs))
+      append_cancel_right (chars (take end text)) (take count (chars text)) (drop count (chars text))
+      (rw (
+        ← r.left,
+        ← r.there,
+        ← chars-append (take end text) (drop end text)
+            (IsUtf8-take text end u r.boundary),
+        take-append-drop,
+      ) (rw (r.there, r.left, take-append-drop) refl))
 
   -- no bytes are still to come
   pub read_end : length rest ≡ 0 → drop count (chars text) ≡ []
-  read_end none = sym r.left ∙ ap chars (nil_from_length rest none) ∙ chars-nil
+  read_end none = sym r.left ∙ rw (nil_from_length rest none) chars-nil
 
   -- the place was reached, or the end
   pub begun_there : (place : ℕ) → place ≤ end → BegunAfter text count end place
       → chars (take end text) ≡ begun_before place (chars text)
   begun_there place h b =
-      let none = begun_none (place - end) (drop count (chars text)) (omega (arith, h)) in
-      read_front ∙ sym (b ∙ rw none (append-nil (take count (chars text))))
+      grind (arith, read_front, b, begun_none, append-nil)
 
   pub begun_end : (place : ℕ) → length rest ≡ 0 → BegunAfter text count end place
       → chars text ≡ begun_before place (chars text)
   begun_end place h b =
-      let none = read_end h in
-      let cs = chars text in
-      sym (b ∙ ap (λ xs. take count cs ++ begun_before (place - end) xs) none
-      ∙ ap (λ xs. take count cs ++ xs) (sym none) ∙ take-append-drop count cs)
+      grind (arith, read_end, b, take-append-drop count (chars text))
 
   module _ (after : List ℕ) (c size : ℕ) (z : size ≡ len_utf8 c) (e : rest ≡ encode_utf8 c ++ after)
     where
@@ -84,11 +82,11 @@ module _ {text rest : List ℕ} {count end : ℕ} (u : IsUtf8 text) (r : Read te
       pub read_more : Read text after (count + 1) (end + size)
       read_more =
           let rest_is = r.there ∙ e in
-          let valid = IsUtf8-drop text end u r.boundary in
           rw z (record {
             there = drop_past_char text after end c rest_is;
-            boundary = IsCharBoundary-past_char text after end c r.boundary.0 valid rest_is;
-            left = sym (sym (drop-drop 1 count (chars text)) ∙ ap (drop 1) next);
+            boundary = IsCharBoundary-past_char text after end c r.boundary.0
+                (IsUtf8-drop text end u r.boundary) rest_is;
+            left = sym (rw (← drop-drop, next) refl);
           })
 
       pub begun_more : (place : ℕ) → end < place → BegunAfter text count end place
@@ -106,8 +104,7 @@ module _ {text rest : List ℕ} {count end : ℕ} (u : IsUtf8 text) (r : Read te
 last_line_more : (cs : List ℕ) (c : ℕ)
     → last_line (cs ++ (c ∷ [])) ≡ cond (not (c == line_end)) (c ∷ last_line cs) []
 last_line_more cs c =
-    ap (λ (x : List ℕ). take_while (λ d. not (d == line_end)) x) (reverse-append cs (c ∷ []))
-    ∙ take_while-cons (λ d. not (d == line_end)) c (reverse cs)
+    rw (reverse-append cs (c ∷ [])) (take_while-cons (λ d. not (d == line_end)) c (reverse cs))
 
 -- a line end begins a line
 pub last_line_ends : (cs : List ℕ) (c : ℕ) → c ≡ line_end
@@ -121,29 +118,18 @@ last_line_goes_on cs c column h e = rw (last_line_more cs c) (grind arith)
 
 -- the last line is no longer than the text
 pub last_line_short : (cs : List ℕ) → length (last_line cs) ≤ length cs
-last_line_short cs = let r = length-reverse cs in
-    let t = length-take (prefix_len (λ d. not (d == line_end)) (reverse cs)) (reverse cs) in
-    omega arith
+last_line_short cs = grind (arith, length-reverse {A = ℕ}, length-take {A = ℕ})
 
 -- a text has no more characters than bytes
 pub characters_short : (text : List ℕ) → IsUtf8 text → length (chars text) ≤ length text
-characters_short text u =
-    let e = ap length (encodes-chars text u) in let n = length-le-encodes (chars text) in omega arith
-
--- no character, or one before others
-none_or_one : (b : Bool) (c : ℕ) (xs cs : List ℕ) → length xs ≤ length cs
-    → length (cond b [] (c ∷ xs)) ≤ length (c ∷ cs)
-none_or_one true c xs cs h = omega arith
-none_or_one false c xs cs h = omega (arith, h)
+characters_short text u = omega (arith, ap length (encodes-chars text u), length-le-encodes)
 
 -- no more characters begin before a place than there are
 begun_fewer : (place : ℕ) (cs : List ℕ) → length (begun_before place cs) ≤ length cs
 begun_fewer place [] = omega arith
-begun_fewer place (c ∷ cs) =
-    none_or_one (place == 0) c _ cs (begun_fewer (place - len_utf8 c) cs)
+begun_fewer place (c ∷ cs) = grind (arith, begun_fewer (place - len_utf8 c) cs)
 
 -- nor than there are bytes
 pub begun_short : (place : ℕ) (text : List ℕ) → IsUtf8 text
     → length (begun_before place (chars text)) ≤ length text
-begun_short place text u =
-    let n = begun_fewer place (chars text) in let m = characters_short text u in omega arith
+begun_short place text u = omega (arith, begun_fewer, characters_short text u)
