@@ -1,6 +1,6 @@
 -- What parts mean, one after the other, and what their joined text means.
 use Rattle.std.proofs.Common.{◌≡◌, ◌≢◌, ℕ, ◌+◌, List, [], ◌∷◌, ◌++◌}
-use Rattle.std.proofs.Common.{length, arith, ap, ◌∙◌, sym, Option, Some, None}
+use Rattle.std.proofs.Common.{length, arith, ◌∙◌, sym, Option, Some, None}
 use Rattle.std.proofs.Common.{append_assoc, append-nil, ◌<◌, drop, get_or}
 use Rattle.std.proofs.lemmas.List.{drop_more}
 use Rattle.std.specs.Borrow.{Bor}
@@ -11,7 +11,6 @@ use Rattle.interpolator_render.specs.Views.{Shown}
 use Rattle.interpolator_syntax.specs.At.{At, size, outermost}
 use Rattle.interpolator_syntax.specs.Pieces.{PieceKind, Piece}
 use Rattle.interpolator_syntax.specs.Nodes.{nodes, piece_node}
-use Rattle.interpolator_syntax.specs.Splits.{node_alone}
 use Rattle.interpolator.specs.Seams.{kind_ending, piece_ending, last_ending, ending}
 use Rattle.interpolator_syntax.specs.Faults.{Answer}
 use Rattle.interpolator_eval.specs.Meaning.Environments.{Environment}
@@ -54,15 +53,11 @@ module _ {X : Type 0} (shows : X → Trait → Spec → Shown) (e : Environment 
       rw (nothing_last (means shows e (stands (size before) part)), append-nil part)
       (means_next before part (h, clean.0))
   compose_after before part (next ∷ parts) h clean close =
-      let here = means shows e (stands (size before) part) in
       let there = size-append before part in
-      let rest = λ (n : ℕ). parts_mean shows e n (next ∷ parts) in
       let closes = both_close 0 before part (h, clean.0) (rw zero_and close.0) in
       let more =
       compose_after (before ++ part) next parts closes clean.1 (rw there close.1) in
-      sym (joined_assoc (means shows e (outermost before)) here (rest (size before + size part)))
-      ∙ ap (λ m. chain m (rest (size before + size part))) (means_next before part (h, clean.0))
-      ∙ (rw (there, append_assoc) at more)
+      rw (← joined_assoc, means_next before part (h, clean.0)) (rw (there, append_assoc) at more)
 
   -- clean parts mean what their joined text means
   pub parts_are_one : (parts : List (List ℕ)) → Clean parts → FrontsClose 0 parts
@@ -70,9 +65,7 @@ module _ {X : Type 0} (shows : X → Trait → Spec → Shown) (e : Environment 
   parts_are_one [] clean close = sym (means_none shows e 0)
   parts_are_one (part ∷ parts) clean close =
       let settled : ending (outermost []) ≢ Open = rw (pieces_none 0) (λ d. cc) in
-      let all = parts_mean shows e 0 (part ∷ parts) in
-      sym (joined_none all) ∙ ap (λ m. chain m all) (sym (means_none shows e 0))
-      ∙ compose_after [] part parts settled clean close
+      sym (joined_none _) ∙ (rw (means_none shows e 0) at (compose_after [] part parts settled clean close))
 
   -- ---- a text without fault
 
@@ -88,9 +81,7 @@ module _ {X : Type 0} (shows : X → Trait → Spec → Shown) (e : Environment 
       → last_ending d xs ≢ Open
   pieces_close d [] k h = k
   pieces_close d (x ∷ xs) k h =
-      let both =
-      no_fault_first (node_means shows e (node_alone x)) (pieces_mean shows e xs) h in
-      pieces_close (piece_ending x) xs (piece_closes x.place _ x.kind both.0) both.1
+      grind (arith, no_fault_first, piece_closes, pieces_close (piece_ending x) xs)
 
   -- a text without fault ends in no argument that is unclosed or broken
   pub faultless_closes : (a : At) → (means shows e a).fault ≡ None → ending a ≢ Open

@@ -1,14 +1,15 @@
 -- The pieces of a text that another text follows.
 use Rattle.std.proofs.Common.{◌≡◌, ◌≢◌, ℕ, zero, suc, ◌+◌, ◌-◌, ◌≤◌, true, List, []}
-use Rattle.std.proofs.Common.{◌∷◌, ◌++◌, length, take, arith, refl, ap, ◌∙◌, subst, Result, Ok}
+use Rattle.std.proofs.Common.{◌∷◌, ◌++◌, length, take, arith, refl, ◌∙◌, subst, Result, Ok}
 use Rattle.std.proofs.Common.{Err, Option, Some, None, length-append}
+use native.Mathlib.Numerals.{unary_clauses}
 use Rattle.std.specs.Char.{len_utf8}
 use Rattle.std.proofs.lemmas.List.{take-append-le}
 use Rattle.interpolator_syntax.specs.At.{At, size, strip, strip_of}
 use Rattle.interpolator_syntax.specs.Classes.{open_brace, close_brace}
 use Rattle.interpolator_syntax.specs.Arguments.{Argument, argument_at}
 use Rattle.interpolator_syntax.specs.Faults.{Fault}
-use Rattle.interpolator_syntax.specs.Pieces.{Piece, Step, closed, step, argument_step}
+use Rattle.interpolator_syntax.specs.Pieces.{Piece, Step, argument_step}
 use Rattle.interpolator_syntax.specs.Pieces.{argument_or_broken, argument_from, open_step}
 use Rattle.interpolator_syntax.specs.Pieces.{close_step, piece_from, past, pieces}
 use Rattle.interpolator.specs.Seams.{piece_ending, last_ending, ending, may_follow}
@@ -54,9 +55,6 @@ Goes s more = s.rest.text ≡ [] → Leaves (piece_ending s.piece) more
 abbrev step_more : Step → List ℕ → Step
 step_more s more = record { piece = s.piece; rest = with_more s.rest more }
 
-never : {A : Type 0} (more : List ℕ) → Leaves Open more → A
-never more h = grind arith
-
 cut_more :
     (cs r more : List ℕ) → length r ≤ length cs
     → take (length (cs ++ more) - length (r ++ more)) (cs ++ more) ≡ take (length cs - length r) cs
@@ -64,34 +62,30 @@ cut_more cs r more h = grind (arith, length-append, take-append-le)
 
 module _ (p : ℕ) (b : At) (more : List ℕ) where
   closed_more :
-      (x : Argument) (q r : At) → argument_at b ≡ Ok (x, q) → strip close_brace q ≡ Some r
+      (x : Argument) (q : At) (o : Option At) → argument_at b ≡ Ok (x, q) → strip close_brace q ≡ o
+      → Goes (argument_step p b x q o) more
       → argument_or_broken p (with_more b more) (argument_at (with_more b more))
-      ≡ step_more (argument_step p b x q (Some r)) more
-  closed_more x q r e d =
+      ≡ step_more (argument_step p b x q o) more
+  closed_more x q None e d g = grind arith
+  closed_more x q (Some r) e d g =
       let front = argument_takes b x q e in
       let closes = (strip_after close_brace q.place q.text r d).0 in
-      let whole = front.split ∙ ap (λ cs. front.front ++ cs) closes in
-      let same = closed_same b more x q r.text e closes in
-      let shorter : length r.text ≤ length (open_brace ∷ b.text) =
-      omega (arith, ap length whole, length-append front.front (close_brace ∷ r.text)) in
-      rw (same, strip_more close_brace q.place q.text more r d)
-      (ap (λ text. step p text (closed b.place x q.place) (with_more r more))
-      (cut_more (open_brace ∷ b.text) r.text more shorter))
+      grind (
+        arith,
+        closed_same b more x q r.text e closes,
+        strip_more close_brace q.place q.text more r d,
+        front.split,
+        length-append front.front q.text,
+        cut_more (open_brace ∷ b.text) r.text more,
+      )
 
   argument_more :
       (o : Result (Argument × At) Fault) → argument_at b ≡ o
       → Goes (argument_or_broken p b o) more
       → argument_or_broken p (with_more b more) (argument_at (with_more b more))
       ≡ step_more (argument_or_broken p b o) more
-  argument_more (Err f) e g = never more (g refl)
-  argument_more (Ok w) e g = by_close (strip close_brace w.1) refl g
-    where
-      by_close : (o : Option At) → strip close_brace w.1 ≡ o
-          → Goes (argument_step p b w.0 w.1 o) more
-          → argument_or_broken p (with_more b more) (argument_at (with_more b more))
-          ≡ step_more (argument_step p b w.0 w.1 o) more
-      by_close None d k = never more (k refl)
-      by_close (Some r) d k = closed_more w.0 w.1 r e d
+  argument_more (Err f) e g = grind arith
+  argument_more (Ok w) e g = closed_more w.0 w.1 (strip close_brace w.1) e refl g
 
   argument_from_more : Goes (argument_from p b) more
       → argument_from p (with_more b more) ≡ step_more (argument_from p b) more
@@ -109,12 +103,14 @@ module _ (p : ℕ) (more : List ℕ) where
       → Goes (open_step p (stands q cs) o) more
       → open_step p (stands q (cs ++ more)) (strip_of open_brace q (cs ++ more))
       ≡ step_more (open_step p (stands q cs) o) more
-  open_more q cs (Some r) e g =
-      ap (open_step p (stands q (cs ++ more))) (strip_more open_brace q cs more r e)
-  open_more q [] None e g = absurd (brace_last p q more g)
-  open_more q (c ∷ cs) None e g =
-      rw (strip_none_more open_brace q (c ∷ cs) more e (λ h. cc))
-      (argument_from_more p (stands q (c ∷ cs)) more g)
+  open_more q cs o e g =
+      grind (
+        arith,
+        strip_more,
+        strip_none_more,
+        brace_last p q more,
+        argument_from_more p (stands q cs) more,
+      )
 
   close_more :
       (q : ℕ) (cs : List ℕ) (o : Option At) → strip_of close_brace q cs ≡ o
@@ -135,13 +131,10 @@ module _ (p : ℕ) (more : List ℕ) where
 
 -- ---- whole texts
 
-settled_leaves : (more : List ℕ) → Leaves Settled more
-settled_leaves more = grind arith
-
 -- what is left of the pieces, if any, ends as all do
 rest_leaves : (e : Ending) (xs : List Piece) (more : List ℕ) → Leaves (last_ending e xs) more
     → Leaves (last_ending Settled xs) more
-rest_leaves e [] more h = settled_leaves more
+rest_leaves e [] more h = grind arith
 rest_leaves e (x ∷ xs) more h = h
 
 last_leaves : (e : Ending) (a : At) (more : List ℕ) → Leaves (last_ending e (pieces a)) more
@@ -152,7 +145,7 @@ last_leaves e a more h none = grind (arith, pieces_none a.place)
 pub pieces_append :
     (n p : ℕ) (cs more : List ℕ) → length cs ≤ n → Leaves (ending (stands p cs)) more
     → pieces (stands p (cs ++ more)) ≡ pieces (stands p cs) ++ pieces (stands (p + size cs) more)
-pieces_append n p [] more h m = let e : p + 0 ≡ p = omega arith in rw (e, pieces_none p) refl
+pieces_append n p [] more h m = simp (unary_clauses, pieces_none p)
 pieces_append zero p (c ∷ cs) more h m = absurd (omega arith)
 pieces_append (suc n) p (c ∷ cs) more h m =
     let s = piece_from p c (past p c cs) in
@@ -162,10 +155,13 @@ pieces_append (suc n) p (c ∷ cs) more h m =
     (last_leaves (piece_ending s.piece) s.rest more leaves) in
     let shorter : length s.rest.text ≤ n = omega (arith, h, piece_within p c (past p c cs)) in
     pieces_next p c (cs ++ more)
-    ∙ ap (λ (t : Step). t.piece ∷ pieces t.rest) same
-    ∙ ap (λ xs. s.piece ∷ xs) (pieces_append n s.rest.place s.rest.text more shorter
-    (rest_leaves (piece_ending s.piece) (pieces s.rest) more leaves))
-    ∙ rw (step_reaches p c cs, pieces_next p c cs) refl
+    ∙ rw (
+      same,
+      pieces_append n s.rest.place s.rest.text more shorter
+          (rest_leaves (piece_ending s.piece) (pieces s.rest) more leaves),
+      step_reaches p c cs,
+      pieces_next p c cs,
+    ) refl
 
 -- ---- how two texts end
 
