@@ -1,7 +1,8 @@
 -- A text with deeply nested groups is long: a group in another has fewer signs than the outer one.
-use Rattle.std.proofs.Common.{◌≡◌, ◌≢◌, ◌∙◌, refl, sym, ap, arith, subst, ℕ, zero, suc, ◌+◌, ◌*◌}
-use Rattle.std.proofs.Common.{◌<◌, ◌≤◌, List, ◌∷◌, ◌++◌, length, append_assoc, inl, inr}
+use Rattle.std.proofs.Common.{◌≡◌, ◌≢◌, refl, ap, arith, ℕ, zero, suc, ◌+◌, ◌*◌}
+use Rattle.std.proofs.Common.{◌<◌, ◌≤◌, List, ◌∷◌, ◌++◌, length, append_assoc}
 use Rattle.std.proofs.Common.{Option, Some, None, Result, ◌-◌}
+use native.Mathlib.Numerals.{unary_clauses}
 use Rattle.std.proofs.lemmas.Bool.{cases_lt}
 use Rattle.std.proofs.lemmas.List.{length-append}
 use Rattle.std.specs.Prelude.{max}
@@ -29,9 +30,7 @@ use Rattle.interpolator_syntax.proofs.TokenTextLemmas.{takes_token, scan_taken}
 
 more_signs : (k n : ℕ) → sign_text (n + k) ≡ sign_text k ++ sign_text n
 more_signs zero n = ap sign_text (omega arith)
-more_signs (suc k) n =
-    let one : n + suc k ≡ suc (n + k) = omega arith in
-    ap sign_text one ∙ ap (λ xs. hash ∷ xs) (more_signs k n)
+more_signs (suc k) n = simp unary_clauses (ap (λ xs. hash ∷ xs) (more_signs k n))
 
 -- a text in which no `)` has k signs right after it
 abbrev pub NoClose : ℕ → List ℕ → Type 0
@@ -40,9 +39,7 @@ NoClose k cs = (front rest : List ℕ) → cs ≢ front ++ (close_text k ++ rest
 -- neither has what follows the front of such a text
 after_front : (k : ℕ) (a b : At) → Takes a b → NoClose k a.text → NoClose k b.text
 after_front k a b t none front rest e =
-    none (t.front ++ front) rest
-    (t.split ∙ ap (λ xs. t.front ++ xs) e
-    ∙ sym (append_assoc t.front front (close_text k ++ rest)))
+    none (t.front ++ front) rest (rw (append_assoc, ← e) t.split)
 
 -- what closes a group with more signs closes one with fewer
 closes_fewer : (k n : ℕ) (rest : List ℕ)
@@ -53,23 +50,14 @@ closes_fewer k n rest = grind (arith, more_signs, append_assoc)
 fewer_signs : (j k : ℕ) (cs front rest : List ℕ) → NoClose j cs
     → cs ≡ front ++ (close_text k ++ rest) → k < j
 fewer_signs j k cs front rest none e =
-    elim (cases_lt k j) [
-      | inl l ↦ l
-      | inr l ↦
-          let more = k - j in
-          let same : k ≡ more + j = omega (arith, l) in
-          absurd (none front (sign_text more ++ rest)
-          (e ∙ ap (λ n. front ++ (close_text n ++ rest)) same
-          ∙ ap (λ xs. front ++ xs) (closes_fewer j more rest)))
-    ]
+    grind (arith, closes_fewer j (k - j) rest, none front (sign_text (k - j) ++ rest))
 
 -- ---- one group
 
 module _ (a : At) (g : Group) (q : At) (h : IsGroup a g q) where
   group_fewer : (j : ℕ) → NoClose j a.text → h.k < j
   group_fewer j none =
-      fewer_signs j h.k a.text (open_text h.k ++ g.text) q.text none
-      (h.split ∙ sym (append_assoc (open_text h.k) g.text (close_text h.k ++ q.text)))
+      fewer_signs j h.k a.text (open_text h.k ++ g.text) q.text none (rw append_assoc h.split)
 
   group_no_close : NoClose h.k g.text
   group_no_close = grind (arith, append_assoc)
@@ -110,18 +98,13 @@ deeper : (P : ℕ → Type 0) (a : At) → P 0
     → ((b : At) → length b.text < length a.text → Takes a b → (g : Group)
     → GroupAfter 2 (Some g) b → P (suc (forest_depth (as_forest (nodes (inside g))))))
     → P (forest_depth (as_forest (nodes a)))
-deeper P a none after each = by_first (first_token a) refl
-  where
-    by_first : (o : Option (Token × At)) → first_token a ≡ o
-        → P (forest_depth (as_forest (nodes a)))
-    by_first None e = subst (λ xs. P (forest_depth (as_forest xs))) (sym (nodes_none a e)) none
-    by_first (Some w) e =
-        let rest = past_token w.0 w.1 in
-        subst (λ xs. P (forest_depth (as_forest xs))) (sym (nodes_first a w.1 w.0 e))
-        (of_greater P _ _
-        (by_token P none w.1
-        (each w.1 (token_shorter a w e) (takes_token a w e).takes) a.place w.0)
-        (after rest (scan_shorter a _ w e refl) (scan_taken a w e)))
+deeper P a none after each =
+    elim (first_token a) as (λ o. first_token a ≡ o → P (forest_depth (as_forest (nodes a)))) [
+      | None ↦ λ e. rw (nodes_none a e) none
+      | Some w ↦ λ e. rw (nodes_first a w.1 w.0 e) (of_greater P _ _
+          (by_token P none w.1 (each w.1 (token_shorter a w e) (takes_token a w e).takes) a.place w.0)
+          (after (past_token w.0 w.1) (scan_shorter a _ w e refl) (scan_taken a w e)))
+    ] refl
 
 -- in a text in which no `)` has j signs right after it, groups are nested at most j deep
 abbrev Bounded : At → Type 0

@@ -1,5 +1,5 @@
 -- The faults of a whole text against a sample, from those of its stored pieces.
-use Rattle.std.proofs.Common.{◌≡◌, ◌∙◌, ap, subst, arith, ℕ, zero, suc, ◌+◌, ◌*◌, ◌^◌, ◌<◌, ◌≤◌}
+use Rattle.std.proofs.Common.{◌≡◌, ap, arith, ℕ, ◌+◌, ◌*◌, ◌^◌, ◌<◌, ◌≤◌}
 use Rattle.std.proofs.Common.{true, List, length}
 use Rattle.std.proofs.Common.{Option}
 use Rattle.std.proofs.lemmas.Str.{length-le-encodes, encodes-chars}
@@ -22,39 +22,26 @@ use Rattle.interpolator.proofs.DeepLemmas.{deep_is_long}
 use Rattle.interpolator_pieces.proofs.WholeLemmas.{nodes_whole}
 
 -- a text is much less deep than it has characters
-less_deep : (d n most : ℕ) → d * (d + 4) ≤ n → n < most → 4 < most → d + 1 < most
-less_deep zero n most h l few = omega (arith, few)
-less_deep (suc d) n most h l few = omega (arith, h, l, mul d d)
-  where
-    mul : (a b : ℕ) → a + 1 ≤ (a + 1) * (b + 5)
-    mul a b = omega (arith)
+less_deep : (level d n most : ℕ) → level ≡ 0 → d * (d + 4) ≤ n → n < most → 4 < most
+    → level + d + 1 < most
+less_deep level d n most e h l few = grind arith
 
 module _ (bs : List ℕ) (xs : List Piece) (text : List ℕ) (utf8 : IsUtf8 text)
     (same : nodes_of bs xs ≡ nodes (outermost (chars text))) where
   pub walk_whole : forest_whole (as_forest (nodes_of bs xs)) ≡ true
-  walk_whole =
-      ap (λ ns. forest_whole (as_forest ns)) same ∙ nodes_whole (outermost (chars text))
+  walk_whole = rw same (nodes_whole (outermost (chars text)))
 
   pub walk_deep : (level : ℕ) → level ≡ 0 → length text < 2 ^ 64
       → level + forest_depth (as_forest (nodes_of bs xs)) + 1 < 2 ^ 64
   walk_deep level none small =
-      let a = outermost (chars text) in
       let bytes = ap length (encodes-chars text utf8) in
       let fits : length (chars text) < 2 ^ 64 =
       omega (arith, length-le-encodes (chars text), bytes, small) in
-      let depth = ap (λ ns. forest_depth (as_forest ns)) same in
-      let less = less_deep (forest_depth (as_forest (nodes a))) (length (chars text)) (2 ^ 64)
-      (deep_is_long a) fits (omega arith) in
-      omega (arith, none, depth, less)
+      rw same (less_deep _ _ _ _ none (deep_is_long (outermost (chars text))) fits (omega arith))
 
   -- what is reported for the stored pieces is what is reported for the text
   pub walk_tells : {X : Type 0} (shows : X → Trait → Spec → Shown)
       (finds : List ℕ → Option (Slots X)) (s : Sample X) (old new : FaultCollector) (r : Option Answer)
       → s ≡ sample finds → Collects (forest_faults_in shows s (as_forest (nodes_of bs xs))) old new r
       → Collects (faults_over shows finds (outermost (chars text))) old new r
-  walk_tells shows finds s old new r is told =
-      let faults : forest_faults_in shows s (as_forest (nodes_of bs xs))
-      ≡ faults_over shows finds (outermost (chars text)) =
-      ap (λ q. forest_faults_in shows q (as_forest (nodes_of bs xs))) is
-      ∙ ap (λ ns. forest_faults_in shows (sample finds) (as_forest ns)) same in
-      subst (λ fs. Collects fs old new r) faults told
+  walk_tells shows finds s old new r is told = rw (is, same) at told
