@@ -96,11 +96,9 @@ module _ {X : Type 0} (shows : X → Trait → Spec → Shown) (e : Environment 
       → ArePlain (pieces (record { place = p; text = cs })) text → Says p cs text
   plain_says most p [] [] l h =
       rw (means_none shows e p) (record { says = refl; no_fault = refl; no_memory = refl })
-  plain_says most p [] (d ∷ text) l h =
-      absurd (let k = sym (ap Characters (pieces_none p)) ∙ h in cc)
+  plain_says most p [] (d ∷ text) l h = grind (arith, pieces_none p)
   plain_says zero p (c ∷ cs) text l h = absurd (omega arith)
-  plain_says (suc most) p (c ∷ cs) [] l h =
-      absurd (let k = sym (ap Characters (pieces_next p c cs)) ∙ h in cc)
+  plain_says (suc most) p (c ∷ cs) [] l h = grind (arith, pieces_next p c cs)
   plain_says (suc most) p (c ∷ cs) (d ∷ text) l h =
       let rest = (piece_from p c (past p c cs)).rest in
       let shorter = piece_within p c (past p c cs) in

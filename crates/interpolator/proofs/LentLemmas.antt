@@ -1,6 +1,6 @@
 -- What is under a name after the last value written to an entry is back in the map.
-use Rattle.std.proofs.Common.{◌≡◌, ◌≢◌, ◌∙◌, refl, sym, ap, ℕ, Bool, true, false, List}
-use Rattle.std.proofs.Common.{Option, Some, None, true≢false}
+use Rattle.std.proofs.Common.{◌≡◌, ◌≢◌, ◌∙◌, ap, arith, ℕ, Bool, List}
+use Rattle.std.proofs.Common.{Option, Some}
 use Rattle.std.specs.Prelude.{MatchOption, unwrap_or, if◌then◌else◌}
 use Rattle.std.specs.Bool.{Decides}
 use Rattle.std.specs.Option.{option_map}
@@ -18,15 +18,12 @@ module _ {V : Type 0} where
   entry_slots : (was : Option (Formattable V)) (before : Formattable V)
       → MatchOption was (slots_of before ≡ empty_slots) (λ value. before ≡ value)
       → slots_of before ≡ unwrap_or (option_map slots_of was) empty_slots
-  entry_slots None before e = e
-  entry_slots (Some value) before e = ap slots_of e
+  entry_slots was before e = grind arith
 
   by_name : (same : Bool) (name own : List ℕ) (was now : Option (Slots V)) (tree : Slots V)
       → Decides same (name ≡ own) → (name ≡ own → now ≡ Some tree) → (name ≢ own → now ≡ was)
       → now ≡ (if same then Some tree else was)
-  by_name true name own was now tree d here others = here (d.0 refl)
-  by_name false name own was now tree d here others =
-      others (λ e. absurd (true≢false (sym (d.1 e))))
+  by_name same name own was now tree d here others = grind arith
 
   pub entry_added : (old new : NameMap (Formattable V)) (lent : Lent V)
       (before last : Formattable V)

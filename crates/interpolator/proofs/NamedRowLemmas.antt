@@ -1,5 +1,5 @@
 -- Named values in the order of a format's names are a row of them.
-use Rattle.std.proofs.Common.{◌≡◌, ◌∙◌, refl, sym, ap, arith, ℕ, zero, suc, ◌<◌, Bool, true, false}
+use Rattle.std.proofs.Common.{◌≡◌, arith, ℕ, ◌-◌, ◌<◌, Bool}
 use Rattle.std.proofs.Common.{List, [], ◌∷◌, length, reverse, cond}
 use Rattle.std.proofs.Common.{Option, Some, None, IsSome, option_map}
 use Rattle.std.proofs.Math.Path.{fun_ext}
@@ -9,9 +9,9 @@ use Rattle.std.specs.Borrow.{Bor}
 use Rattle.std.specs.List.{find}
 use Rattle.std.specs.Option.{option_and_then, option_or}
 use Rattle.std.specs.Prelude.{⊤, slice_get}
-use Rattle.std.specs.Str.{bytes_eq, encode_utf8_all}
+use Rattle.std.specs.Str.{bytes_eq}
 use Rattle.interpolator_eval.specs.Contexts.{last_under}
-use Rattle.interpolator_prepared.specs.Rows.{InOrder, found_by_row, last_position, later_or_first}
+use Rattle.interpolator_prepared.specs.Rows.{InOrder, last_position, later_or_first}
 use Rattle.interpolator_prepared.specs.Rows.{pair_names}
 use Rattle.interpolator.specs.NamedValues.{found_by_values, named_at, pairs_of}
 use Rattle.interpolator.specs.declared.values.Values.{Values}
@@ -46,12 +46,9 @@ module _ {Y : Type 0} where
   agree [] bytes = tt
   agree (x ∷ pairs) bytes =
       let test : Pair Y → Bool = λ pair. bytes_eq bytes pair.0.now in
-      let found : find test (reverse (x ∷ pairs))
-      ≡ option_or (find test (reverse pairs)) (cond (test x) (Some x) None) =
-      ap (find test) (reverse-append (x ∷ []) pairs)
-      ∙ find-append test (reverse pairs) (x ∷ []) in
-      rw found (agree_more x pairs (last_position (pair_names pairs) bytes)
-      (find test (reverse pairs)) (test x) (agree pairs bytes))
+      rw (reverse-append (x ∷ []) pairs, find-append test (reverse pairs) (x ∷ []))
+      (agree_more x pairs (last_position (pair_names pairs) bytes) (find test (reverse pairs)) (test x)
+      (agree pairs bytes))
 
   -- the last pair of a name is at its last position
   last_at : (pairs : List (Pair Y)) (bytes : List ℕ)
@@ -60,8 +57,7 @@ module _ {Y : Type 0} where
 
   reached : (pairs : List (Pair Y)) (k : ℕ) → k < length (pair_names pairs) → IsSome (At pairs k)
   reached [] k h = absurd (omega (arith, h))
-  reached (x ∷ pairs) zero h = refl
-  reached (x ∷ pairs) (suc k) h = reached pairs k (omega (arith, h))
+  reached (x ∷ pairs) k h = grind (arith, reached pairs (k - 1))
 
 -- a row of values with these names is in their order
 pub values_in_order : (values : Values) (names : List (List ℕ)) → names ≡ pair_names (pairs_of values)

@@ -1,10 +1,9 @@
 -- The last of some named values stands for what the last of the pairs does that they are.
-use Rattle.std.proofs.Common.{◌≡◌, ◌∙◌, refl, ap, sym, ℕ, Bool, true, false, List, [], ◌∷◌, ◌++◌}
-use Rattle.std.proofs.Common.{map, reverse, Option, Some, None}
+use Rattle.std.proofs.Common.{◌≡◌, refl, arith, ℕ, Bool, List, [], ◌∷◌}
+use Rattle.std.proofs.Common.{map, reverse, Option}
 use Rattle.std.proofs.lemmas.List.{map-append, reverse-append}
 use Rattle.std.specs.List.{find}
 use Rattle.std.specs.Option.{option_map}
-use Rattle.std.specs.Prelude.{cond}
 use Rattle.std.specs.Str.{bytes_eq}
 use Rattle.interpolator_eval.specs.Contexts.{last_under}
 use Rattle.interpolator.specs.NamedValues.{named_slots, pair_of}
@@ -14,31 +13,23 @@ module _ {A B : Type 0} (f : A → B) where
   reversed : (xs : List A) → reverse (map f xs) ≡ map f (reverse xs)
   reversed [] = refl
   reversed (x ∷ xs) =
-      reverse-append (f x ∷ []) (map f xs)
-      ∙ ap (λ ys. ys ++ (f x ∷ [])) (reversed xs)
-      ∙ sym (ap (map f) (reverse-append (x ∷ []) xs) ∙ map-append f (reverse xs) (x ∷ []))
-
-  first_or_next : (b : Bool) (x : A) (next : Option B) (own : Option A) → next ≡ option_map f own
-      → cond b (Some (f x)) next ≡ option_map f (cond b (Some x) own)
-  first_or_next true x next own e = refl
-  first_or_next false x next own e = e
+      rw (reverse-append (f x ∷ []) (map f xs), reversed xs, reverse-append (x ∷ []) xs, map-append) refl
 
   found : (test : B → Bool) (xs : List A)
       → find test (map f xs) ≡ option_map f (find (λ x. test (f x)) xs)
   found test [] = refl
-  found test (x ∷ xs) = first_or_next (test (f x)) x _ _ (found test xs)
+  found test (x ∷ xs) = grind (arith, found test xs)
 
 stands_for : (o : Option NamedValue)
     → option_map (λ pair. pair.1) (option_map pair_of o) ≡ option_map named_slots o
-stands_for None = refl
-stands_for (Some value) = refl
+stands_for o = grind arith
 
 pub last_pair : (values : List NamedValue) (name : List ℕ)
     → option_map named_slots (find (λ value. bytes_eq name value.name.now) (reverse values))
     ≡ last_under (map pair_of values) name
 last_pair values name =
-    sym (ap (λ pairs. option_map (λ pair. pair.1) (find (λ pair. bytes_eq name pair.0.now) pairs))
-    (reversed pair_of values)
-    ∙ ap (option_map (λ pair. pair.1))
-    (found pair_of (λ pair. bytes_eq name pair.0.now) (reverse values))
-    ∙ stands_for (find (λ value. bytes_eq name value.name.now) (reverse values)))
+    rw (
+      reversed pair_of values,
+      found pair_of (λ pair. bytes_eq name pair.0.now) (reverse values),
+      stands_for (find (λ value. bytes_eq name value.name.now) (reverse values)),
+    ) refl
