@@ -9,9 +9,8 @@ use Rattle.interpolator_syntax.specs.At.{At, size, strip, strip_of}
 use Rattle.interpolator_syntax.specs.Classes.{open_brace, close_brace}
 use Rattle.interpolator_syntax.specs.Arguments.{Argument, argument_at}
 use Rattle.interpolator_syntax.specs.Faults.{Fault}
-use Rattle.interpolator_syntax.specs.Pieces.{Piece, Step, argument_step}
-use Rattle.interpolator_syntax.specs.Pieces.{argument_or_broken, argument_from, open_step}
-use Rattle.interpolator_syntax.specs.Pieces.{close_step, piece_from, past, pieces}
+use Rattle.interpolator_syntax.specs.Pieces.{Piece, Step, argument_step, argument_or_broken}
+use Rattle.interpolator_syntax.specs.Pieces.{argument_from, piece_from, past, pieces}
 use Rattle.interpolator.specs.Seams.{piece_ending, last_ending, ending, may_follow}
 use Rattle.interpolator.specs.declared.parts.Ending.{Ending}
 use Rattle.interpolator.specs.declared.parts.Ending.TheVariants.{Settled, Open}
@@ -98,35 +97,16 @@ unfolding argument_from argument_at
 brace_last p q more g = (g refl).0 refl
 
 module _ (p : ℕ) (more : List ℕ) where
-  open_more :
-      (q : ℕ) (cs : List ℕ) (o : Option At) → strip_of open_brace q cs ≡ o
-      → Goes (open_step p (stands q cs) o) more
-      → open_step p (stands q (cs ++ more)) (strip_of open_brace q (cs ++ more))
-      ≡ step_more (open_step p (stands q cs) o) more
-  open_more q cs o e g =
-      grind (
-        arith,
-        strip_more,
-        strip_none_more,
-        brace_last p q more,
-        argument_from_more p (stands q cs) more,
-      )
-
-  close_more :
-      (q : ℕ) (cs : List ℕ) (o : Option At) → strip_of close_brace q cs ≡ o
-      → Goes (close_step p (stands q cs) o) more
-      → close_step p (stands q (cs ++ more)) (strip_of close_brace q (cs ++ more))
-      ≡ step_more (close_step p (stands q cs) o) more
-  close_more q cs o e g = grind (arith, stands, strip_more, strip_none_more)
-
   piece_more :
       (c q : ℕ) (cs : List ℕ) → Goes (piece_from p c (stands q cs)) more
       → piece_from p c (stands q (cs ++ more)) ≡ step_more (piece_from p c (stands q cs)) more
   piece_more c q cs g =
       grind (
         arith,
-        open_more q cs (strip_of open_brace q cs) refl,
-        close_more q cs (strip_of close_brace q cs) refl,
+        strip_more,
+        strip_none_more,
+        brace_last p q more,
+        argument_from_more p (stands q cs) more,
       )
 
 -- ---- whole texts
