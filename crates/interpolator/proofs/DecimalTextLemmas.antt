@@ -1,8 +1,7 @@
 -- A text spells one decimal at most.
-use Rattle.std.proofs.Common.{◌≡◌, ◌≢◌, ◌↔◌, ℕ, ℤ, ◌<◌, Bool, false, List, [], ◌∷◌, ◌++◌}
-use Rattle.std.proofs.Common.{length, get_or, Option, None, Some, Result, Ok, Bor}
-use Rattle.std.proofs.Common.{MatchOption, IfErr, arith, append-nil}
-use Rattle.std.proofs.Common.{lit<, if◌then◌else◌}
+use Rattle.std.proofs.Common.{◌≡◌, ◌≢◌, ◌↔◌, ℕ, ℤ, ◌<◌, Bool, false, List, [], ◌∷◌, ◌++◌, length}
+use Rattle.std.proofs.Common.{get_or, Option, None, Some, Result, Ok, Bor, MatchOption, IfErr}
+use Rattle.std.proofs.Common.{arith, append-nil, lit<, if◌then◌else◌}
 use Rattle.std.specs.Bool.{Decides, then_some}
 use Rattle.std.specs.Char.{digit_value}
 use Rattle.std.specs.Int.{IsInRange as IsBetween}

@@ -1,7 +1,6 @@
 -- A text with deeply nested groups is long: a group in another has fewer signs than the outer one.
-use Rattle.std.proofs.Common.{◌≡◌, ◌≢◌, refl, ap, arith, ℕ, zero, suc, ◌+◌, ◌*◌}
-use Rattle.std.proofs.Common.{◌<◌, ◌≤◌, List, ◌∷◌, ◌++◌, length, append_assoc}
-use Rattle.std.proofs.Common.{Option, Some, None, Result, ◌-◌}
+use Rattle.std.proofs.Common.{◌≡◌, ◌≢◌, refl, ap, arith, ℕ, zero, suc, ◌+◌, ◌*◌, ◌<◌, ◌≤◌, List}
+use Rattle.std.proofs.Common.{◌∷◌, ◌++◌, length, append_assoc, Option, Some, None, Result, ◌-◌}
 use native.Mathlib.Numerals.{unary_clauses}
 use Rattle.std.proofs.lemmas.Bool.{cases_lt}
 use Rattle.std.proofs.lemmas.List.{length-append}
@@ -11,8 +10,7 @@ use Rattle.interpolator_syntax.specs.Arguments.{Argument, argument_at}
 use Rattle.interpolator_syntax.specs.Classes.{hash}
 use Rattle.interpolator_syntax.specs.Faults.{Fault}
 use Rattle.interpolator_syntax.specs.Groups.{Group}
-use Rattle.interpolator_syntax.specs.GroupGrammar.{sign_text, open_text, close_text}
-use Rattle.interpolator_syntax.specs.GroupGrammar.{IsGroup}
+use Rattle.interpolator_syntax.specs.GroupGrammar.{sign_text, open_text, close_text, IsGroup}
 use Rattle.interpolator_syntax.specs.Pieces.{argument_from, argument_or_broken, argument_step}
 use Rattle.interpolator_syntax.specs.Tokens.{Token, first_token, past_token}
 use Rattle.interpolator_syntax.proofs.GrammarGroupLemmas.{sign_length}
@@ -20,8 +18,7 @@ use Rattle.interpolator_syntax.proofs.GuardLemmas.{GroupAfter, KindAfter, argume
 use Rattle.interpolator_syntax.proofs.LocalityLemmas.{Takes, takes_then}
 use Rattle.interpolator_syntax.specs.Groups.{inside}
 use Rattle.interpolator_pieces.specs.NodeExtents.{node_depth, forest_depth}
-use Rattle.interpolator_syntax.specs.Nodes.{as_forest}
-use Rattle.interpolator_syntax.specs.Nodes.{piece_node, token_node, nodes}
+use Rattle.interpolator_syntax.specs.Nodes.{as_forest, piece_node, token_node, nodes}
 use Rattle.interpolator_syntax.proofs.TokenLemmas.{token_shorter, scan_shorter}
 use Rattle.interpolator_syntax.proofs.NodeLemmas.{by_length, nodes_first, nodes_none}
 use Rattle.interpolator_syntax.proofs.TokenTextLemmas.{takes_token, scan_taken}
@@ -101,8 +98,9 @@ deeper : (P : ℕ → Type 0) (a : At) → P 0
 deeper P a none after each =
     elim (first_token a) as (λ o. first_token a ≡ o → P (forest_depth (as_forest (nodes a)))) [
       | None ↦ λ e. rw (nodes_none a e) none
-      | Some w ↦ λ e. rw (nodes_first a w.1 w.0 e) (of_greater P _ _
-          (by_token P none w.1 (each w.1 (token_shorter a w e) (takes_token a w e).takes) a.place w.0)
+      | Some w ↦ λ e.
+          let own = each w.1 (token_shorter a w e) (takes_token a w e).takes in
+          rw (nodes_first a w.1 w.0 e) (of_greater P _ _ (by_token P none w.1 own a.place w.0)
           (after (past_token w.0 w.1) (scan_shorter a _ w e refl) (scan_taken a w e)))
     ] refl
 

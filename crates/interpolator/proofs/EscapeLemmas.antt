@@ -1,8 +1,7 @@
 -- Doubled braces: how they are appended, and what a text with doubled braces means.
 use Rattle.std.proofs.lemmas.Grind.{common_steps}
-use Rattle.std.proofs.Common.{◌≡◌, ℕ, zero, suc, ◌≤◌, true, List, [], ◌∷◌, ◌++◌}
-use Rattle.std.proofs.Common.{map, length, arith, refl, ap, ◌∙◌, sym, Option, Some, append_assoc}
-use Rattle.std.proofs.Common.{append-nil}
+use Rattle.std.proofs.Common.{◌≡◌, ℕ, zero, suc, ◌≤◌, true, List, [], ◌∷◌, ◌++◌, map, length, arith}
+use Rattle.std.proofs.Common.{refl, ap, ◌∙◌, sym, Option, Some, append_assoc, append-nil}
 use Rattle.std.specs.Str.{chars}
 use Rattle.std.proofs.lemmas.Str.{chars-nil}
 use Rattle.std.proofs.lemmas.Bool.{eqb-true}
@@ -11,8 +10,7 @@ use Rattle.interpolator_render.specs.declared.view.Spec.{Spec}
 use Rattle.interpolator_render.specs.Views.{Shown}
 use Rattle.interpolator_syntax.specs.At.{At, outermost}
 use Rattle.interpolator_syntax.specs.Classes.{front_of, after_of, in_class, is_brace}
-use Rattle.interpolator_syntax.specs.Pieces.{PieceKind, Piece, piece_from}
-use Rattle.interpolator_syntax.specs.Pieces.{past, pieces}
+use Rattle.interpolator_syntax.specs.Pieces.{PieceKind, Piece, piece_from, past, pieces}
 use Rattle.interpolator_eval.specs.Meaning.Environments.{Environment}
 use Rattle.interpolator_eval.specs.Meaning.Meanings.{means}
 use Rattle.interpolator.specs.Escaping.{braces_doubled, plain_character, ArePlain, SaysAlone}

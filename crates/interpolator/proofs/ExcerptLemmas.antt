@@ -1,8 +1,6 @@
 -- What an excerpt of a line shows, and where its marks stand.
-use Rattle.std.proofs.Common.{◌≡◌, ℕ, ◌<◌, ◌≤◌, ◌+◌, ◌-◌, Bool, false, List, []}
-use Rattle.std.proofs.Common.{◌∷◌, ◌++◌, length, take, drop, refl, ◌∙◌}
-use Rattle.std.proofs.Common.{ap, arith, append_assoc}
-use Rattle.std.proofs.Common.{length-append, map}
+use Rattle.std.proofs.Common.{◌≡◌, ℕ, ◌<◌, ◌≤◌, ◌+◌, ◌-◌, Bool, false, List, [], ◌∷◌, ◌++◌, length}
+use Rattle.std.proofs.Common.{take, drop, refl, ◌∙◌, ap, arith, append_assoc, length-append, map}
 use native.Mathlib.Numerals.{unary_clauses}
 use Rattle.std.specs.Prelude.{◌==◌}
 use Rattle.std.specs.Str.{encode_utf8_all}
@@ -98,7 +96,8 @@ before_all e =
 -- three lists in front of others
 past_three : (n : ℕ) (xs ys zs rest : List ℕ) → n ≡ length xs + (length ys + length zs)
     → drop n (xs ++ (ys ++ (zs ++ rest))) ≡ rest
-past_three n xs ys zs rest h = rw h (rw (drop-append-add, drop-append-add) (drop-append_seam zs rest))
+past_three n xs ys zs rest h =
+    rw h (rw (drop-append-add, drop-append-add) (drop-append_seam zs rest))
 
 pub line_under_marks : (e : Excerpt) → drop (before_marks e) (shown_characters e)
     ≡ e.marked ++ (e.after ++ dots e.cut_after)
@@ -146,7 +145,8 @@ mark_at line around from to l h =
     let none : length (dots e.cut_before) ≡ 0 = rw left refl in
     let front : e.before ++ e.marked_before ≡ take around line =
     shown_before line around from to ∙ simp (left, take_all most_shown line l, unary_clauses) in
-    omega (arith, before_all e, none, simp length-append at (ap length front), length-take around line)
+    let all = simp length-append at (ap length front) in
+    omega (arith, before_all e, none, all, length-take around line)
 
 -- the line as it is shown has the part that is shown in one
 pub shown_part : (line : List ℕ) (around from to : ℕ) → let e = excerpt_of line around from to in

@@ -1,6 +1,5 @@
 -- What is under a name after the last value written to an entry is back in the map.
-use Rattle.std.proofs.Common.{◌≡◌, ◌≢◌, ◌∙◌, ap, arith, ℕ, Bool, List}
-use Rattle.std.proofs.Common.{Option, Some}
+use Rattle.std.proofs.Common.{◌≡◌, ◌≢◌, ◌∙◌, ap, arith, ℕ, Bool, List, Option, Some}
 use Rattle.std.specs.Prelude.{MatchOption, unwrap_or, if◌then◌else◌}
 use Rattle.std.specs.Bool.{Decides}
 use Rattle.std.specs.Option.{option_map}

@@ -1,6 +1,5 @@
 -- Named values in the order of a format's names are a row of them.
-use Rattle.std.proofs.Common.{◌≡◌, arith, ℕ, ◌-◌, ◌<◌, Bool}
-use Rattle.std.proofs.Common.{List, [], ◌∷◌, length, reverse, cond}
+use Rattle.std.proofs.Common.{◌≡◌, arith, ℕ, ◌-◌, ◌<◌, Bool, List, [], ◌∷◌, length, reverse, cond}
 use Rattle.std.proofs.Common.{Option, Some, None, IsSome, option_map}
 use Rattle.std.proofs.Math.Path.{fun_ext}
 use Rattle.std.proofs.lemmas.List.{reverse-append}
@@ -11,8 +10,7 @@ use Rattle.std.specs.Option.{option_and_then, option_or}
 use Rattle.std.specs.Prelude.{⊤, slice_get}
 use Rattle.std.specs.Str.{bytes_eq}
 use Rattle.interpolator_eval.specs.Contexts.{last_under}
-use Rattle.interpolator_prepared.specs.Rows.{InOrder, last_position, later_or_first}
-use Rattle.interpolator_prepared.specs.Rows.{pair_names}
+use Rattle.interpolator_prepared.specs.Rows.{InOrder, last_position, later_or_first, pair_names}
 use Rattle.interpolator.specs.NamedValues.{found_by_values, named_at, pairs_of}
 use Rattle.interpolator.specs.declared.values.Values.{Values}
 
@@ -47,8 +45,7 @@ module _ {Y : Type 0} where
   agree (x ∷ pairs) bytes =
       let test : Pair Y → Bool = λ pair. bytes_eq bytes pair.0.now in
       rw (reverse-append (x ∷ []) pairs, find-append test (reverse pairs) (x ∷ []))
-      (agree_more x pairs (last_position (pair_names pairs) bytes) (find test (reverse pairs)) (test x)
-      (agree pairs bytes))
+      (agree_more x pairs _ (find test (reverse pairs)) (test x) (agree pairs bytes))
 
   -- the last pair of a name is at its last position
   last_at : (pairs : List (Pair Y)) (bytes : List ℕ)

@@ -1,6 +1,5 @@
 -- The last of some named values stands for what the last of the pairs does that they are.
-use Rattle.std.proofs.Common.{◌≡◌, refl, arith, ℕ, Bool, List, [], ◌∷◌}
-use Rattle.std.proofs.Common.{map, reverse, Option}
+use Rattle.std.proofs.Common.{◌≡◌, refl, sym, arith, ℕ, Bool, List, [], ◌∷◌, map, reverse, Option}
 use Rattle.std.proofs.lemmas.List.{map-append, reverse-append}
 use Rattle.std.specs.List.{find}
 use Rattle.std.specs.Option.{option_map}
@@ -13,7 +12,8 @@ module _ {A B : Type 0} (f : A → B) where
   reversed : (xs : List A) → reverse (map f xs) ≡ map f (reverse xs)
   reversed [] = refl
   reversed (x ∷ xs) =
-      rw (reverse-append (f x ∷ []) (map f xs), reversed xs, reverse-append (x ∷ []) xs, map-append) refl
+      rw (reverse-append (f x ∷ []) (map f xs), reversed xs, reverse-append (x ∷ []) xs)
+      (sym (map-append f (reverse xs) (x ∷ [])))
 
   found : (test : B → Bool) (xs : List A)
       → find test (map f xs) ≡ option_map f (find (λ x. test (f x)) xs)

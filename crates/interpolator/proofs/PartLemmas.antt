@@ -1,7 +1,6 @@
 -- What parts mean, one after the other, and what their joined text means.
-use Rattle.std.proofs.Common.{◌≡◌, ◌≢◌, ℕ, ◌+◌, List, [], ◌∷◌, ◌++◌}
-use Rattle.std.proofs.Common.{length, arith, ◌∙◌, sym, Option, Some, None}
-use Rattle.std.proofs.Common.{append_assoc, append-nil, ◌<◌, drop, get_or}
+use Rattle.std.proofs.Common.{◌≡◌, ◌≢◌, ℕ, ◌+◌, List, [], ◌∷◌, ◌++◌, length, arith, ◌∙◌, sym}
+use Rattle.std.proofs.Common.{Option, Some, None, append_assoc, append-nil, ◌<◌, drop, get_or}
 use Rattle.std.proofs.lemmas.List.{drop_more}
 use Rattle.std.specs.Borrow.{Bor}
 use Rattle.std.specs.Str.{chars}
@@ -14,8 +13,7 @@ use Rattle.interpolator_syntax.specs.Nodes.{nodes, piece_node}
 use Rattle.interpolator.specs.Seams.{kind_ending, piece_ending, last_ending, ending}
 use Rattle.interpolator_syntax.specs.Faults.{Answer}
 use Rattle.interpolator_eval.specs.Meaning.Environments.{Environment}
-use Rattle.interpolator_eval.specs.Meaning.Meanings.{Meaning, chain}
-use Rattle.interpolator_eval.specs.Meaning.Meanings.{node_means, pieces_mean, means}
+use Rattle.interpolator_eval.specs.Meaning.Meanings.{Meaning, chain, node_means, pieces_mean, means}
 use Rattle.interpolator.specs.Meaning.Parts.{joined_text, texts_of, parts_mean, CleanBehind, Clean}
 use Rattle.interpolator.specs.Meaning.Parts.{FrontsClose}
 use Rattle.interpolator_eval.specs.Meaning.Outcomes.{Outcome}
@@ -65,7 +63,8 @@ module _ {X : Type 0} (shows : X → Trait → Spec → Shown) (e : Environment 
   parts_are_one [] clean close = sym (means_none shows e 0)
   parts_are_one (part ∷ parts) clean close =
       let settled : ending (outermost []) ≢ Open = rw (pieces_none 0) (λ d. cc) in
-      sym (joined_none _) ∙ (rw (means_none shows e 0) at (compose_after [] part parts settled clean close))
+      sym (joined_none _)
+      ∙ (rw (means_none shows e 0) at (compose_after [] part parts settled clean close))
 
   -- ---- a text without fault
 

@@ -47,12 +47,11 @@ module _ {text rest : List ℕ} {count end : ℕ} (u : IsUtf8 text) (r : Read te
   -- the characters up to there
   pub read_front : chars (take end text) ≡ take count (chars text)
   read_front =
-      append_cancel_right (chars (take end text)) (take count (chars text)) (drop count (chars text))
-      (rw (
+      let cs = chars text in
+      append_cancel_right (chars (take end text)) (take count cs) (drop count cs) (rw (
         ← r.left,
         ← r.there,
-        ← chars-append (take end text) (drop end text)
-            (IsUtf8-take text end u r.boundary),
+        ← chars-append (take end text) (drop end text) (IsUtf8-take text end u r.boundary),
         take-append-drop,
       ) (rw (r.there, r.left, take-append-drop) refl))
 

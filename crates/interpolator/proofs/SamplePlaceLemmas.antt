@@ -9,23 +9,20 @@ use Rattle.interpolator_render.specs.Views.{Shown}
 use Rattle.interpolator_render.specs.declared.view.Spec.{Spec}
 use Rattle.interpolator_render.specs.declared.view.Trait.{Trait}
 use Rattle.interpolator_syntax.specs.At.{outermost}
-use Rattle.interpolator_syntax.specs.Faults.{Fault, Answer, fault, fault_place}
-use Rattle.interpolator_syntax.specs.Faults.{PlaceWithin}
+use Rattle.interpolator_syntax.specs.Faults.{Fault, Answer, fault, fault_place, PlaceWithin}
 use Rattle.interpolator_syntax.specs.Nodes.{Node, node, Branch, no_branch, branch, Forest, no_nodes}
 use Rattle.interpolator_syntax.specs.Nodes.{nodes_and, as_forest, nodes, Content}
 use Rattle.interpolator_syntax.specs.declared.piece_kind.PieceKind.{PieceKind}
 use Rattle.interpolator_eval.specs.Slots.{Slots}
 use Rattle.interpolator_eval.specs.Meaning.Samples.{Sample, sample, bind_each}
 use Rattle.interpolator_pieces.specs.NodeChecks.{fault_list, own_fault, end_fault}
-use Rattle.interpolator_pieces.specs.NodeSamples.{may_be_items}
-use Rattle.interpolator_pieces.specs.NodeSamples.{asked_faults, plain_faults}
+use Rattle.interpolator_pieces.specs.NodeSamples.{may_be_items, asked_faults, plain_faults}
 use Rattle.interpolator_pieces.specs.NodeSamples.{node_faults_in, item_faults_in, join_faults_in}
 use Rattle.interpolator_pieces.specs.NodeSamples.{forest_faults_in, faults_over}
 use Rattle.interpolator_pieces.specs.Collecting.{AnswersFirst}
 use Rattle.interpolator_syntax.proofs.CharacterLemmas.{size-chars}
 use Rattle.interpolator_syntax.proofs.TreePlaceLemmas.{ContentLies, NodeLies, BranchLies}
-use Rattle.interpolator_syntax.proofs.TreePlaceLemmas.{ForestLies}
-use Rattle.interpolator_syntax.proofs.TreePlaceLemmas.{places_lie}
+use Rattle.interpolator_syntax.proofs.TreePlaceLemmas.{ForestLies, places_lie}
 
 module _ (n : ℕ) where
   abbrev AllWithin : List Fault → Type 0

@@ -4,8 +4,7 @@ use Rattle.interpolator_syntax.specs.Faults.{answer_of}
 use Rattle.interpolator.specs.Meaning.Parts.{bytes_of}
 use Rattle.interpolator_eval.proofs.MeaningLemmas.SinkLemmas.{same_then, goes_on}
 use Rattle.interpolator_eval.proofs.MeaningLemmas.PlaceLemmas.{lies_in_more}
-use Rattle.interpolator.proofs.PartLemmas.{part_runs, part_faults, no_parts_run}
-use Rattle.interpolator.proofs.PartLemmas.{part_at, rest_at}
+use Rattle.interpolator.proofs.PartLemmas.{part_runs, part_faults, no_parts_run, part_at, rest_at}
 use Rattle.interpolator.proofs.parts.write_each.Goals as goal
 
 pub write_part-requires : goal.write_part-requires
