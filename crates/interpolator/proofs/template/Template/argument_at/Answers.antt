@@ -2,8 +2,7 @@ use Rattle.std.proofs.Common.{ap, ◌∙◌}
 use Rattle.std.specs.Prelude.{string_bytes}
 use Rattle.std.specs.Str.{chars}
 use Rattle.interpolator_syntax.specs.At.{outermost}
-use Rattle.interpolator_pieces.specs.NodePlaces.{argument_among}
-use Rattle.interpolator_syntax.specs.Nodes.{as_forest, nodes}
+use Rattle.interpolator_syntax.specs.Nodes.{nodes}
 use Rattle.interpolator_pieces.specs.Stored.{nodes_of}
 use Rattle.interpolator.proofs.template.Template.argument_at.Goals as goal
 
@@ -13,7 +12,4 @@ returns c =
     let all =
     ap (nodes_of bs) c.deref.ensures.value ∙ c.self.invariant
     ∙ ap (λ bs. nodes (outermost (chars bs))) c.self.view_is in
-    record {
-      argument = c.argument_among.ensures bs
-          ∙ ap (λ xs. argument_among c.args.place (as_forest xs)) all;
-    }
+    record { argument = rw all at (c.argument_among.ensures bs) }

@@ -2,9 +2,8 @@ use Rattle.std.proofs.Common.{ap, ◌∙◌}
 use Rattle.std.specs.Prelude.{string_bytes}
 use Rattle.std.specs.Str.{chars}
 use Rattle.interpolator_syntax.specs.At.{outermost}
-use Rattle.interpolator_syntax.specs.Nodes.{as_forest, nodes}
-use Rattle.interpolator_pieces.specs.NodeCosts.{usize_cost, forest_cost}
-use Rattle.interpolator_pieces.specs.Stored.{nodes_of, forest_whole}
+use Rattle.interpolator_syntax.specs.Nodes.{nodes}
+use Rattle.interpolator_pieces.specs.Stored.{nodes_of}
 use Rattle.interpolator_pieces.proofs.WholeLemmas.{nodes_whole}
 use Rattle.interpolator.proofs.template.Template.cost.Goals as goal
 
@@ -14,10 +13,7 @@ cost_of-requires c =
     ap (λ bs. nodes_of bs c.deref.result.now) c.as_str.ensures.value
     ∙ ap (nodes_of (string_bytes c.self.inside.text)) c.deref.ensures.value ∙ c.self.invariant
     ∙ ap (λ bs. nodes (outermost (chars bs))) c.self.view_is in
-    record {
-      whole = ap (λ xs. forest_whole (as_forest xs)) all
-          ∙ nodes_whole (outermost (chars c.args.self.now));
-    }
+    record { whole = rw all (nodes_whole (outermost (chars c.args.self.now))) }
 
 pub returns : goal.returns
 returns c =
@@ -25,7 +21,4 @@ returns c =
     ap (λ bs. nodes_of bs c.deref.result.now) c.as_str.ensures.value
     ∙ ap (nodes_of (string_bytes c.self.inside.text)) c.deref.ensures.value ∙ c.self.invariant
     ∙ ap (λ bs. nodes (outermost (chars bs))) c.self.view_is in
-    record {
-      cost = c.cost_of.ensures
-          ∙ ap (λ xs. usize_cost (forest_cost c.args.limits.now (as_forest xs))) all;
-    }
+    record { cost = rw all at c.cost_of.ensures }
