@@ -1,8 +1,7 @@
 -- What stored steps mean, one after the other.
-use Rattle.std.proofs.Common.{◌≡◌, ◌∙◌, refl, ap, ℕ, zero, suc, ◌+◌, ◌<◌, ◌≤◌, List, [], ◌∷◌}
+use Rattle.std.proofs.Common.{◌≡◌, ◌∙◌, refl, ap, ℕ, zero, suc, ◌<◌, List, [], ◌∷◌}
 use Rattle.std.proofs.Common.{arith, sym, ◌++◌, flat_map}
-use Rattle.std.proofs.Common.{length, drop, map, get_or, Option, None, Some, IsSome, option_map}
-use Rattle.std.proofs.lemmas.List.{drop_more, drop_all}
+use Rattle.std.proofs.Common.{length, drop, map, Option, None, Some, IsSome, option_map}
 use Rattle.std.specs.List.{All}
 use Rattle.std.specs.Prelude.{Bool, true, false, ◌==◌, if◌then◌else◌}
 use Rattle.interpolator_prepared.specs.declared.step.Part.{Part}
@@ -55,6 +54,11 @@ program_fits bs (s ∷ ss) program h zero d l =
 program_fits bs (s ∷ ss) program h (suc k) d l =
     program_fits bs ss (drop (length (steps_of bs s)) program)
     (rest_is (steps_of bs s) (flat_map (steps_of bs) ss) program h) k d (omega (arith, l))
+
+-- the steps after the first fit if all do
+pub fit_rest : (bs : List ℕ) (xs : List Step) (x : Step) (rest : List Step) → xs ≡ x ∷ rest
+    → All (λ step. Fit (steps_of bs step)) xs → All (λ step. Fit (steps_of bs step)) rest
+fit_rest bs xs x rest is fit k d l = (rw is at fit) (suc k) d (omega (arith, l))
 
 -- a step of one instruction, and steps with one more
 pub alone : (bs : List ℕ) (s : Step) (p : Instruction) → step_of bs s ≡ Some p
@@ -153,27 +157,23 @@ module _ {X : Type 0} (shows : X → Trait → Spec → Shown) (e : Environment 
         → Outcome (chain (fitting_means shows e value_at (joined_step parts bytes)) m) s u r
     joined_then some = joined_by (parts_size parts == length bytes) some
 
-  module _ (xs : List Step) (i : ℕ) where
-    abbrev After : ℕ → Meaning
-    After n = stored_steps_mean shows e value_at bs (drop n xs)
+  abbrev AllMean : List Step → Meaning
+  AllMean xs = stored_steps_mean shows e value_at bs xs
 
-    -- no step is left
-    pub steps_end : (s : Written) → length xs ≤ i → Outcome (After i) s s None
-    steps_end s h = rw (drop_all i xs h) (nothing_done s)
+  -- no step is left
+  pub steps_end : (xs : List Step) (s : Written) → length xs ≡ 0 → Outcome (AllMean xs) s s None
+  steps_end [] s none = nothing_done s
+  steps_end (x ∷ xs) s none = absurd (omega (arith, none))
 
-    module _ (s t : Written) (x : Step) (h : i < length xs) (is : x ≡ get_or xs i x) where
-      next_step : drop i xs ≡ x ∷ drop (i + 1) xs
-      next_step = rw (drop_more xs i x h, ← is) refl
+  module _ (xs : List Step) (x : Step) (rest : List Step) (is : xs ≡ x ∷ rest) (s t : Written) where
+    -- a step ends the run
+    pub step_fault : (q : Answer) → Outcome (stored_step_means shows e value_at bs x) s t (Some q)
+        → Outcome (AllMean xs) s t (Some q)
+    step_fault q o = rw is (fault_first _ _ _ _ q o)
 
-      -- a step ends the run
-      pub step_fault : (q : Answer)
-          → Outcome (stored_step_means shows e value_at bs x) s t (Some q)
-          → Outcome (After i) s t (Some q)
-      step_fault q o = rw next_step (fault_first _ _ _ _ q o)
-
-      -- a step is done, and the steps after it follow
-      pub step_runs : (u : Written) (r : Option Answer)
-          → Outcome (stored_step_means shows e value_at bs x) s t None
-          → Outcome (After (i + 1)) t u r
-          → Outcome (After i) s u r
-      step_runs u r o k = rw next_step (and_then _ _ _ _ u r o k)
+    -- a step is done, and the steps after it follow
+    pub step_runs : (u : Written) (r : Option Answer)
+        → Outcome (stored_step_means shows e value_at bs x) s t None
+        → Outcome (AllMean rest) t u r
+        → Outcome (AllMean xs) s u r
+    step_runs u r o k = rw is (and_then _ _ _ _ u r o k)

@@ -14,7 +14,7 @@ ghost use Rattle.interpolator_pieces.specs.Stored.{part};
 ghost use Rattle.interpolator_pieces.specs.StoredMeanings.{stored_part};
 
 use crate::step::{JoinedText, Part};
-use interpolator_eval::{WriteFault, write_run};
+use interpolator_eval::WriteFault;
 use interpolator_pieces::{Piece, cut, part_of};
 use interpolator_render::TextWrite;
 use std::alloc::{AllocError, Global};
@@ -135,9 +135,8 @@ pub fn put_joined<W: TextWrite>(out: &mut W, joined: &JoinedText) -> Result<(), 
         (text_alone (joined_text joined.now))
         (W.written out.old) (W.written out.new) (write_answered result) }
 {
-    match write_run(out, joined.text.as_str(), 0) {
+    match out.write_str(joined.text.as_str()) {
         Ok(()) => Ok(()),
-        Err(WriteFault::MissingTraitImpl(t, place)) => Err(WriteFault::MissingTraitImpl(t, place)),
-        Err(WriteFault::Fmt(offset)) => Err(WriteFault::Fmt(place_of(&joined.parts, offset))),
+        Err(refusal) => Err(WriteFault::Fmt(place_of(&joined.parts, refusal.taken))),
     }
 }

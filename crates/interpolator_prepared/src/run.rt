@@ -41,12 +41,14 @@ pub fn run_steps<'a, W: TextWrite, R: PreparedRow>(
 {
     // A copy stays in registers.
     let row = *named.row;
-    for step in steps {
+    let mut left = steps;
+    while let Some((step, rest)) = left.split_first() {
         match step {
             Step::List(list) => run_list(alloc, out, text, named, list)?,
             Step::Kept(kept) => run_kept(alloc, out, text, named, kept)?,
             _ => put_step(out, text, &row, step)?,
         }
+        left = rest;
     }
     Ok(())
 }

@@ -7,9 +7,11 @@ use Rattle.std.specs.Char.{len_utf8}
 use Rattle.std.specs.Prelude.{Ok, Err}
 use Rattle.interpolator_render.specs.declared.view.Spec.{Spec}
 use Rattle.interpolator_render.specs.declared.view.Trait.{Trait}
-use Rattle.interpolator_render.specs.declared.view.RenderFault.TheVariants.{Refused as RefusedFault}
+use Rattle.interpolator_render.specs.declared.view.RenderFault.{RenderFault}
+use Rattle.interpolator_render.specs.declared.view.RenderFault.TheVariants as render_faults
 use Rattle.interpolator_render.specs.Padding.{padded_text, displayed_text}
-use Rattle.interpolator_render.specs.Texts.{ViewText, Renders, view_text}
+use Rattle.interpolator_render.specs.Texts.{ViewText, Renders, has_failed, has_no_text, has_text}
+use Rattle.interpolator_render.specs.Texts.{view_text}
 use Rattle.interpolator_render.specs.Views.{some_text}
 use Rattle.interpolator_render.specs.declared.view.Trait.TheVariants.{Display}
 use Rattle.interpolator_render.proofs.RenderingLemmas.{displayed_as_it_is}
@@ -102,10 +104,20 @@ pub view_wrote :
     → Outcome (view_means t p m) old new None
 view_wrote t p m old new u h = grind (arith, wrote_at)
 
-pub view_refused :
-    (t : Trait) (p : ℕ) (m : ViewText) (old new : Written) → Renders m old (Err RefusedFault) new
+pub view_refused : (t : Trait) (p : ℕ) (m : ViewText) (old new : Written)
+    → Renders m old (Err render_faults.Refused) new
     → Outcome (view_means t p m) old new (Some (fault (fmt p)))
 view_refused t p m old new h = grind (arith, refused_at)
+
+-- or it failed, or was refused: it had a text under its trait
+pub view_failed : (t : Trait) (p : ℕ) (m : ViewText) (old new : Written) (f : RenderFault)
+    → ¬ (f ≡ render_faults.NotImplemented) → Renders m old (Err f) new
+    → Outcome (view_means t p m) old new (Some (fault (fmt p)))
+view_failed t p m old new render_faults.NotImplemented had h = absurd (had refl)
+view_failed t p (has_text cs) old new render_faults.Failed had h = absurd h
+view_failed t p has_no_text old new render_faults.Failed had h = absurd h
+view_failed t p has_failed old new render_faults.Failed had h = search rules
+view_failed t p m old new render_faults.Refused had h = view_refused t p m old new h
 
 -- a text that is displayed plainly means itself
 pub plain_text_means : (p : ℕ) (cs : List ℕ)

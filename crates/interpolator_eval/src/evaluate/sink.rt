@@ -1,11 +1,12 @@
 //! Where text goes: to the writer, or into a buffer.
-ghost use Rattle.std.specs.Prelude.{◌≡◌, ◌+◌, ◌^◌, ◌<◌, length, [], ◌∷◌};
+ghost use Rattle.std.specs.Prelude.{◌≡◌, ◌≢◌, ◌+◌, ◌^◌, ◌<◌, Err, MatchBool, Some, length, [], ◌∷◌};
 ghost use Rattle.std.specs.Str.{chars};
 ghost use Rattle.std.specs.Option.{option_copied};
 ghost use Rattle.interpolator_render.specs.Views.{IsInRange, shown_by};
 ghost use Rattle.interpolator_render.specs.declared.view.Trait.TheVariants.{Display};
 ghost use Rattle.interpolator_render.specs.Padding.{padded_text};
-ghost use Rattle.interpolator_render.specs.Texts.{view_text};
+ghost use Rattle.interpolator_render.specs.Texts.{Renders, ViewText, view_text};
+ghost use Rattle.interpolator_render.specs.Written.{Written};
 ghost use Rattle.interpolator_syntax.specs.At.{placed_at, placed_from};
 ghost use Rattle.interpolator_syntax.specs.Faults.{answer_of};
 ghost use Rattle.interpolator_syntax.specs.SpecTexts.{plain_spec};
@@ -13,6 +14,7 @@ ghost use Rattle.interpolator_eval.specs.Meaning.Meanings.{text_alone, view_mean
 ghost use Rattle.interpolator_eval.specs.Meaning.Outcomes.{Outcome};
 ghost use Rattle.interpolator_eval.specs.Meaning.Sinks.{HasRoom, Writes, write_answered};
 ghost use Rattle.interpolator_eval.specs.Meaning.Sinks.{write_fault_answer};
+ghost use Rattle.interpolator_render.specs.declared.view.RenderFault.TheVariants.{NotImplemented};
 
 use interpolator_render::{
     Bounded, RenderFault, Spec, TextWrite, Trait, Value, View, pad, render, render_plainly,
@@ -72,6 +74,32 @@ pub fn write_run<W: TextWrite>(out: &mut W, text: &str, place: usize) -> Result<
     }
 }
 
+/// Whether a view had no text under its trait, or its slot was empty. This is called, so that a value
+/// that is written takes no step for its faults.
+#[cold]
+#[inline(never)]
+fn lacks_text(fault: RenderFault) -> bool
+    ensures { MatchBool result (fault ≡ NotImplemented) (fault ≢ NotImplemented) }
+{
+    match fault {
+        RenderFault::NotImplemented => true,
+        RenderFault::Failed => false,
+        RenderFault::Refused => false,
+    }
+}
+
+/// Why a value was not written, at a place.
+#[inline(always)]
+fn fault_at(fault: RenderFault, wanted: Trait, place: usize) -> WriteFault
+    ensures outcome { (text : ViewText) (old new : Written) → Renders text old (Err fault) new
+        → Outcome (view_means wanted place text) old new (Some (write_fault_answer result)) }
+{
+    if lacks_text(fault) {
+        return WriteFault::MissingTraitImpl(wanted, place);
+    }
+    WriteFault::Fmt(place)
+}
+
 /// Writes a view, with all its characters at one place.
 #[inline(always)]
 fn write_view<W: TextWrite>(
@@ -88,9 +116,7 @@ fn write_view<W: TextWrite>(
 {
     match render(out, view, wanted, spec) {
         Ok(()) => Ok(()),
-        Err(RenderFault::NotImplemented) => Err(WriteFault::MissingTraitImpl(wanted, place)),
-        Err(RenderFault::Failed) => Err(WriteFault::Fmt(place)),
-        Err(RenderFault::Refused) => Err(WriteFault::Fmt(place)),
+        Err(fault) => Err(fault_at(fault, wanted, place)),
     }
 }
 
@@ -139,11 +165,7 @@ fn write_displayed<W: TextWrite>(
 {
     match render_plainly(out, view) {
         Ok(()) => Ok(()),
-        Err(RenderFault::NotImplemented) => {
-            Err(WriteFault::MissingTraitImpl(Trait::Display, place))
-        }
-        Err(RenderFault::Failed) => Err(WriteFault::Fmt(place)),
-        Err(RenderFault::Refused) => Err(WriteFault::Fmt(place)),
+        Err(fault) => Err(fault_at(fault, Trait::Display, place)),
     }
 }
 
@@ -178,7 +200,7 @@ pub fn write_shown<W: TextWrite, V: Value>(
         (W.written out.old) (W.written out.new) (write_answered result) }
 {
     let Some(value) = value else {
-        return Err(WriteFault::MissingTraitImpl(wanted, place));
+        return Err(fault_at(RenderFault::NotImplemented, wanted, place));
     };
     write_view(out, value.view(wanted, spec), wanted, spec, place)
 }
@@ -194,7 +216,7 @@ pub fn write_plain<W: TextWrite, V: Value>(
         (W.written out.old) (W.written out.new) (write_answered result) }
 {
     let Some(value) = value else {
-        return Err(WriteFault::MissingTraitImpl(Trait::Display, place));
+        return Err(fault_at(RenderFault::NotImplemented, Trait::Display, place));
     };
     let view = value.view(Trait::Display, &Spec::default());
     write_plain_view(out, view, place)

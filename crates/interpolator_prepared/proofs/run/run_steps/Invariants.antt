@@ -1,10 +1,11 @@
-use Rattle.std.proofs.Common.{drop, Option}
+use Rattle.std.proofs.Common.{length, Option}
+use Rattle.std.specs.List.{All}
 use Rattle.interpolator_syntax.specs.Faults.{Answer}
 use Rattle.interpolator_eval.specs.Meaning.Environments.{environment}
 use Rattle.interpolator_eval.specs.Meaning.Outcomes.{Outcome}
 use Rattle.interpolator_render.specs.Written.{Written}
 use Rattle.interpolator_prepared.specs.Rows.{name_bytes}
-use Rattle.interpolator_prepared.specs.StoredSteps.{stored_steps_mean}
+use Rattle.interpolator_prepared.specs.StoredSteps.{Fit, steps_of, stored_steps_mean}
 use Rattle.interpolator_prepared.proofs.run.run_steps.Given as goal
 
 -- what was written, and then what the steps that are left mean, is what all of them mean
@@ -14,6 +15,12 @@ invariant-loop-step g l =
     let meaning = stored_steps_mean g.R.Object.Value.shows
     (environment (row.finds_in l.named.row.now (name_bytes l.named.names.now)))
     (row.value_at l.named.row.now) l.text in
-    (new : Written) (answer : Option Answer)
-    → Outcome (meaning (drop l.step-index l.steps)) (g.W.TextWrite.written l.out) new answer
-    → Outcome (meaning l.steps) (g.W.TextWrite.written l.fn.out) new answer
+    record {
+      fit : All (λ step. Fit (steps_of l.text step)) l.left;
+      goes_on : (new : Written) (answer : Option Answer)
+          → Outcome (meaning l.left) (g.W.TextWrite.written l.out) new answer
+          → Outcome (meaning l.steps) (g.W.TextWrite.written l.fn.out) new answer;
+    }
+
+abbrev pub decreases-loop-step : goal.decreases-loop-step
+decreases-loop-step g l = length l.left

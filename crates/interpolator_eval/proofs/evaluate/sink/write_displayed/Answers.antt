@@ -2,7 +2,7 @@ use Rattle.interpolator_render.specs.declared.view.Trait.TheVariants.{Display}
 use Rattle.interpolator_render.specs.Texts.{view_text}
 use Rattle.interpolator_render.specs.Views.{shown_by}
 use Rattle.interpolator_syntax.specs.SpecTexts.{plain_spec}
-use Rattle.interpolator_eval.proofs.MeaningLemmas.PlacedLemmas.{view_wrote, view_refused}
+use Rattle.interpolator_eval.proofs.MeaningLemmas.PlacedLemmas.{view_wrote}
 use Rattle.interpolator_eval.proofs.evaluate.sink.write_displayed.Goals as goal
 
 pub returns-in-Ok : goal.returns-in-Ok
@@ -10,12 +10,4 @@ returns-in-Ok g c =
     record {
       outcome = view_wrote Display c.args.place
           (view_text (shown_by c.args.view) Display plain_spec) _ _ _ c.in-Ok.ensures;
-    }
-
-pub returns-in-Err-Refused : goal.returns-in-Err-Refused
-returns-in-Err-Refused g c =
-    record {
-      outcome = view_refused Display c.args.place
-          (view_text (shown_by c.args.view) Display plain_spec) _ _
-          (rw c.in-Err-Refused.field-0-is at c.in-Err-Refused.ensures);
     }

@@ -1,6 +1,6 @@
 use Rattle.interpolator_render.specs.Texts.{view_text}
 use Rattle.interpolator_render.specs.Views.{shown_by}
-use Rattle.interpolator_eval.proofs.MeaningLemmas.PlacedLemmas.{view_wrote, view_refused}
+use Rattle.interpolator_eval.proofs.MeaningLemmas.PlacedLemmas.{view_wrote}
 use Rattle.interpolator_eval.proofs.evaluate.sink.write_view.Goals as goal
 
 pub returns-in-Ok : goal.returns-in-Ok
@@ -8,12 +8,4 @@ returns-in-Ok g c =
     record {
       outcome = view_wrote c.args.wanted c.args.place
           (view_text (shown_by c.args.view) c.args.wanted c.args.spec.now) _ _ _ c.in-Ok.ensures;
-    }
-
-pub returns-in-Err-Refused : goal.returns-in-Err-Refused
-returns-in-Err-Refused g c =
-    record {
-      outcome = view_refused c.args.wanted c.args.place
-          (view_text (shown_by c.args.view) c.args.wanted c.args.spec.now) _ _
-          (rw c.in-Err-Refused.field-0-is at c.in-Err-Refused.ensures);
     }
