@@ -37,6 +37,7 @@ use Rattle.interpolator_prepared.specs.Rows.{last_position}
 use Rattle.interpolator_prepared.specs.StoredSteps.{first_step, is_text, is_text_form, step_of, steps_of}
 use Rattle.interpolator_prepared.specs.StoredSteps.{text_count, texts_after, texts_placed}
 use Rattle.interpolator_prepared.specs.declared.step.Step.{Step}
+use Rattle.interpolator_prepared.proofs.JoinedLemmas.{with_value}
 use Rattle.interpolator_prepared.proofs.StepLemmas.{alone}
 
 -- the forms that are neither a name nor a value
@@ -64,22 +65,16 @@ if_same (Err y) bs a b e h = tt
 -- there are at most so many texts at the beginning of pieces as pieces
 pub text_count_le : (xs : List Piece) → text_count xs ≤ length xs
 text_count_le [] = omega arith
-text_count_le (x ∷ xs) = by_text (is_text x) (text_count xs) (length xs) (text_count_le xs)
-  where
-    by_text : (b : Bool) (n m : ℕ) → n ≤ m → (if b then suc n else 0) ≤ suc m
-    by_text true n m h = omega (arith, h)
-    by_text false n m h = omega arith
+text_count_le (x ∷ xs) = grind (arith, text_count_le xs)
 
 -- a name is the part that is stored of it
 pub named_part : (b : Bool) (o : Option (List ℕ)) (name : List ℕ)
     → (if b then o else None) ≡ Some name → o ≡ Some name
-named_part true o name h = h
-named_part false o name h = absurd (cc)
+named_part b o name h = grind (arith, h)
 
 -- and it is cut from the text
 pub part_fits : (b : Bool) (o : Option (List ℕ)) → IsSome (if b then o else None) → IsSome o
-part_fits true o h = h
-part_fits false o h = absurd (cc)
+part_fits b o h = grind (arith, h)
 
 -- ---- arguments
 
@@ -107,27 +102,11 @@ module _ (names : List (List ℕ)) where
   Precedes x = (steps : List Instruction)
       → node_before names x steps ≡ argument_step names (node_position names x) x ∷ steps
 
-  no_text : (place end : ℕ) (kind : PieceKind) (item join : Branch) (o : Option (List ℕ))
-      (start : ℕ) (spec : Spec) (target : Target) (q : ℕ)
-      → Precedes (node place end kind (option_map (λ name. argument_content start name spec target q) o) item join)
-  no_text place end kind item join None start spec target q steps = refl
-  no_text place end kind item join (Some name) start spec target q steps = refl
-
   by_form :
       (bs : List ℕ) (place end : ℕ) (kind : PieceKind) (item join : Branch) (from to q : ℕ)
       (spec : Spec) (form : Form) → form ≢ forms.Text
       → Precedes (node place end kind (stored_content bs place from to q spec form) item join)
-  by_form bs place end kind item join from to q spec forms.Text h = absurd (h refl)
-  by_form bs place end kind item join from to q spec forms.Plain h =
-      no_text place end kind item join (name_part bs place from to) (suc place) plain_spec
-      (target_value traits.Display) q
-  by_form bs place end kind item join from to q spec (forms.Value t) h =
-      no_text place end kind item join (name_part bs place from to) (suc place) spec
-      (target_value t) q
-  by_form bs place end kind item join from to q spec (forms.List range) h =
-      no_text place end kind item join (name_part bs place from to) (suc place) spec
-      (target_list range) q
-  by_form bs place end kind item join from to q spec (forms.Broken f) h = λ steps. refl
+  by_form bs place end kind item join from to q spec form h steps = grind (arith, h)
 
   pub argument_precedes :
       (bs : List ℕ) (x : Piece) → (detail_of x).form ≢ forms.Text → Precedes (node_of bs x)
@@ -140,27 +119,10 @@ module _ (names : List (List ℕ)) where
   -- ---- text
 
   -- an argument stays apart from the text before it
-  whole_apart : (x : Node) (ds : Placed) (steps : List Instruction)
-      → text_before ds (whole_step x ∷ steps) ≡ text_step ds ∷ (whole_step x ∷ steps)
-  whole_apart (node place end kind None item join) ds steps = refl
-  whole_apart (node place end kind (Some (text_content from cs)) item join) ds steps = refl
-  whole_apart (node place end kind (Some (fault_content f)) item join) ds steps = refl
-  whole_apart (node place end kind (Some (argument_content start name spec (target_list r) q)) item join) ds steps =
-      refl
-  whole_apart (node place end kind (Some (argument_content start name spec (target_value t) q)) item join) ds steps =
-      refl
-
   argument_apart : (o : Option ℕ) (x : Node) (ds : Placed) (steps : List Instruction)
       → text_before ds (argument_step names o x ∷ steps)
       ≡ text_step ds ∷ (argument_step names o x ∷ steps)
-  argument_apart None x ds steps = whole_apart x ds steps
-  argument_apart (Some k) (node place end kind None item join) ds steps = refl
-  argument_apart (Some k) (node place end kind (Some (text_content from cs)) item join) ds steps = refl
-  argument_apart (Some k) (node place end kind (Some (fault_content f)) item join) ds steps = refl
-  argument_apart (Some k) (node place end kind (Some (argument_content start name spec (target_list r) q)) item join) ds steps =
-      refl
-  argument_apart (Some k) (node place end kind (Some (argument_content start name spec (target_value t) q)) item join) ds steps =
-      refl
+  argument_apart o x ds steps = grind arith
 
   module _ (bs : List ℕ) where
     abbrev Program : List Piece → List Instruction
@@ -174,11 +136,7 @@ module _ (names : List (List ℕ)) where
     first_whole x xs h = both (node_whole (node_of bs x)) (forest_whole (as_forest (nodes_of bs xs))) h
 
     pub text_form : (form : Form) → is_text_form form ≡ true → form ≡ forms.Text
-    text_form forms.Text h = refl
-    text_form forms.Plain h = absurd (cc)
-    text_form (forms.Value t) h = absurd (cc)
-    text_form (forms.List range) h = absurd (cc)
-    text_form (forms.Broken f) h = absurd (cc)
+    text_form form h = grind (arith, h)
 
     other_form : (form : Form) → is_text_form form ≡ false → form ≢ forms.Text
     other_form form h e = let t : is_text_form form ≡ true = ap is_text_form e in cc
@@ -192,14 +150,10 @@ module _ (names : List (List ℕ)) where
     text_first : (x : Piece) (steps : List Instruction) → is_text x ≡ true
         → node_whole (node_of bs x) ≡ true
         → node_before names (node_of bs x) steps ≡ text_before (texts_placed bs (x ∷ [])) steps
-    text_first x steps is whole = by_part (stored_part bs x) refl (text_part x is whole)
-      where
-        by_part : (o : Option (List ℕ)) → stored_part bs x ≡ o → IsSome o
-            → node_before names (node_of bs x) steps ≡ text_before (texts_placed bs (x ∷ [])) steps
-        by_part None e h = absurd (cc)
-        by_part (Some cs) e h =
-            rw (node_of_out bs x, text_held bs x cs (text_form (detail_of x).form is) (sym e), e)
-            (ap (λ ds. text_before ds steps) (sym (append-nil (placed_from (detail_of x).from cs))))
+    text_first x steps is whole =
+        with_value (stored_part bs x) (text_part x is whole) (λ cs e.
+        rw (node_of_out bs x, text_held bs x cs (text_form (detail_of x).form is) (sym e), e)
+        (ap (λ ds. text_before ds steps) (sym (append-nil (placed_from (detail_of x).from cs)))))
 
     -- text before the program of pieces is joined to the text at their beginning
     texts_join : (xs : List Piece) (ds : Placed) → Whole xs
@@ -306,70 +260,36 @@ module _ (names : List (List ℕ)) where
           → ((name : List ℕ) → Some name ≡ stored_name bs x
           → content_of bs x
           ≡ Some (argument_content ((out-Piece x).place + 1) name spec (target_value t) (detail_of x).spec_end))
-          → (o : Option (List ℕ)) → stored_name bs x ≡ o → IsSome o
-          → r ≡ node_position names (node_of bs x)
-      by_found spec t held None e h = absurd (cc)
-      by_found spec t held (Some name) e h =
-          found name e
+          → IsSome (stored_name bs x) → r ≡ node_position names (node_of bs x)
+      by_found spec t held some =
+          with_value (stored_name bs x) some (λ name e. found name e
           ∙ position_is ((out-Piece x).place + 1) name spec t (detail_of x).spec_end
-          (encode_utf8_all name) (held name (sym e)) kind refl
+          (encode_utf8_all name) (held name (sym e)) kind refl)
 
       pub position_of_name : (detail_of x).form ≡ forms.Plain
           → r ≡ node_position names (node_of bs x)
       position_of_name form =
           by_found plain_spec traits.Display
           (λ name is. name_held bs x ((out-Piece x).place + 1) name refl is form)
-          (stored_name bs x) refl (name_fits bs x form (fits_text bs x whole).held)
+          (name_fits bs x form (fits_text bs x whole).held)
 
       pub position_of_value : (t : Trait) → (detail_of x).form ≡ forms.Value t
           → r ≡ node_position names (node_of bs x)
       position_of_value t form =
           by_found (detail_of x).spec t
           (λ name is. value_held bs x ((out-Piece x).place + 1) name refl is t form)
-          (stored_name bs x) refl (value_fits bs x t form (fits_text bs x whole).held)
+          (value_fits bs x t form (fits_text bs x whole).held)
 
     -- no other piece has a position
     pub no_position_kind : (kind : PieceKind) → (out-Piece x).kind ≡ kind → kind ≢ kinds.Closed
         → None ≡ node_position names (node_of bs x)
-    no_position_kind kind is other =
-        sym (rw (node_of_out bs x) (ap (λ k. content_position names k (content_of bs x)) is
-        ∙ by_kind kind (content_of bs x) other))
-      where
-        by_kind : (kind : PieceKind) (held : Option Content) → kind ≢ kinds.Closed
-            → content_position names kind held ≡ None
-        by_kind kinds.Literal held h = refl
-        by_kind kinds.Doubled held h = refl
-        by_kind kinds.LoneClose held h = refl
-        by_kind kinds.Closed held h = absurd (h refl)
-        by_kind kinds.Unclosed held h = refl
-        by_kind kinds.Broken held h = refl
+    no_position_kind kind is other = rw (node_of_out bs x, is) (grind (arith, other))
 
     pub no_position_form : (form : Form) → (detail_of x).form ≡ form → IsOther form
         → (out-Piece x).kind ≡ kinds.Closed → None ≡ node_position names (node_of bs x)
     no_position_form form is other kind =
         sym (rw (node_of_out bs x) (ap (λ k. content_position names k (content_of bs x)) kind
-        ∙ rw (is) (by_other form other)))
-      where
-        no_name : (o : Option (List ℕ)) (start : ℕ) (spec : Spec) (range : Option Range) (q : ℕ)
-            → content_position names kinds.Closed
-            (option_map (λ name. argument_content start name spec (target_list range) q) o) ≡ None
-        no_name None start spec range q = refl
-        no_name (Some name) start spec range q = refl
-
-        no_text_name : (o : Option (List ℕ)) (from : ℕ)
-            → content_position names kinds.Closed (option_map (λ cs. text_content from cs) o) ≡ None
-        no_text_name None from = refl
-        no_text_name (Some cs) from = refl
-
-        by_other : (form : Form) → IsOther form
-            → content_position names kinds.Closed
-            (stored_content bs (out-Piece x).place (detail_of x).from (detail_of x).to
-            (detail_of x).spec_end (detail_of x).spec form) ≡ None
-        by_other forms.Text h = no_text_name _ _
-        by_other forms.Plain h = absurd h
-        by_other (forms.Value t) h = absurd h
-        by_other (forms.List range) h = no_name _ _ _ _ _
-        by_other (forms.Broken f) h = refl
+        ∙ rw (is) (grind (arith, other))))
 
     -- ---- the step of an argument
 
@@ -397,59 +317,34 @@ module _ (names : List (List ℕ)) where
           → ((name : List ℕ) → Some name ≡ stored_name bs x
           → content_of bs x
           ≡ Some (argument_content ((out-Piece x).place + 1) name spec (target_value t) (detail_of x).spec_end))
-          → (o : Option (List ℕ)) → stored_name bs x ≡ o → IsSome o → IsAt t spec
-      by_name spec t held None e h = absurd (cc)
-      by_name spec t held (Some name) e h =
+          → IsSome (stored_name bs x) → IsAt t spec
+      by_name spec t held some =
+          with_value (stored_name bs x) some (λ name e.
           step_is k ((out-Piece x).place + 1) name spec t (detail_of x).spec_end
-          (held name (sym e)) position
+          (held name (sym e)) position)
 
       pub step_of_name : (detail_of x).form ≡ forms.Plain → IsAt traits.Display plain_spec
       step_of_name form =
           by_name plain_spec traits.Display
           (λ name is. name_held bs x ((out-Piece x).place + 1) name refl is form)
-          (stored_name bs x) refl (name_fits bs x form (fits_text bs x whole).held)
+          (name_fits bs x form (fits_text bs x whole).held)
 
       pub step_of_value : (t : Trait) → (detail_of x).form ≡ forms.Value t
           → IsAt t (detail_of x).spec
       step_of_value t form =
           by_name (detail_of x).spec t
           (λ name is. value_held bs x ((out-Piece x).place + 1) name refl is t form)
-          (stored_name bs x) refl (value_fits bs x t form (fits_text bs x whole).held)
+          (value_fits bs x t form (fits_text bs x whole).held)
 
-    -- of a piece that does not ask for a value, its own
-    abbrev Kept : ℕ → Option Content → Type 0
-    Kept k held =
-        let y = out-Piece x in
-        let n = node y.place y.end y.kind held (branch_of bs y.item) (branch_of bs y.join) in
-        step_at names k n ≡ whole_step n
-
-    -- and a piece of any other form
+    -- and of a piece of any other form
     pub step_other : (form : Form) → (detail_of x).form ≡ form → IsOther form → (k : ℕ)
         → Some k ≡ node_position names (node_of bs x)
         → Some (whole_step (node_of bs x))
         ≡ Some (argument_step names (node_position names (node_of bs x)) (node_of bs x))
     step_other form is other k position =
         let at : step_at names k (node_of bs x) ≡ whole_step (node_of bs x) =
-        rw (node_of_out bs x) (rw (is) (by_other form other)) in
+        rw (node_of_out bs x, is) (grind (arith, other)) in
         ap (λ y. Some y) (sym at) ∙ ap (λ o. Some (argument_step names o (node_of bs x))) position
-      where
-        no_name : (o : Option (List ℕ)) (start : ℕ) (spec : Spec) (range : Option Range) (q : ℕ)
-            → Kept k (option_map (λ name. argument_content start name spec (target_list range) q) o)
-        no_name None start spec range q = refl
-        no_name (Some name) start spec range q = refl
-
-        no_text_name : (o : Option (List ℕ)) (from : ℕ) → Kept k (option_map (λ cs. text_content from cs) o)
-        no_text_name None from = refl
-        no_text_name (Some cs) from = refl
-
-        by_other : (form : Form) → IsOther form
-            → Kept k (stored_content bs (out-Piece x).place (detail_of x).from (detail_of x).to
-            (detail_of x).spec_end (detail_of x).spec form)
-        by_other forms.Text h = no_text_name _ _
-        by_other forms.Plain h = absurd h
-        by_other (forms.Value t) h = absurd h
-        by_other (forms.List range) h = no_name _ _ _ _ _
-        by_other (forms.Broken f) h = refl
 
   -- ---- the steps of the first of some pieces
 

@@ -218,16 +218,12 @@ pub record Joins (bs : List ℕ) (whole : Placed) (joined : JoinedText) (left : 
   pub is : joined_step joined.parts.items (string_bytes joined.text) ≡ Some (text_step placed)
   pub rest : placed ++ texts_placed bs left ≡ whole
 
-module _ (bs : List ℕ) (x : Piece) (xs : List Piece) (fits : IsSome (stored_part bs x)) where
-  -- the text of a piece that fits its format
-  fitting_part : (cs : List ℕ) × (stored_part bs x ≡ Some cs)
-  fitting_part = by_part (stored_part bs x) refl fits
-    where
-      by_part : (o : Option (List ℕ)) → stored_part bs x ≡ o → IsSome o
-          → (cs : List ℕ) × (stored_part bs x ≡ Some cs)
-      by_part None e h = absurd (cc)
-      by_part (Some cs) e h = (cs, e)
+-- what follows from the value that is there
+pub with_value : {A P : Type 0} (o : Option A) → IsSome o → ((x : A) → o ≡ Some x → P) → P
+with_value None h k = absurd (cc)
+with_value (Some x) h k = k x refl
 
+module _ (bs : List ℕ) (x : Piece) (xs : List Piece) (fits : IsSome (stored_part bs x)) where
   -- one piece more
   pub joins_more : (whole : Placed) (old new : JoinedText) → Joins bs whole old (x ∷ xs)
       → ((cs : List ℕ) (placed : Placed) → stored_part bs x ≡ Some cs
@@ -236,15 +232,14 @@ module _ (bs : List ℕ) (x : Piece) (xs : List Piece) (fits : IsSome (stored_pa
       ≡ Some (text_step (placed ++ placed_from (detail_of x).from cs)))
       → Joins bs whole new xs
   joins_more whole old new j added =
-      let (cs, part) = fitting_part in
-      record {
+      with_value (stored_part bs x) fits (λ cs part. record {
         placed = j.placed ++ placed_from (detail_of x).from cs;
         is = added cs j.placed part j.is;
         rest = append_assoc j.placed (placed_from (detail_of x).from cs) (texts_placed bs xs)
             ∙ ap (λ ds. j.placed ++ (placed_from (detail_of x).from (unwrap_or ds []) ++ texts_placed bs xs))
             (sym part)
             ∙ j.rest;
-      }
+      })
 
 -- the next piece of some
 pub joins_next : (bs : List ℕ) (whole : Placed) (rest : List Piece) (i : ℕ) (x : Piece) (old new : JoinedText)
@@ -287,11 +282,11 @@ pub first_joined :
     → ((placed : Placed) → Stands one placed → Stands all (placed ++ texts_placed bs xs))
     → Stands all (texts_placed bs (x ∷ xs))
 first_joined bs x xs none one all fits empty first rest =
-    let (cs, part) = fitting_part bs x xs fits in
+    with_value (stored_part bs x) fits (λ cs part.
     let same : placed_from (detail_of x).from cs ++ texts_placed bs xs ≡ texts_placed bs (x ∷ xs) =
     ap (λ o. placed_from (detail_of x).from (unwrap_or o []) ++ texts_placed bs xs) (sym part) in
     rest (placed_from (detail_of x).from cs) (first cs [] part empty)
-    ∙ ap (λ ds. Some (text_step ds)) same
+    ∙ ap (λ ds. Some (text_step ds)) same)
 
 module _ (ps : List Part) (i : ℕ) (x : Part) (o : ℕ) (l : i < length ps) (is : x ≡ get_or ps i x)
   where

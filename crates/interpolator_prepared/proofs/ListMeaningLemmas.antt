@@ -58,12 +58,9 @@ module _ {X : Type 0} (shows : X → Trait → Spec → Shown) where
         ∙ ap (chain (node_means shows e x)) (forest_parts parts same xs)
 
     in_join_means : (x : Node) → Mean (in_join x) ≡ node_means shows e x
-    in_join_means (node place end kind None item join) = nothing_last _
     in_join_means (node place end kind (Some (text_content from cs)) item join) =
         characters_alone (placed_from from cs)
-    in_join_means (node place end kind (Some (argument_content start name spec target q)) item join) =
-        nothing_last _
-    in_join_means (node place end kind (Some (fault_content f)) item join) = nothing_last _
+    in_join_means (node place end kind _ item join) = nothing_last _
 
     join_parts_mean : (b : Branch) → Mean (join_parts b) ≡ join_branch_means shows e b
     join_parts_mean no_branch = refl
@@ -72,7 +69,6 @@ module _ {X : Type 0} (shows : X → Trait → Spec → Shown) where
   module _ (e : Environment X) (found : Slots X) where
     in_item_means : (x : Node)
         → parts_mean shows (bind e found) (in_item x) ≡ node_means shows (bind e found) x
-    in_item_means (node place end kind None item join) = nothing_last _
     in_item_means (node place end kind (Some (text_content from cs)) item join) =
         characters_alone (bind e found) (placed_from from cs)
     in_item_means (node place end kind (Some (argument_content start [] spec (target_value t) q)) item join) =
@@ -81,7 +77,7 @@ module _ {X : Type 0} (shows : X → Trait → Spec → Shown) where
         nothing_last _
     in_item_means (node place end kind (Some (argument_content start (c ∷ cs) spec target q)) item join) =
         nothing_last _
-    in_item_means (node place end kind (Some (fault_content f)) item join) = nothing_last _
+    in_item_means (node place end kind _ item join) = nothing_last _
 
     item_parts_mean : (b : Branch) (end : ℕ)
         → parts_mean shows (bind e found) (item_parts b end) ≡ item_branch_means shows e b end found
@@ -128,14 +124,10 @@ module _ {X : Type 0} (shows : X → Trait → Spec → Shown) (e : Environment 
   -- the step of a node means what the node means
   pub whole_means : (x : Node)
       → step_means shows e value_at (whole_step x) ≡ node_means shows e x
-  whole_means (node place end kind None item join) = refl
-  whole_means (node place end kind (Some (text_content from cs)) item join) = refl
-  whole_means (node place end kind (Some (fault_content f)) item join) = refl
-  whole_means (node place end kind (Some (argument_content start name spec (target_value t) q)) item join) =
-      refl
   whole_means (node place end kind (Some (argument_content start name spec (target_list r) q)) item join) =
       ap (and_closed kind q)
       (list_same (parts_mean shows e (join_parts join)) (join_branch_means shows e join)
       (λ found. parts_mean shows (bind e found) (item_parts item q)) (item_branch_means shows e item q)
       (join_parts_mean shows e join) (λ found. item_parts_mean shows e found item q)
       e name start r spec q)
+  whole_means (node place end kind _ item join) = refl

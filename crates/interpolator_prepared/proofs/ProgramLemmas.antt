@@ -59,9 +59,7 @@ module _ {X : Type 0} (shows : X → Trait → Spec → Shown) (e : Environment 
       → Mean (text_before xs steps) ≡ chain (text_alone xs) (Mean steps)
   text_before_means xs [] = refl
   text_before_means xs (text_step ys ∷ steps) = joined_assoc (text_alone xs) (text_alone ys) (Mean steps)
-  text_before_means xs (value_step k t spec end ∷ steps) = refl
-  text_before_means xs (list_step x ∷ steps) = refl
-  text_before_means xs (node_step x ∷ steps) = refl
+  text_before_means xs (_ ∷ steps) = refl
 
 -- ---- nodes
 
@@ -97,15 +95,7 @@ module _ {X : Type 0} (shows : X → Trait → Spec → Shown) (names : List (Li
       ∙ sym (ap (λ o. under_name name start (target_means shows (target_value t) spec q
       (join_branch_means shows E join) (item_branch_means shows E item q))
       (option_and_then value_at o)) h)
-  content_argument place end kinds.Literal (Some (argument_content start name spec (target_value t) q)) item join k h =
-      absurd (cc)
-  content_argument place end kinds.Doubled (Some (argument_content start name spec (target_value t) q)) item join k h =
-      absurd (cc)
-  content_argument place end kinds.LoneClose (Some (argument_content start name spec (target_value t) q)) item join k h =
-      absurd (cc)
-  content_argument place end kinds.Unclosed (Some (argument_content start name spec (target_value t) q)) item join k h =
-      absurd (cc)
-  content_argument place end kinds.Broken (Some (argument_content start name spec (target_value t) q)) item join k h =
+  content_argument place end _ (Some (argument_content start name spec (target_value t) q)) item join k h =
       absurd (cc)
 
   argument_means : (o : Option ℕ) (x : Node) → node_position names x ≡ o
@@ -124,15 +114,10 @@ module _ {X : Type 0} (shows : X → Trait → Spec → Shown) (names : List (Li
   node_before_means : (x : Node) (steps : List Instruction)
       → steps_mean shows E value_at (node_before names x steps)
       ≡ chain (node_means shows E x) (steps_mean shows E value_at steps)
-  node_before_means (node place end kind None item join) steps =
-      argument_before_means (node place end kind None item join) steps
   node_before_means (node place end kind (Some (text_content from cs)) item join) steps =
       text_before_means shows E value_at (placed_from from cs) steps
-  node_before_means (node place end kind (Some (argument_content start name spec target q)) item join) steps =
-      argument_before_means (node place end kind (Some (argument_content start name spec target q)) item join)
-      steps
-  node_before_means (node place end kind (Some (fault_content f)) item join) steps =
-      argument_before_means (node place end kind (Some (fault_content f)) item join) steps
+  node_before_means (node place end kind held item join) steps =
+      argument_before_means (node place end kind held item join) steps
 
   -- the program of nodes means what they mean
   pub program_means : (xs : List Node)

@@ -33,7 +33,7 @@ use Rattle.interpolator_prepared.specs.declared.step.JoinedText.{JoinedText}
 use Rattle.interpolator_prepared.specs.declared.step.ListStep.{ListStep}
 use Rattle.interpolator_prepared.specs.declared.step.ValueSpec.{ValueSpec}
 use Rattle.interpolator_prepared.proofs.CompileLemmas.{first_whole, named_part, text_form, text_part, texts_fit}
-use Rattle.interpolator_prepared.proofs.JoinedLemmas.{number_equals}
+use Rattle.interpolator_prepared.proofs.JoinedLemmas.{with_value, number_equals}
 
 module _ (bs : List ℕ) where
   abbrev Whole : List Piece → Type 0
@@ -45,15 +45,10 @@ module _ (bs : List ℕ) where
   -- the node of a piece of text
   text_in : (x : Piece) → is_text x ≡ true → node_whole (node_of bs x) ≡ true
       → (in_item (node_of bs x) ≡ characters (TextOf x)) × (in_join (node_of bs x) ≡ characters (TextOf x))
-  text_in x is whole = by_part (stored_part bs x) refl (text_part [] bs x is whole)
-    where
-      by_part : (o : Option (List ℕ)) → stored_part bs x ≡ o → IsSome o
-          → (in_item (node_of bs x) ≡ characters (TextOf x))
-          × (in_join (node_of bs x) ≡ characters (TextOf x))
-      by_part None e h = absurd (cc)
-      by_part (Some cs) e h =
-          let held = text_held bs x cs (text_form [] bs (detail_of x).form is) (sym e) in
-          (rw (node_of_out bs x, held, e) refl, rw (node_of_out bs x, held, e) refl)
+  text_in x is whole =
+      with_value (stored_part bs x) (text_part [] bs x is whole) (λ cs e.
+      let held = text_held bs x cs (text_form [] bs (detail_of x).form is) (sym e) in
+      (rw (node_of_out bs x, held, e) refl, rw (node_of_out bs x, held, e) refl))
 
   module _ (parts : Node → List ItemPart)
       (texts : (x : Piece) → is_text x ≡ true → node_whole (node_of bs x) ≡ true
@@ -198,9 +193,9 @@ module _ (bs : List ℕ) (x : Piece) (range : Option Range) (pieces : ListPieces
         rw (simple.no_width) (ap (placed_eq (joined_text between)) (sym same)
         ∙ placed_same (joined_text between))
 
-    made_is : (name : List ℕ) → stored_name bs x ≡ Some name
-        → compiled_list bs Made ≡ Some (whole_step (node_of bs x))
-    made_is name is =
+    pub list_made : compiled_list bs Made ≡ Some (whole_step (node_of bs x))
+    list_made =
+        with_value (stored_name bs x) (list_fits bs x range listed (fits_text bs x whole).held) (λ name is.
         let held = list_held bs x start name begins (sym is) range listed in
         rw (
           made_fits,
@@ -213,14 +208,4 @@ module _ (bs : List ℕ) (x : Piece) (range : Option Range) (pieces : ListPieces
           join_is,
           first,
           last,
-        ) refl
-
-    pub list_made : compiled_list bs Made ≡ Some (whole_step (node_of bs x))
-    list_made =
-        by_name (stored_name bs x) refl
-        (list_fits bs x range listed (fits_text bs x whole).held)
-      where
-        by_name : (o : Option (List ℕ)) → stored_name bs x ≡ o → IsSome o
-            → compiled_list bs Made ≡ Some (whole_step (node_of bs x))
-        by_name None e h = absurd (cc)
-        by_name (Some name) e h = made_is name e
+        ) refl)

@@ -63,15 +63,7 @@ fit_rest bs xs x rest is fit k d l = (rw is at fit) (suc k) d (omega (arith, l))
 -- a step of one instruction, and steps with one more
 pub alone : (bs : List ℕ) (s : Step) (p : Instruction) → step_of bs s ≡ Some p
     → steps_of bs s ≡ Some p ∷ []
-alone bs (steps.Literal from to) p h = rw h refl
-alone bs (steps.Joined x) p h = rw h refl
-alone bs (steps.Plain position end) p h = rw h refl
-alone bs (steps.Value position asked) p h = rw h refl
-alone bs (steps.List x) p h = rw h refl
-alone bs (steps.Kept x) p h = rw h refl
-alone bs (steps.LiteralPlain x position end) p h = absurd (cc)
-alone bs (steps.LiteralValue x position asked) p h = absurd (cc)
-alone bs (steps.JoinedPlain x position end) p h = absurd (cc)
+alone bs s p h = grind (arith, h)
 
 module _ {X : Type 0} (shows : X → Trait → Spec → Shown) (e : Environment X)
     (value_at : ℕ → Option (Slots X)) where
@@ -117,12 +109,6 @@ module _ {X : Type 0} (shows : X → Trait → Spec → Shown) (e : Environment 
 
 module _ {X : Type 0} (shows : X → Trait → Spec → Shown) (e : Environment X)
     (value_at : ℕ → Option (Slots X)) (bs : List ℕ) where
-  -- a step of one instruction does what that does
-  pub one_step : (x : Step) (o : Option Instruction) (s t : Written) (r : Option Answer)
-      → steps_of bs x ≡ o ∷ [] → Outcome (fitting_means shows e value_at o) s t r
-      → Outcome (stored_step_means shows e value_at bs x) s t r
-  one_step x o s t r is h = rw is h
-
   -- bytes of the format, and then a value
   module _ (from to : ℕ) (s t u : Written) (r : Option Answer) (m : Meaning) where
     text_by :
@@ -164,16 +150,3 @@ module _ {X : Type 0} (shows : X → Trait → Spec → Shown) (e : Environment 
   pub steps_end : (xs : List Step) (s : Written) → length xs ≡ 0 → Outcome (AllMean xs) s s None
   steps_end [] s none = nothing_done s
   steps_end (x ∷ xs) s none = absurd (omega (arith, none))
-
-  module _ (xs : List Step) (x : Step) (rest : List Step) (is : xs ≡ x ∷ rest) (s t : Written) where
-    -- a step ends the run
-    pub step_fault : (q : Answer) → Outcome (stored_step_means shows e value_at bs x) s t (Some q)
-        → Outcome (AllMean xs) s t (Some q)
-    step_fault q o = rw is (fault_first _ _ _ _ q o)
-
-    -- a step is done, and the steps after it follow
-    pub step_runs : (u : Written) (r : Option Answer)
-        → Outcome (stored_step_means shows e value_at bs x) s t None
-        → Outcome (AllMean rest) t u r
-        → Outcome (AllMean xs) s u r
-    step_runs u r o k = rw is (and_then _ _ _ _ u r o k)

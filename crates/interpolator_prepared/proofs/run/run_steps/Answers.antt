@@ -2,11 +2,11 @@ use Rattle.std.proofs.Common.{◌≡◌, arith, length, rules, [], ◌∷◌}
 use Rattle.std.proofs.lemmas.Bool.Decides.{nat_tests}
 use Rattle.std.proofs.lemmas.Result.{err_from_is_err_and}
 use Rattle.interpolator_eval.specs.Meaning.Environments.{environment}
+use Rattle.interpolator_eval.proofs.MeaningLemmas.SinkLemmas.{and_then, fault_first}
 use Rattle.interpolator_prepared.specs.Rows.{name_bytes}
 use Rattle.interpolator_prepared.specs.StoredSteps.{compiled_list, kept_step, steps_of}
 use Rattle.interpolator_pieces.specs.Stored.{node_of}
-use Rattle.interpolator_prepared.proofs.StepLemmas.{fit_rest, one_step, step_fault, step_runs}
-use Rattle.interpolator_prepared.proofs.StepLemmas.{steps_end}
+use Rattle.interpolator_prepared.proofs.StepLemmas.{fit_rest, steps_end}
 use Rattle.interpolator_prepared.proofs.run.run_steps.Goals as goal
 
 pub loop-step-init : goal.loop-step-init
@@ -15,96 +15,70 @@ loop-step-init g c = record { fit = c.requires.fit; goes_on = λ new answer k. k
 pub returns-in_err-run_list-in-List : goal.returns-in_err-run_list-in-List
 returns-in_err-run_list-in-List g c =
     let err = err_from_is_err_and c.from_residual.result c.from_residual.ensures.1 in
-    let row = c.args.named.now.row.now in
-    let e = environment (g.R.PreparedRow.finds_in row (name_bytes c.args.named.now.names.now)) in
-    let value_at = g.R.PreparedRow.value_at row in
     let list : steps_of c.args.text.now c.in-Some.step.now
     ≡ compiled_list c.args.text.now c.deref.result.now ∷ [] = search rules in
+    let value_at = g.R.PreparedRow.value_at c.args.named.now.row.now in
     rw (err.1, err.2) (record {
-      outcome = c.loop-step.invariant.goes_on _ _ (step_fault g.R.Object.Value.shows e value_at
-          c.args.text.now _ _ _ c.in-Some.ensures.cases.0 _ _ _
-          (one_step g.R.Object.Value.shows e value_at c.args.text.now _ _ _ _ _ list
-          (c.in_err-run_list-in-List.ensures.outcome value_at)));
+      outcome = c.loop-step.invariant.goes_on _ _ (rw (c.in-Some.ensures.cases.0, list)
+          (fault_first _ _ _ _ _ (c.in_err-run_list-in-List.ensures.outcome value_at)));
     })
 
 pub returns-in_err-run_kept-in-Kept : goal.returns-in_err-run_kept-in-Kept
 returns-in_err-run_kept-in-Kept g c =
-    let residual = c.from_residual-in_err-run_kept-in-Kept in
-    let err = err_from_is_err_and residual.result residual.ensures.1 in
-    let row = c.args.named.now.row.now in
-    let e = environment (g.R.PreparedRow.finds_in row (name_bytes c.args.named.now.names.now)) in
-    let value_at = g.R.PreparedRow.value_at row in
+    let err = err_from_is_err_and c.from_residual-in_err-run_kept-in-Kept.result c.from_residual-in_err-run_kept-in-Kept.ensures.1 in
     let kept : steps_of c.args.text.now c.in-Some.step.now
     ≡ kept_step (node_of c.args.text.now c.deref-in-Kept.result.now) ∷ [] = search rules in
+    let value_at = g.R.PreparedRow.value_at c.args.named.now.row.now in
     rw (err.1, err.2) (record {
-      outcome = c.loop-step.invariant.goes_on _ _ (step_fault g.R.Object.Value.shows e value_at
-          c.args.text.now _ _ _ c.in-Some.ensures.cases.0 _ _ _
-          (one_step g.R.Object.Value.shows e value_at c.args.text.now _ _ _ _ _ kept
-          (c.in_err-run_kept-in-Kept.ensures.outcome value_at)));
+      outcome = c.loop-step.invariant.goes_on _ _ (rw (c.in-Some.ensures.cases.0, kept)
+          (fault_first _ _ _ _ _ (c.in_err-run_kept-in-Kept.ensures.outcome value_at)));
     })
 
 pub returns-in_err-put_step-in_default-step : goal.returns-in_err-put_step-in_default-step
 returns-in_err-put_step-in_default-step g c =
-    let residual = c.from_residual-in_err-put_step-in_default-step in
-    let err = err_from_is_err_and residual.result residual.ensures.1 in
-    let row = c.args.named.now.row.now in
-    let e = environment (g.R.PreparedRow.finds_in row (name_bytes c.args.named.now.names.now)) in
+    let err = err_from_is_err_and c.from_residual-in_err-put_step-in_default-step.result c.from_residual-in_err-put_step-in_default-step.ensures.1 in
+    let named = c.args.named.now in
+    let e = environment (g.R.PreparedRow.finds_in named.row.now (name_bytes named.names.now)) in
     rw (err.1, err.2) (record {
-      outcome = c.loop-step.invariant.goes_on _ _ (step_fault g.R.Object.Value.shows e
-          (g.R.PreparedRow.value_at row) c.args.text.now _ _ _ c.in-Some.ensures.cases.0 _ _ _
-          (c.in_err-put_step-in_default-step.ensures.outcome e));
+      outcome = c.loop-step.invariant.goes_on _ _ (rw c.in-Some.ensures.cases.0
+          (fault_first _ _ _ _ _ (c.in_err-put_step-in_default-step.ensures.outcome e)));
     })
 
 pub loop-step-preserved-in_ok-run_list-in-List : goal.loop-step-preserved-in_ok-run_list-in-List
 loop-step-preserved-in_ok-run_list-in-List g c =
-    let row = c.args.named.now.row.now in
-    let e = environment (g.R.PreparedRow.finds_in row (name_bytes c.args.named.now.names.now)) in
-    let value_at = g.R.PreparedRow.value_at row in
     let list : steps_of c.args.text.now c.in-Some.step.now
     ≡ compiled_list c.args.text.now c.deref.result.now ∷ [] = search rules in
+    let value_at = g.R.PreparedRow.value_at c.args.named.now.row.now in
     record {
       fit = fit_rest c.args.text.now _ _ _ c.in-Some.ensures.cases.0 c.loop-step.invariant.fit;
-      goes_on = λ new answer k. c.loop-step.invariant.goes_on new answer
-          (step_runs g.R.Object.Value.shows e value_at c.args.text.now _ _ _
-          c.in-Some.ensures.cases.0 _ _ _ _
-          (one_step g.R.Object.Value.shows e value_at c.args.text.now _ _ _ _ _ list
-          (c.in_ok-run_list-in-List.ensures.outcome value_at)) k);
+      goes_on = λ new answer k. c.loop-step.invariant.goes_on new answer (rw (c.in-Some.ensures.cases.0, list)
+          (and_then _ _ _ _ _ _ (c.in_ok-run_list-in-List.ensures.outcome value_at) k));
     }
 
 pub loop-step-preserved-in_ok-run_kept-in-Kept : goal.loop-step-preserved-in_ok-run_kept-in-Kept
 loop-step-preserved-in_ok-run_kept-in-Kept g c =
-    let row = c.args.named.now.row.now in
-    let e = environment (g.R.PreparedRow.finds_in row (name_bytes c.args.named.now.names.now)) in
-    let value_at = g.R.PreparedRow.value_at row in
     let kept : steps_of c.args.text.now c.in-Some.step.now
     ≡ kept_step (node_of c.args.text.now c.deref-in-Kept.result.now) ∷ [] = search rules in
+    let value_at = g.R.PreparedRow.value_at c.args.named.now.row.now in
     record {
       fit = fit_rest c.args.text.now _ _ _ c.in-Some.ensures.cases.0 c.loop-step.invariant.fit;
-      goes_on = λ new answer k. c.loop-step.invariant.goes_on new answer
-          (step_runs g.R.Object.Value.shows e value_at c.args.text.now _ _ _
-          c.in-Some.ensures.cases.0 _ _ _ _
-          (one_step g.R.Object.Value.shows e value_at c.args.text.now _ _ _ _ _ kept
-          (c.in_ok-run_kept-in-Kept.ensures.outcome value_at)) k);
+      goes_on = λ new answer k. c.loop-step.invariant.goes_on new answer (rw (c.in-Some.ensures.cases.0, kept)
+          (and_then _ _ _ _ _ _ (c.in_ok-run_kept-in-Kept.ensures.outcome value_at) k));
     }
 
 pub loop-step-preserved : goal.loop-step-preserved
 loop-step-preserved g c =
-    let row = c.args.named.now.row.now in
-    let e = environment (g.R.PreparedRow.finds_in row (name_bytes c.args.named.now.names.now)) in
+    let named = c.args.named.now in
+    let e = environment (g.R.PreparedRow.finds_in named.row.now (name_bytes named.names.now)) in
     record {
       fit = fit_rest c.args.text.now _ _ _ c.in-Some.ensures.cases.0 c.loop-step.invariant.fit;
-      goes_on = λ new answer k. c.loop-step.invariant.goes_on new answer
-          (step_runs g.R.Object.Value.shows e (g.R.PreparedRow.value_at row) c.args.text.now _ _ _
-          c.in-Some.ensures.cases.0 _ _ _ _
-          (c.in_ok-put_step-in_default-step.ensures.outcome e) k);
+      goes_on = λ new answer k. c.loop-step.invariant.goes_on new answer (rw c.in-Some.ensures.cases.0
+          (and_then _ _ _ _ _ _ (c.in_ok-put_step-in_default-step.ensures.outcome e) k));
     }
 
 pub returns : goal.returns
 returns g c =
-    let row = c.args.named.now.row.now in
-    let e = environment (g.R.PreparedRow.finds_in row (name_bytes c.args.named.now.names.now)) in
+    let named = c.args.named.now in
+    let e = environment (g.R.PreparedRow.finds_in named.row.now (name_bytes named.names.now)) in
     let none : length c.loop-step.left.now ≡ 0 = grind (arith, nat_tests) in
-    record {
-      outcome = c.loop-step.invariant.goes_on _ _ (steps_end g.R.Object.Value.shows e
-          (g.R.PreparedRow.value_at row) c.args.text.now _ _ none);
-    }
+    record { outcome = c.loop-step.invariant.goes_on _ _ (steps_end _ e _ _ _ _ none) }
