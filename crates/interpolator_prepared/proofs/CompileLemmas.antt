@@ -1,6 +1,6 @@
 -- The steps that stand for the pieces of a text.
 use Rattle.std.proofs.Common.{◌≡◌, ◌≢◌, ◌∙◌, refl, sym, ap, arith, ℕ, zero, suc, ◌≤◌, List, [], ◌∷◌, ◌++◌, map}
-use Rattle.std.proofs.Common.{Option, None, Some, IsSome, option_map, true, false, Bool, length}
+use Rattle.std.proofs.Common.{Option, None, Some, IsSome, true, false, Bool, length}
 use Rattle.std.proofs.Common.{drop, take}
 use Rattle.std.proofs.lemmas.List.{append-nil, append_assoc}
 use Rattle.std.specs.List.{All}
@@ -11,15 +11,14 @@ use Rattle.interpolator_render.specs.declared.view.Spec.{Spec}
 use Rattle.interpolator_render.specs.declared.view.Trait.{Trait}
 use Rattle.interpolator_render.specs.declared.view.Trait.TheVariants as traits
 use Rattle.interpolator_syntax.specs.At.{Placed, placed_from}
-use Rattle.interpolator_syntax.specs.Nodes.{Node, node, Branch, Content, text_content, argument_content, Target}
-use Rattle.interpolator_syntax.specs.Nodes.{fault_content, target_value, target_list, as_forest}
+use Rattle.interpolator_syntax.specs.Nodes.{Node, node, Branch, Content, argument_content}
+use Rattle.interpolator_syntax.specs.Nodes.{target_value, as_forest}
 use Rattle.interpolator_syntax.specs.SpecTexts.{plain_spec}
 use Rattle.interpolator_syntax.specs.declared.piece_kind.PieceKind.{PieceKind}
 use Rattle.interpolator_syntax.specs.declared.piece_kind.PieceKind.TheVariants as kinds
-use Rattle.interpolator_syntax.specs.declared.range.Range.{Range}
-use Rattle.interpolator_pieces.specs.Stored.{name_part, stored_content, content_of, node_of}
+use Rattle.interpolator_pieces.specs.Stored.{stored_content, content_of, node_of}
 use Rattle.interpolator_pieces.specs.Stored.{nodes_of}
-use Rattle.interpolator_pieces.specs.Stored.{node_whole, forest_whole, branch_of, detail_of}
+use Rattle.interpolator_pieces.specs.Stored.{node_whole, forest_whole, detail_of}
 use Rattle.interpolator_pieces.specs.StoredMeanings.{stored_name, stored_part}
 use Rattle.interpolator_pieces.specs.declared.piece.Form.{Form}
 use Rattle.interpolator_pieces.specs.declared.piece.Form.TheVariants as forms

@@ -1,8 +1,8 @@
 -- Lists of a prepared format: what writing their items, and the texts around these, leaves.
-use Rattle.std.proofs.Common.{◌≡◌, ◌∙◌, refl, sym, ap, arith, ℕ, ◌+◌, ◌<◌, ◌≤◌, List, [], ◌∷◌, ◌++◌}
+use Rattle.std.proofs.Common.{◌≡◌, ◌∙◌, refl, sym, ap, arith, ℕ, ◌+◌, ◌<◌, List, [], ◌∷◌, ◌++◌}
 use Rattle.std.proofs.Common.{length, drop, map, get_or, Bool, true, false, Option, None, Some, IsSome}
 use Rattle.std.proofs.Common.{option_map, subst}
-use Rattle.std.proofs.lemmas.List.{drop_more, drop_all}
+use Rattle.std.proofs.lemmas.List.{drop_more}
 use Rattle.std.specs.Prelude.{◌==◌, ◌&&◌, not, is_some, if◌then◌else◌, string_bytes}
 use Rattle.std.specs.Str.{chars}
 use Rattle.std.proofs.lemmas.Str.{chars-nil}
@@ -20,7 +20,7 @@ use Rattle.interpolator_eval.specs.Meaning.Meanings.{Meaning, text_alone, chain}
 use Rattle.interpolator_eval.specs.Meaning.Meanings.{items_after, items_mean}
 use Rattle.interpolator_eval.specs.Meaning.Outcomes.{Outcome}
 use Rattle.interpolator_eval.proofs.MeaningLemmas.MeaningLemmas.{joined_assoc, joined_none, nothing_last}
-use Rattle.interpolator_eval.proofs.MeaningLemmas.SinkLemmas.{and_then, fault_first, nothing_done}
+use Rattle.interpolator_eval.proofs.MeaningLemmas.SinkLemmas.{nothing_done}
 use Rattle.interpolator_pieces.specs.Stored.{part}
 use Rattle.interpolator_pieces.proofs.WholePieceLemmas.{both}
 use Rattle.interpolator_prepared.specs.Items.{items_within, parts_mean, placed_eq}
@@ -37,47 +37,10 @@ use Rattle.interpolator_prepared.proofs.ListMeaningLemmas.{items_same}
 
 -- ---- items one by one
 
-module _ {F X : Type 0} (join : Meaning) (item : X → Meaning) (slots : F → X) where
-  abbrev After : List F → Meaning
-  After ys = items_after join item (map slots ys)
-
-  module _ (xs : List F) (i : ℕ) (x : F) (h : i < length xs) (is : x ≡ get_or xs i x)
-      (s t : Written) where
-    next_item : map slots (drop i xs) ≡ slots x ∷ map slots (drop (i + 1) xs)
-    next_item = rw (drop_more xs i x h, ← is) refl
-
-    -- the text in front of an item ends the run
-    pub join_fault : (q : Answer) → Outcome join s t (Some q)
-        → Outcome (After (drop i xs)) s t (Some q)
-    join_fault q o = rw next_item (fault_first _ _ _ _ q o)
-
-    -- an item ends the run
-    pub item_fault : (u : Written) (q : Answer) → Outcome join s t None
-        → Outcome (item (slots x)) t u (Some q) → Outcome (After (drop i xs)) s u (Some q)
-    item_fault u q j o = rw next_item (and_then _ _ _ _ _ _ j (fault_first _ _ _ _ q o))
-
-    -- an item is done, and the items after it follow
-    pub item_runs : (u new : Written) (r : Option Answer) → Outcome join s t None
-        → Outcome (item (slots x)) t u None → Outcome (After (drop (i + 1) xs)) u new r
-        → Outcome (After (drop i xs)) s new r
-    item_runs u new r j o k =
-        rw next_item (and_then _ _ _ _ _ _ j (and_then _ _ _ _ _ _ o k))
-
-  -- no item is left
-  pub items_end : (xs : List F) (i : ℕ) (s : Written) → length xs ≤ i
-      → Outcome (After (drop i xs)) s s None
-  items_end xs i s h = rw (drop_all i xs h) (nothing_done s)
-
-  module _ (xs : List F) (x : F) (rest : List F) (s t : Written) (split : xs ≡ x ∷ rest) where
-    -- the first item is done, and the items after it follow
-    pub first_runs : (u : Written) (r : Option Answer) → Outcome (item (slots x)) s t None
-        → Outcome (After (drop 0 rest)) t u r → Outcome (items_mean join item (map slots xs)) s u r
-    first_runs u r o k = rw split (and_then _ _ _ _ u r o k)
-
-    -- the first item ends the run
-    pub first_fault : (q : Answer) → Outcome (item (slots x)) s t (Some q)
-        → Outcome (items_mean join item (map slots xs)) s t (Some q)
-    first_fault q o = rw split (fault_first _ _ _ _ q o)
+-- from an item on: it, and the items after it
+pub next_item : {F X : Type 0} (slots : F → X) (xs : List F) (i : ℕ) (x : F) → i < length xs
+    → x ≡ get_or xs i x → map slots (drop i xs) ≡ slots x ∷ map slots (drop (i + 1) xs)
+next_item slots xs i x h is = rw (drop_more xs i x h, ← is) refl
 
 -- ---- the texts around items
 

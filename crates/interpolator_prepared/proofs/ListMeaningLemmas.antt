@@ -7,7 +7,7 @@ use Rattle.interpolator_render.specs.Views.{Shown}
 use Rattle.interpolator_syntax.specs.At.{Placed, placed_from}
 use Rattle.interpolator_syntax.specs.Faults.{parse, iter}
 use Rattle.interpolator_syntax.specs.Nodes.{Node, node, Branch, no_branch, branch, Forest, no_nodes}
-use Rattle.interpolator_syntax.specs.Nodes.{nodes_and, text_content, argument_content, fault_content}
+use Rattle.interpolator_syntax.specs.Nodes.{nodes_and, text_content, argument_content}
 use Rattle.interpolator_syntax.specs.Nodes.{target_value, target_list}
 use Rattle.interpolator_syntax.specs.declared.range.Range.{Range}
 use Rattle.interpolator_eval.specs.Slots.{Slots, items}

@@ -17,8 +17,7 @@ use Rattle.interpolator_eval.specs.Meaning.Meanings.{Meaning, text_alone, chain,
 use Rattle.interpolator_eval.proofs.MeaningLemmas.MeaningLemmas.{joined_assoc}
 use Rattle.interpolator_eval.specs.Meaning.Meanings.{target_means, node_means, forest_means}
 use Rattle.interpolator_eval.specs.Meaning.Meanings.{join_branch_means, item_branch_means}
-use Rattle.interpolator_prepared.specs.Programs.{Instruction, text_step, value_step, list_step}
-use Rattle.interpolator_prepared.specs.Programs.{node_step}
+use Rattle.interpolator_prepared.specs.Programs.{Instruction, text_step}
 use Rattle.interpolator_prepared.proofs.ListMeaningLemmas.{whole_means}
 use Rattle.interpolator_prepared.specs.Programs.{text_before, node_before, program}
 use Rattle.interpolator_prepared.specs.Programs.{content_position, node_position, step_at}

@@ -1,5 +1,5 @@
 -- What stored steps mean, one after the other.
-use Rattle.std.proofs.Common.{◌≡◌, ◌∙◌, refl, ap, ℕ, zero, suc, ◌<◌, List, [], ◌∷◌}
+use Rattle.std.proofs.Common.{◌≡◌, ◌∙◌, refl, ap, ℕ, zero, suc, List, [], ◌∷◌}
 use Rattle.std.proofs.Common.{arith, sym, ◌++◌, flat_map}
 use Rattle.std.proofs.Common.{length, drop, map, Option, None, Some, IsSome, option_map}
 use Rattle.std.specs.List.{All}
@@ -17,7 +17,7 @@ use Rattle.interpolator_eval.specs.Meaning.Meanings.{Meaning, chain, text_alone}
 use Rattle.interpolator_eval.specs.Meaning.Outcomes.{Outcome}
 use Rattle.interpolator_eval.proofs.MeaningLemmas.MeaningLemmas.{joined_assoc, joined_none}
 use Rattle.interpolator_eval.proofs.MeaningLemmas.MeaningLemmas.{nothing_last}
-use Rattle.interpolator_eval.proofs.MeaningLemmas.SinkLemmas.{and_then, fault_first, nothing_done}
+use Rattle.interpolator_eval.proofs.MeaningLemmas.SinkLemmas.{and_then, nothing_done}
 use Rattle.interpolator_pieces.specs.Stored.{part}
 use Rattle.interpolator_prepared.specs.Programs.{Instruction, step_means, steps_mean, text_step}
 use Rattle.interpolator_prepared.specs.StoredSteps.{Fit, all_mean, fitting_means, joined_placed}
@@ -25,7 +25,6 @@ use Rattle.interpolator_prepared.specs.StoredSteps.{joined_step, literal_step, p
 use Rattle.interpolator_prepared.specs.StoredSteps.{step_of, steps_of}
 use Rattle.interpolator_prepared.specs.StoredSteps.{stored_step_means, stored_steps_mean}
 use Rattle.interpolator_prepared.specs.declared.step.Step.{Step}
-use Rattle.interpolator_prepared.specs.declared.step.Step.TheVariants as steps
 
 -- if some instructions begin a program, they fit their format
 fit_front : (xs ys : List (Option Instruction)) (program : List Instruction)

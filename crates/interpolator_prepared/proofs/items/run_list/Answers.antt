@@ -1,8 +1,7 @@
-use Rattle.std.proofs.Common.{◌≡◌, map}
+use Rattle.std.proofs.Common.{map}
 use Rattle.std.proofs.lemmas.Result.{err_from_is_err_and}
 use Rattle.std.specs.Str.{chars}
 use Rattle.interpolator_eval.specs.Meaning.Environments.{environment}
-use Rattle.interpolator_eval.specs.Meaning.CodeEnvironments.{environment_of}
 use Rattle.interpolator_eval.specs.Slots.{slots_of}
 use Rattle.interpolator_prepared.specs.Rows.{name_bytes}
 use Rattle.interpolator_prepared.proofs.ItemLemmas.{compiled_fits, list_refused, list_written}
@@ -17,14 +16,12 @@ returns-in_err-items g c =
     let err = err_from_is_err_and c.from_residual.result c.from_residual.ensures.1 in
     let named = c.args.named.now in
     let e = environment (g.R.PreparedRow.finds_in named.row.now (name_bytes named.names.now)) in
-    let same : environment_of (λ named name. g.R.PreparedRow.finds_in named.row.now (name_bytes named.names.now) name)
-    c.outermost-environment.result ≡ e = c.outermost-environment.ensures in
     let list = c.args.list.now in
     let fits = (compiled_fits c.args.text.now list c.requires.fits).fits in
     rw (err.1, err.2) (record {
       outcome = λ value_at. list_refused g.R.Object.Value.shows e value_at c.args.text.now list
           (chars c.cut-name.result.now) fits c.cut-name.ensures.text _ _
-          _ same c.in_err-items.ensures.chosen;
+          _ c.outermost-environment.ensures c.in_err-items.ensures.chosen;
     })
 
 pub returns-in_err-put_list : goal.returns-in_err-put_list
@@ -33,30 +30,24 @@ returns-in_err-put_list g c =
     let err = err_from_is_err_and residual.result residual.ensures.1 in
     let named = c.args.named.now in
     let e = environment (g.R.PreparedRow.finds_in named.row.now (name_bytes named.names.now)) in
-    let same : environment_of (λ named name. g.R.PreparedRow.finds_in named.row.now (name_bytes named.names.now) name)
-    c.outermost-environment.result ≡ e = c.outermost-environment.ensures in
     let list = c.args.list.now in
     let fits = (compiled_fits c.args.text.now list c.requires.fits).fits in
     rw (err.1, err.2) (record {
       outcome = λ value_at. list_written g.R.Object.Value.shows e value_at c.args.text.now list
           (chars c.cut-name.result.now) fits c.cut-name.ensures.text
-          (map slots_of c.in_ok-items.items.now) _ _ _
-          _ same c.in_ok-items.ensures.chosen
-          c.in_err-put_list.ensures.outcome;
+          (map slots_of c.in_ok-items.items.now) _ _ _ _ c.outermost-environment.ensures
+          c.in_ok-items.ensures.chosen c.in_err-put_list.ensures.outcome;
     })
 
 pub returns : goal.returns
 returns g c =
     let named = c.args.named.now in
     let e = environment (g.R.PreparedRow.finds_in named.row.now (name_bytes named.names.now)) in
-    let same : environment_of (λ named name. g.R.PreparedRow.finds_in named.row.now (name_bytes named.names.now) name)
-    c.outermost-environment.result ≡ e = c.outermost-environment.ensures in
     let list = c.args.list.now in
     let fits = (compiled_fits c.args.text.now list c.requires.fits).fits in
     record {
       outcome = λ value_at. list_written g.R.Object.Value.shows e value_at c.args.text.now list
           (chars c.cut-name.result.now) fits c.cut-name.ensures.text
-          (map slots_of c.in_ok-items.items.now) _ _ _
-          _ same c.in_ok-items.ensures.chosen
-          c.in_ok-put_list.ensures.outcome;
+          (map slots_of c.in_ok-items.items.now) _ _ _ _ c.outermost-environment.ensures
+          c.in_ok-items.ensures.chosen c.in_ok-put_list.ensures.outcome;
     }
