@@ -140,8 +140,7 @@ same_placed (x ∷ xs) (y ∷ ys) h =
     ∙ ap (λ zs. y ∷ zs) (same_placed xs ys second.1)
 
 not_true : (b : Bool) → not b ≡ true → b ≡ false
-not_true true h = absurd (cc)
-not_true false h = refl
+not_true b h = grind (arith, h)
 
 -- a stored list that fits the format is a step under its name
 pub record Compiled (bs : List ℕ) (x : ListStep) : Type 0 where

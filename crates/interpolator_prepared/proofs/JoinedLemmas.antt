@@ -32,35 +32,17 @@ use Rattle.interpolator_pieces.specs.declared.piece.Piece.{Piece}
 
 -- ---- the place of a byte
 
-kept_by : (b : Bool) (m q r : ℕ) → (b ≡ false → q ≡ r)
-    → (if b then m else q) ≡ (if b then m else r)
-kept_by true m q r h = refl
-kept_by false m q r h = h refl
-
 -- one more part leaves the places of the bytes before it
 pub place_kept : (ps : List Part) (x : Part) (o : ℕ) → o < parts_size ps
     → joined_place (ps ++ (x ∷ [])) o ≡ joined_place ps o
 place_kept [] x o h = absurd (omega (arith, h))
-place_kept (p ∷ ps) x o h =
-    kept_by (nat_lt o (p.to - p.from)) (p.from + o)
-    (joined_place (ps ++ (x ∷ [])) (o - (p.to - p.from)))
-    (joined_place ps (o - (p.to - p.from)))
-    (λ e.
-    let past : p.to - p.from ≤ o = grind arith in
-    place_kept ps x (o - (p.to - p.from)) (omega (arith, h, past)))
+place_kept (p ∷ ps) x o h = grind (arith, place_kept ps x (o - (p.to - p.from)))
 
 -- and its own bytes are at its place
 pub place_added : (ps : List Part) (x : Part) (o : ℕ) → o < x.to - x.from
     → joined_place (ps ++ (x ∷ [])) (parts_size ps + o) ≡ x.from + o
-place_added [] x o h =
-    let e : nat_lt (0 + o) (x.to - x.from) ≡ true = grind arith in
-    let same : 0 + o ≡ o = omega arith in
-    rw (e) (ap (λ n. x.from + n) same)
-place_added (p ∷ ps) x o h =
-    let w = p.to - p.from in
-    let e : nat_lt (w + parts_size ps + o) w ≡ false = grind arith in
-    let left : w + parts_size ps + o - w ≡ parts_size ps + o = omega arith in
-    rw (e) (ap (joined_place (ps ++ (x ∷ []))) left ∙ place_added ps x o h)
+place_added [] x o h = grind (arith, h)
+place_added (p ∷ ps) x o h = grind (arith, place_added ps x o h)
 
 -- ---- characters at other places
 

@@ -30,19 +30,15 @@ use Rattle.interpolator_prepared.specs.Rows.{later_or_first, last_position, foun
 later_below :
     (o : Option ℕ) (b : Bool) (n k : ℕ) → ((j : ℕ) → o ≡ Some j → j < n)
     → later_or_first o b ≡ Some k → k < n + 1
-later_below (Some j) b n k h e =
-    let same : suc j ≡ k = cc in let below : j < n = h j refl in omega (arith, same, below)
-later_below None true n k h e = let same : 0 ≡ k = cc in omega (arith, same)
-later_below None false n k h e = absurd (cc)
+later_below o b n k h e = grind (arith, h, e)
 
 -- the position of a name is one of theirs
 pub position_below : (names : List (List ℕ)) (name : List ℕ) (k : ℕ)
     → last_position names name ≡ Some k → k < length names
 position_below [] name k e = absurd (cc)
 position_below (own ∷ names) name k e =
-    let below : k < length names + 1 =
-    later_below (last_position names name) (bytes_eq name own) (length names) k
-    (position_below names name) e in omega (arith, below)
+    omega (arith, later_below (last_position names name) (bytes_eq name own) (length names) k
+    (position_below names name) e)
 
 -- ---- steps in order
 

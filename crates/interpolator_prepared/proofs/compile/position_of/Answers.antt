@@ -1,7 +1,6 @@
 use Rattle.std.proofs.Common.{◌∙◌, sym}
 use Rattle.interpolator_prepared.specs.Rows.{name_bytes}
 use Rattle.interpolator_pieces.specs.declared.piece.Form.TheVariants as forms
-use Rattle.interpolator_syntax.specs.declared.piece_kind.PieceKind.TheVariants as kinds
 use Rattle.interpolator_prepared.proofs.CompileLemmas.{position_of_name, position_of_value}
 use Rattle.interpolator_prepared.proofs.CompileLemmas.{no_position_kind, no_position_form}
 use Rattle.interpolator_pieces.proofs.RunLemmas.{name_fits, value_fits}
@@ -49,25 +48,20 @@ returns-in-Broken-form_of c =
 
 pub returns-in-Literal : goal.returns-in-Literal
 returns-in-Literal c =
-    no_position_kind (name_bytes c.args.names.now) c.args.text.now c.args.piece.now kinds.Literal
-    c.in-Literal.is (λ e. cc)
+    no_position_kind (name_bytes c.args.names.now) c.args.text.now _ _ c.in-Literal.is (λ e. cc)
 
 pub returns-in-Doubled : goal.returns-in-Doubled
 returns-in-Doubled c =
-    no_position_kind (name_bytes c.args.names.now) c.args.text.now c.args.piece.now kinds.Doubled
-    c.in-Doubled.is (λ e. cc)
+    no_position_kind (name_bytes c.args.names.now) c.args.text.now _ _ c.in-Doubled.is (λ e. cc)
 
 pub returns-in-LoneClose : goal.returns-in-LoneClose
 returns-in-LoneClose c =
-    no_position_kind (name_bytes c.args.names.now) c.args.text.now c.args.piece.now kinds.LoneClose
-    c.in-LoneClose.is (λ e. cc)
+    no_position_kind (name_bytes c.args.names.now) c.args.text.now _ _ c.in-LoneClose.is (λ e. cc)
 
 pub returns-in-Unclosed : goal.returns-in-Unclosed
 returns-in-Unclosed c =
-    no_position_kind (name_bytes c.args.names.now) c.args.text.now c.args.piece.now kinds.Unclosed
-    c.in-Unclosed.is (λ e. cc)
+    no_position_kind (name_bytes c.args.names.now) c.args.text.now _ _ c.in-Unclosed.is (λ e. cc)
 
 pub returns-in-Broken : goal.returns-in-Broken
 returns-in-Broken c =
-    no_position_kind (name_bytes c.args.names.now) c.args.text.now c.args.piece.now kinds.Broken
-    c.in-Broken.is (λ e. cc)
+    no_position_kind (name_bytes c.args.names.now) c.args.text.now _ _ c.in-Broken.is (λ e. cc)
