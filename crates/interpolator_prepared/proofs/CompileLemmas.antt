@@ -36,7 +36,7 @@ use Rattle.interpolator_prepared.specs.Rows.{last_position}
 use Rattle.interpolator_prepared.specs.StoredSteps.{first_step, is_text, is_text_form, step_of, steps_of}
 use Rattle.interpolator_prepared.specs.StoredSteps.{text_count, texts_after, texts_placed}
 use Rattle.interpolator_prepared.specs.declared.step.Step.{Step}
-use Rattle.interpolator_prepared.proofs.JoinedLemmas.{with_value}
+use Rattle.interpolator_prepared.proofs.JoinedLemmas.{on_test, with_value}
 use Rattle.interpolator_prepared.proofs.StepLemmas.{alone}
 
 -- the forms that are neither a name nor a value
@@ -81,13 +81,9 @@ part_fits b o h = grind (arith, h)
 no_text_next : (xs : List Piece) (y : Piece) (ys : List Piece)
     → drop (text_count xs) xs ≡ y ∷ ys → is_text y ≡ false
 no_text_next [] y ys h = absurd (cc)
-no_text_next (x ∷ xs) y ys h = by_text (is_text x) (no_text_next xs y ys) refl
-  where
-    by_text : (b : Bool) → (drop (text_count xs) xs ≡ y ∷ ys → is_text y ≡ false)
-        → is_text x ≡ b → is_text y ≡ false
-    by_text true later is = later (rw is at h)
-    by_text false later is =
-        let all : x ∷ xs ≡ y ∷ ys = rw is at h in let same : x ≡ y = cc in rw (← same) is
+no_text_next (x ∷ xs) y ys h =
+    on_test (is_text x) (λ is. no_text_next xs y ys (rw is at h)) (λ is.
+    let all : x ∷ xs ≡ y ∷ ys = rw is at h in let same : x ≡ y = cc in rw (← same) is)
 
 -- instructions that were added to others
 added_one : {A : Type 0} (old new ys zs all : List A) → new ≡ old ++ ys → ys ++ zs ≡ all
@@ -160,50 +156,38 @@ module _ (names : List (List ℕ)) where
         ≡ text_step (ds ++ texts_placed bs (take (text_count xs) xs)) ∷ Program (drop (text_count xs) xs)
     texts_join [] ds whole = ap (λ es. text_step es ∷ []) (sym (append-nil ds))
     texts_join (x ∷ xs) ds whole =
-        by_text (is_text x)
-        (texts_join xs (texts_placed bs (x ∷ [])) (first_whole x xs whole).1) refl
-      where
-        by_text : (b : Bool)
-            → text_before (texts_placed bs (x ∷ [])) (Program xs)
-            ≡ text_step (texts_placed bs (x ∷ []) ++ texts_placed bs (take (text_count xs) xs))
-            ∷ Program (drop (text_count xs) xs)
-            → is_text x ≡ b
-            → text_before ds (Program (x ∷ xs))
-            ≡ text_step (ds ++ texts_placed bs (take (text_count (x ∷ xs)) (x ∷ xs)))
-            ∷ Program (drop (text_count (x ∷ xs)) (x ∷ xs))
-        by_text true later is =
-            rw (text_first x (Program xs) is (first_whole x xs whole).0, is, later)
-            (ap (λ es. text_step (ds ++ es) ∷ Program (drop (text_count xs) xs))
-            (append_assoc (placed_from (detail_of x).from (unwrap_or (stored_part bs x) [])) []
-            (texts_placed bs (take (text_count xs) xs))))
-        by_text false later is =
-            let apart = argument_apart (node_position names (node_of bs x)) (node_of bs x) ds (Program xs) in
-            let first = argument_precedes bs x (other_form (detail_of x).form is) (Program xs) in
-            rw (is, first) (apart ∙ ap (λ es. text_step es
-            ∷ (argument_step names (node_position names (node_of bs x)) (node_of bs x) ∷ Program xs))
-            (sym (append-nil ds)))
+        let wholes = first_whole x xs whole in
+        on_test (is_text x) (λ is.
+        rw (
+          text_first x (Program xs) is wholes.0,
+          is,
+          texts_join xs (texts_placed bs (x ∷ [])) wholes.1,
+        )
+        (ap (λ es. text_step (ds ++ es) ∷ Program (drop (text_count xs) xs))
+        (append_assoc (placed_from (detail_of x).from (unwrap_or (stored_part bs x) [])) []
+        (texts_placed bs (take (text_count xs) xs))))) (λ is.
+        let apart = argument_apart (node_position names (node_of bs x)) (node_of bs x) ds (Program xs) in
+        let first = argument_precedes bs x (other_form (detail_of x).form is) (Program xs) in
+        rw (is, first) (apart ∙ ap (λ es. text_step es
+        ∷ (argument_step names (node_position names (node_of bs x)) (node_of bs x) ∷ Program xs))
+        (sym (append-nil ds))))
 
     -- the first step of pieces, and the program of those after it
     pub program_first : (x : Piece) (xs : List Piece) → Whole (x ∷ xs)
         → Program (x ∷ xs)
         ≡ first_step bs names x (take (texts_after x xs) xs) ∷ Program (drop (texts_after x xs) xs)
-    program_first x xs whole = by_text (is_text x) refl
-      where
-        by_text : (b : Bool) → is_text x ≡ b
-            → Program (x ∷ xs)
-            ≡ first_step bs names x (take (texts_after x xs) xs) ∷ Program (drop (texts_after x xs) xs)
-        by_text true is =
-            let wholes = first_whole x xs whole in
-            rw (
-              text_first x (Program xs) is wholes.0,
-              is,
-              texts_join xs (texts_placed bs (x ∷ [])) wholes.1,
-            )
-            (ap (λ es. text_step es ∷ Program (drop (text_count xs) xs))
-            (append_assoc (placed_from (detail_of x).from (unwrap_or (stored_part bs x) [])) []
-            (texts_placed bs (take (text_count xs) xs))))
-        by_text false is =
-            rw is (argument_precedes bs x (other_form (detail_of x).form is) (Program xs))
+    program_first x xs whole =
+        let wholes = first_whole x xs whole in
+        on_test (is_text x) (λ is.
+        rw (
+          text_first x (Program xs) is wholes.0,
+          is,
+          texts_join xs (texts_placed bs (x ∷ [])) wholes.1,
+        )
+        (ap (λ es. text_step es ∷ Program (drop (text_count xs) xs))
+        (append_assoc (placed_from (detail_of x).from (unwrap_or (stored_part bs x) [])) []
+        (texts_placed bs (take (text_count xs) xs)))))
+        (λ is. rw is (argument_precedes bs x (other_form (detail_of x).form is) (Program xs)))
 
     abbrev Fits : Piece → Type 0
     Fits x = IsSome (stored_part bs x)
@@ -211,22 +195,17 @@ module _ (names : List (List ℕ)) where
     -- if pieces fit their format, so do the texts at their beginning
     pub texts_fit : (xs : List Piece) → Whole xs → All Fits (take (text_count xs) xs)
     texts_fit [] whole = λ k d l. absurd (omega (arith, l))
-    texts_fit (x ∷ xs) whole = by_text (is_text x) (texts_fit xs (first_whole x xs whole).1) refl
-      where
-        by_text : (b : Bool) → All Fits (take (text_count xs) xs) → is_text x ≡ b
-            → All Fits (take (text_count (x ∷ xs)) (x ∷ xs))
-        by_text true later is =
-            rw is (and_all Fits x (take (text_count xs) xs)
-            (text_part x is (first_whole x xs whole).0) later)
-        by_text false later is = rw is (λ k d l. absurd (omega (arith, l)))
+    texts_fit (x ∷ xs) whole =
+        let wholes = first_whole x xs whole in
+        on_test (is_text x) (λ is. rw is (and_all Fits x (take (text_count xs) xs)
+        (text_part x is wholes.0) (texts_fit xs wholes.1)))
+        (λ is. rw is (λ k d l. absurd (omega (arith, l))))
 
     pub texts_after_fit : (x : Piece) (xs : List Piece) → Whole (x ∷ xs)
         → All Fits (take (texts_after x xs) xs)
-    texts_after_fit x xs whole = by_text (is_text x) refl
-      where
-        by_text : (b : Bool) → is_text x ≡ b → All Fits (take (texts_after x xs) xs)
-        by_text true is = rw is (texts_fit xs (first_whole x xs whole).1)
-        by_text false is = rw is (λ k d l. absurd (omega (arith, l)))
+    texts_after_fit x xs whole =
+        on_test (is_text x) (λ is. rw is (texts_fit xs (first_whole x xs whole).1))
+        (λ is. rw is (λ k d l. absurd (omega (arith, l))))
 
   -- ---- the position of an argument's name
 

@@ -205,6 +205,11 @@ pub with_value : {A P : Type 0} (o : Option A) → IsSome o → ((x : A) → o �
 with_value None h k = absurd (cc)
 with_value (Some x) h k = k x refl
 
+-- what follows if a test holds, and if not
+pub on_test : {P : Type 0} (b : Bool) → (b ≡ true → P) → (b ≡ false → P) → P
+on_test true holds fails = holds refl
+on_test false holds fails = fails refl
+
 module _ (bs : List ℕ) (x : Piece) (xs : List Piece) (fits : IsSome (stored_part bs x)) where
   -- one piece more
   pub joins_more : (whole : Placed) (old new : JoinedText) → Joins bs whole old (x ∷ xs)

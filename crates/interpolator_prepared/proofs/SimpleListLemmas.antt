@@ -33,7 +33,7 @@ use Rattle.interpolator_prepared.specs.declared.step.JoinedText.{JoinedText}
 use Rattle.interpolator_prepared.specs.declared.step.ListStep.{ListStep}
 use Rattle.interpolator_prepared.specs.declared.step.ValueSpec.{ValueSpec}
 use Rattle.interpolator_prepared.proofs.CompileLemmas.{first_whole, named_part, text_form, text_part, texts_fit}
-use Rattle.interpolator_prepared.proofs.JoinedLemmas.{with_value, number_equals}
+use Rattle.interpolator_prepared.proofs.JoinedLemmas.{number_equals, on_test, with_value}
 
 module _ (bs : List ℕ) where
   abbrev Whole : List Piece → Type 0
@@ -63,22 +63,14 @@ module _ (bs : List ℕ) where
     texts_first [] whole = refl
     texts_first (x ∷ xs) whole =
         let wholes = first_whole [] bs x xs whole in
-        by_text (is_text x) refl wholes.0 (texts_first xs wholes.1)
-      where
-        by_text : (b : Bool) → is_text x ≡ b → node_whole (node_of bs x) ≡ true
-            → PartsOf xs
-            ≡ characters (texts_placed bs (take (text_count xs) xs)) ++ PartsOf (drop (text_count xs) xs)
-            → PartsOf (x ∷ xs)
-            ≡ characters (texts_placed bs (take (text_count (x ∷ xs)) (x ∷ xs)))
-            ++ PartsOf (drop (text_count (x ∷ xs)) (x ∷ xs))
-        by_text true is first later =
-            rw is (ap (λ ps. ps ++ PartsOf xs) (texts x is first)
-            ∙ ap (λ ps. characters (TextOf x) ++ ps) later
-            ∙ sym (append_assoc (characters (TextOf x))
-            (characters (texts_placed bs (take (text_count xs) xs))) (PartsOf (drop (text_count xs) xs)))
-            ∙ ap (λ ps. ps ++ PartsOf (drop (text_count xs) xs))
-            (sym (map-append _ (TextOf x) (texts_placed bs (take (text_count xs) xs)))))
-        by_text false is first later = rw is refl
+        on_test (is_text x) (λ is.
+        rw is (ap (λ ps. ps ++ PartsOf xs) (texts x is wholes.0)
+        ∙ ap (λ ps. characters (TextOf x) ++ ps) (texts_first xs wholes.1)
+        ∙ sym (append_assoc (characters (TextOf x))
+        (characters (texts_placed bs (take (text_count xs) xs))) (PartsOf (drop (text_count xs) xs)))
+        ∙ ap (λ ps. ps ++ PartsOf (drop (text_count xs) xs))
+        (sym (map-append _ (TextOf x) (texts_placed bs (take (text_count xs) xs))))))
+        (λ is. rw is refl)
 
     -- if all are texts
     texts_all : (xs : List Piece) → Whole xs → length xs ≤ text_count xs

@@ -25,6 +25,7 @@ use Rattle.interpolator_prepared.specs.StoredSteps.{joined_step, literal_step, p
 use Rattle.interpolator_prepared.specs.StoredSteps.{step_of, steps_of}
 use Rattle.interpolator_prepared.specs.StoredSteps.{stored_step_means, stored_steps_mean}
 use Rattle.interpolator_prepared.specs.declared.step.Step.{Step}
+use Rattle.interpolator_prepared.proofs.JoinedLemmas.{with_value}
 
 -- if some instructions begin a program, they fit their format
 fit_front : (xs ys : List (Option Instruction)) (program : List Instruction)
@@ -110,37 +111,25 @@ module _ {X : Type 0} (shows : X → Trait → Spec → Shown) (e : Environment 
     (value_at : ℕ → Option (Slots X)) (bs : List ℕ) where
   -- bytes of the format, and then a value
   module _ (from to : ℕ) (s t u : Written) (r : Option Answer) (m : Meaning) where
-    text_by :
-        (o : Option (List ℕ)) → IsSome (option_map (λ cs. text_step (placed_from from cs)) o)
-        → ((cs : List ℕ) → o ≡ Some cs → Outcome (text_alone (placed_from from cs)) s t None)
-        → Outcome m t u r
-        → Outcome (chain (fitting_means shows e value_at
-        (option_map (λ cs. text_step (placed_from from cs)) o)) m) s u r
-    text_by None some h k = absurd (cc)
-    text_by (Some cs) some h k = and_then _ _ s t u r (h cs refl) k
-
     pub literal_then :
         IsSome (literal_step bs from to)
         → ((cs : List ℕ) → part bs from to ≡ Some cs
         → Outcome (text_alone (placed_from from cs)) s t None)
         → Outcome m t u r
         → Outcome (chain (fitting_means shows e value_at (literal_step bs from to)) m) s u r
-    literal_then some h k = text_by (part bs from to) some h k
+    literal_then some h k =
+        let there : IsSome (part bs from to) = grind (arith, some) in
+        with_value (part bs from to) there (λ cs is. rw is (and_then _ _ s t u r (h cs is) k))
 
   -- text of several parts, and then a value
   module _ (parts : List Part) (bytes : List ℕ) (s t u : Written) (r : Option Answer) (m : Meaning)
       (h : Outcome (text_alone (joined_placed parts bytes)) s t None) (k : Outcome m t u r) where
-    joined_by :
-        (b : Bool) → IsSome (if b then Some (text_step (joined_placed parts bytes)) else None)
-        → Outcome (chain (fitting_means shows e value_at
-        (if b then Some (text_step (joined_placed parts bytes)) else None)) m) s u r
-    joined_by true some = and_then _ _ s t u r h k
-    joined_by false some = absurd (cc)
-
     pub joined_then :
         IsSome (joined_step parts bytes)
         → Outcome (chain (fitting_means shows e value_at (joined_step parts bytes)) m) s u r
-    joined_then some = joined_by (parts_size parts == length bytes) some
+    joined_then some =
+        let test : (parts_size parts == length bytes) ≡ true = grind (arith, some) in
+        rw test (and_then _ _ s t u r h k)
 
   abbrev AllMean : List Step → Meaning
   AllMean xs = stored_steps_mean shows e value_at bs xs

@@ -1,7 +1,7 @@
 -- What is written for stored steps with a row is what their format means.
 use Rattle.std.proofs.Common.{◌≡◌, ◌∙◌, refl, sym, ap, arith, ℕ, zero, suc, ◌<◌, ◌≤◌, List, [], ◌∷◌, length, map}
 use Rattle.std.proofs.Common.{Option, None, Some, IsSome, get_or, option_map}
-use Rattle.std.proofs.lemmas.Option.{slice_get_past}
+use Rattle.std.proofs.lemmas.Option.{slice_get_past, slice_get_read}
 use Rattle.std.proofs.lemmas.List.{length-map}
 use Rattle.std.specs.Prelude.{String, string_bytes, slice_get, flat_map}
 use Rattle.std.specs.Str.{chars, IsUtf8}
@@ -40,9 +40,7 @@ module _ {A X : Type 0} (tree : A → Slots X) where
   -- the tree at a position
   item_at : (row : List A) (k : ℕ) (x : A) → k < length row → x ≡ get_or row k x
       → At row k ≡ Some (tree x)
-  item_at [] k x h is = absurd (omega (arith, h))
-  item_at (y ∷ row) zero x h is = ap (λ z. Some (tree z)) (sym is)
-  item_at (y ∷ row) (suc k) x h is = item_at row k x (omega (arith, h)) is
+  item_at row k x h is = ap (option_map tree) (slice_get_read row (length row) k x refl h is)
 
   none_at : (row : List A) (k : ℕ) → length row ≤ k → At row k ≡ None
   none_at row k h = ap (option_map tree) (slice_get_past row k h)
