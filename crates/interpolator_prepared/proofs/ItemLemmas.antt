@@ -1,9 +1,9 @@
 -- Lists of a prepared format: what writing their items, and the texts around these, leaves.
 use Rattle.std.proofs.Common.{◌≡◌, ◌∙◌, refl, sym, ap, arith, ℕ, ◌+◌, ◌<◌, List, [], ◌∷◌, ◌++◌}
 use Rattle.std.proofs.Common.{length, drop, map, get_or, Bool, true, false, Option, None, Some, IsSome}
-use Rattle.std.proofs.Common.{option_map, subst}
+use Rattle.std.proofs.Common.{subst}
 use Rattle.std.proofs.lemmas.List.{drop_more}
-use Rattle.std.specs.Prelude.{◌==◌, ◌&&◌, not, is_some, if◌then◌else◌, string_bytes}
+use Rattle.std.specs.Prelude.{◌==◌, is_some, string_bytes}
 use Rattle.std.specs.Str.{chars}
 use Rattle.std.proofs.lemmas.Str.{chars-nil}
 use Rattle.interpolator_render.specs.declared.view.Spec.{Spec}
@@ -25,7 +25,6 @@ use Rattle.interpolator_pieces.specs.Stored.{part}
 use Rattle.interpolator_pieces.proofs.WholePieceLemmas.{both}
 use Rattle.interpolator_prepared.specs.Items.{items_within, parts_mean, placed_eq}
 use Rattle.interpolator_prepared.specs.Items.{value_under}
-use Rattle.interpolator_prepared.specs.Programs.{list_step}
 use Rattle.interpolator_prepared.specs.StoredSteps.{compiled_list, fitting_means, joined_text}
 use Rattle.interpolator_prepared.specs.StoredSteps.{list_fits, stored_format, stored_join}
 use Rattle.interpolator_prepared.specs.declared.step.ListStep.{ListStep}
@@ -132,15 +131,7 @@ pub same_placed : (xs ys : Placed) → placed_eq xs ys ≡ true → xs ≡ ys
 same_placed [] [] h = refl
 same_placed [] (y ∷ ys) h = absurd (cc)
 same_placed (x ∷ xs) [] h = absurd (cc)
-same_placed (x ∷ xs) (y ∷ ys) h =
-    let first = both (x.0 == y.0) ((x.1 == y.1) && placed_eq xs ys) h in
-    let second = both (x.1 == y.1) (placed_eq xs ys) first.1 in
-    ap (λ c. (c, x.1) ∷ xs) (equal_numbers x.0 y.0 first.0)
-    ∙ ap (λ p. (y.0, p) ∷ xs) (equal_numbers x.1 y.1 second.0)
-    ∙ ap (λ zs. y ∷ zs) (same_placed xs ys second.1)
-
-not_true : (b : Bool) → not b ≡ true → b ≡ false
-not_true b h = grind (arith, h)
+same_placed (x ∷ xs) (y ∷ ys) h = grind (arith, same_placed xs ys, h)
 
 -- a stored list that fits the format is a step under its name
 pub record Compiled (bs : List ℕ) (x : ListStep) : Type 0 where
@@ -148,15 +139,7 @@ pub record Compiled (bs : List ℕ) (x : ListStep) : Type 0 where
   pub name : IsSome (part bs x.name.from x.name.to)
 
 pub compiled_fits : (bs : List ℕ) (x : ListStep) → IsSome (compiled_list bs x) → Compiled bs x
-compiled_fits bs x h = by_fits (list_fits x) (part bs x.name.from x.name.to) refl refl h
-  where
-    by_fits : (b : Bool) (o : Option (List ℕ)) → list_fits x ≡ b
-        → part bs x.name.from x.name.to ≡ o
-        → IsSome (if b then option_map (λ name. list_step (stored_format name x)) o else None)
-        → Compiled bs x
-    by_fits true (Some name) fits is h = record { fits = fits; name = rw is refl }
-    by_fits true None fits is h = absurd (cc)
-    by_fits false o fits is h = absurd (cc)
+compiled_fits bs x h = record { fits = grind (arith, h); name = grind (arith, h) }
 
 module _ {X : Type 0} (shows : X → Trait → Spec → Shown) (e : Environment X)
     (value_at : ℕ → Option (Slots X)) (bs : List ℕ) (x : ListStep) (name : List ℕ)
@@ -206,7 +189,7 @@ module _ {X : Type 0} (shows : X → Trait → Spec → Shown) (e : Environment 
       → Outcome (fitting_means shows e value_at (compiled_list bs x)) s t answer
   list_written chosen s t answer f env k o =
       let h = subst (λ g. IsChosen g name x.start x.range x.spec x.end chosen) env k in
-      let none : is_some x.spec.width ≡ false = not_true _ (both _ _ fits).0 in
+      let none : is_some x.spec.width ≡ false = grind (arith, fits) in
       let same : Listed
       ≡ items_within shows x.value (joined_text x.before) (joined_text x.between) (joined_text x.after) chosen =
       h (parts_mean shows e (stored_format name x).join)

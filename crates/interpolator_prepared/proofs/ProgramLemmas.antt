@@ -1,5 +1,5 @@
 -- The program of nodes means what they mean, with a row that reaches each name.
-use Rattle.std.proofs.Common.{◌≡◌, ◌∙◌, refl, sym, ap, arith, ℕ, suc, ◌+◌, ◌<◌, Bool, true, false}
+use Rattle.std.proofs.Common.{◌≡◌, ◌∙◌, refl, sym, ap, arith, ℕ, ◌+◌, ◌<◌, Bool}
 use Rattle.std.proofs.Common.{List, [], ◌∷◌, length, Option, None, Some, IsSome}
 use Rattle.std.specs.Option.{option_and_then}
 use Rattle.std.specs.Str.{bytes_eq, encode_utf8_all}

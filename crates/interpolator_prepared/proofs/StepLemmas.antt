@@ -1,9 +1,9 @@
 -- What stored steps mean, one after the other.
 use Rattle.std.proofs.Common.{◌≡◌, ◌∙◌, refl, ap, ℕ, zero, suc, List, [], ◌∷◌}
 use Rattle.std.proofs.Common.{arith, sym, ◌++◌, flat_map}
-use Rattle.std.proofs.Common.{length, drop, map, Option, None, Some, IsSome, option_map}
+use Rattle.std.proofs.Common.{length, drop, map, Option, None, Some, IsSome}
 use Rattle.std.specs.List.{All}
-use Rattle.std.specs.Prelude.{Bool, true, false, ◌==◌, if◌then◌else◌}
+use Rattle.std.specs.Prelude.{true, ◌==◌}
 use Rattle.interpolator_prepared.specs.declared.step.Part.{Part}
 use Rattle.interpolator_render.specs.declared.view.Trait.{Trait}
 use Rattle.interpolator_render.specs.declared.view.Spec.{Spec}
@@ -19,7 +19,7 @@ use Rattle.interpolator_eval.proofs.MeaningLemmas.MeaningLemmas.{joined_assoc, j
 use Rattle.interpolator_eval.proofs.MeaningLemmas.MeaningLemmas.{nothing_last}
 use Rattle.interpolator_eval.proofs.MeaningLemmas.SinkLemmas.{and_then, nothing_done}
 use Rattle.interpolator_pieces.specs.Stored.{part}
-use Rattle.interpolator_prepared.specs.Programs.{Instruction, step_means, steps_mean, text_step}
+use Rattle.interpolator_prepared.specs.Programs.{Instruction, step_means, steps_mean}
 use Rattle.interpolator_prepared.specs.StoredSteps.{Fit, all_mean, fitting_means, joined_placed}
 use Rattle.interpolator_prepared.specs.StoredSteps.{joined_step, literal_step, parts_size}
 use Rattle.interpolator_prepared.specs.StoredSteps.{step_of, steps_of}
