@@ -4,9 +4,8 @@ use Rattle.std.proofs.Common.{Option, None, Some, IsSome, true, false, Bool, len
 use Rattle.std.proofs.Common.{drop, take}
 use Rattle.std.proofs.lemmas.List.{append-nil, append_assoc}
 use Rattle.std.specs.List.{All}
-use Rattle.std.specs.Prelude.{⊤, ◌+◌, Result, Ok, Err, IfOk, unwrap_or}
+use Rattle.std.specs.Prelude.{⊤, ◌+◌, Result, Ok, Err, IfOk, unwrap_or, if◌then◌else◌}
 use Rattle.std.specs.Str.{encode_utf8_all}
-use Rattle.std.specs.Prelude.{if◌then◌else◌}
 use Rattle.interpolator_render.specs.declared.view.Spec.{Spec}
 use Rattle.interpolator_render.specs.declared.view.Trait.{Trait}
 use Rattle.interpolator_render.specs.declared.view.Trait.TheVariants as traits
@@ -16,8 +15,7 @@ use Rattle.interpolator_syntax.specs.Nodes.{target_value, as_forest}
 use Rattle.interpolator_syntax.specs.SpecTexts.{plain_spec}
 use Rattle.interpolator_syntax.specs.declared.piece_kind.PieceKind.{PieceKind}
 use Rattle.interpolator_syntax.specs.declared.piece_kind.PieceKind.TheVariants as kinds
-use Rattle.interpolator_pieces.specs.Stored.{stored_content, content_of, node_of}
-use Rattle.interpolator_pieces.specs.Stored.{nodes_of}
+use Rattle.interpolator_pieces.specs.Stored.{stored_content, content_of, node_of, nodes_of}
 use Rattle.interpolator_pieces.specs.Stored.{node_whole, forest_whole, detail_of}
 use Rattle.interpolator_pieces.specs.StoredMeanings.{stored_name, stored_part}
 use Rattle.interpolator_pieces.specs.declared.piece.Form.{Form}

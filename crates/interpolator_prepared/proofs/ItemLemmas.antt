@@ -23,8 +23,7 @@ use Rattle.interpolator_eval.proofs.MeaningLemmas.MeaningLemmas.{joined_assoc, j
 use Rattle.interpolator_eval.proofs.MeaningLemmas.SinkLemmas.{nothing_done}
 use Rattle.interpolator_pieces.specs.Stored.{part}
 use Rattle.interpolator_pieces.proofs.WholePieceLemmas.{both}
-use Rattle.interpolator_prepared.specs.Items.{items_within, parts_mean, placed_eq}
-use Rattle.interpolator_prepared.specs.Items.{value_under}
+use Rattle.interpolator_prepared.specs.Items.{items_within, parts_mean, placed_eq, value_under}
 use Rattle.interpolator_prepared.specs.StoredSteps.{compiled_list, fitting_means, joined_text}
 use Rattle.interpolator_prepared.specs.StoredSteps.{list_fits, stored_format, stored_join}
 use Rattle.interpolator_prepared.specs.declared.step.ListStep.{ListStep}

@@ -1,13 +1,12 @@
 -- Text of several parts of a format: the place of each of its bytes, and what a refusal means.
-use Rattle.std.proofs.Common.{◌≡◌, ◌∙◌, refl, sym, ap, arith, ℕ, ◌+◌, ◌-◌, ◌<◌, ◌≤◌, Bool, true, false}
-use Rattle.std.proofs.Common.{nat_lt, List, [], ◌∷◌, ◌++◌, length, drop, get_or, None, Some, inl, inr}
-use Rattle.std.proofs.Common.{IsSome, Option, subst}
+use Rattle.std.proofs.Common.{◌≡◌, ◌∙◌, refl, sym, ap, arith, ℕ, ◌+◌, ◌-◌, ◌<◌, ◌≤◌, Bool, true}
+use Rattle.std.proofs.Common.{false, List, [], ◌∷◌, ◌++◌, length, drop, get_or, None, Some, inl}
+use Rattle.std.proofs.Common.{inr, IsSome, Option, subst, length-append}
 use Rattle.std.specs.Prelude.{◌==◌, if◌then◌else◌, string_bytes, unwrap_or}
 use Rattle.std.specs.List.{All}
 use Rattle.std.specs.Char.{len_utf8}
 use Rattle.std.specs.Str.{chars, IsUtf8}
 use Rattle.std.proofs.lemmas.List.{append-nil, append_assoc, drop_more, map-append}
-use Rattle.std.proofs.Common.{length-append}
 use Rattle.std.proofs.lemmas.Str.{chars-append, chars-nil, len_utf8_bounds}
 use Rattle.interpolator_render.specs.Written.{Written}
 use Rattle.interpolator_syntax.specs.At.{Placed, placed_from, size, text_of}
@@ -274,17 +273,3 @@ first_joined bs x xs none one all fits empty first rest =
     ap (λ o. placed_from (detail_of x).from (unwrap_or o []) ++ texts_placed bs xs) (sym part) in
     rest (placed_from (detail_of x).from cs) (first cs [] part empty)
     ∙ ap (λ ds. Some (text_step ds)) same)
-
-module _ (ps : List Part) (i : ℕ) (x : Part) (o : ℕ) (l : i < length ps) (is : x ≡ get_or ps i x)
-  where
-    next_part : drop i ps ≡ x ∷ drop (i + 1) ps
-    next_part = rw (drop_more ps i x l, ← is) refl
-
-    -- a byte of the next part
-    pub place_here : o < x.to - x.from → joined_place (drop i ps) o ≡ x.from + o
-    place_here h = let e : nat_lt o (x.to - x.from) ≡ true = grind arith in rw (next_part, e) refl
-
-    -- a byte after it
-    pub place_later : x.to - x.from ≤ o
-        → joined_place (drop i ps) o ≡ joined_place (drop (i + 1) ps) (o - (x.to - x.from))
-    place_later h = let e : nat_lt o (x.to - x.from) ≡ false = grind arith in rw (next_part, e) refl

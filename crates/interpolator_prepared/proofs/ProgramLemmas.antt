@@ -17,12 +17,11 @@ use Rattle.interpolator_eval.specs.Meaning.Meanings.{Meaning, text_alone, chain,
 use Rattle.interpolator_eval.proofs.MeaningLemmas.MeaningLemmas.{joined_assoc}
 use Rattle.interpolator_eval.specs.Meaning.Meanings.{target_means, node_means, forest_means}
 use Rattle.interpolator_eval.specs.Meaning.Meanings.{join_branch_means, item_branch_means}
-use Rattle.interpolator_prepared.specs.Programs.{Instruction, text_step}
+use Rattle.interpolator_prepared.specs.Programs.{Instruction, text_step, text_before, node_before}
+use Rattle.interpolator_prepared.specs.Programs.{program, content_position, node_position, step_at}
+use Rattle.interpolator_prepared.specs.Programs.{argument_step, position_means, step_means}
+use Rattle.interpolator_prepared.specs.Programs.{steps_mean}
 use Rattle.interpolator_prepared.proofs.ListMeaningLemmas.{whole_means}
-use Rattle.interpolator_prepared.specs.Programs.{text_before, node_before, program}
-use Rattle.interpolator_prepared.specs.Programs.{content_position, node_position, step_at}
-use Rattle.interpolator_prepared.specs.Programs.{argument_step}
-use Rattle.interpolator_prepared.specs.Programs.{position_means, step_means, steps_mean}
 use Rattle.interpolator_prepared.specs.Rows.{later_or_first, last_position, found_by_row}
 
 -- ---- positions
@@ -37,8 +36,11 @@ pub position_below : (names : List (List ℕ)) (name : List ℕ) (k : ℕ)
     → last_position names name ≡ Some k → k < length names
 position_below [] name k e = absurd (cc)
 position_below (own ∷ names) name k e =
-    omega (arith, later_below (last_position names name) (bytes_eq name own) (length names) k
-    (position_below names name) e)
+    omega (
+      arith,
+      later_below (last_position names name) (bytes_eq name own) (length names) k
+          (position_below names name) e,
+    )
 
 -- ---- steps in order
 

@@ -8,8 +8,7 @@ use Rattle.std.specs.List.{All}
 use Rattle.std.specs.Global.{Vec}
 use Rattle.std.specs.Prelude.{unwrap_or}
 use Rattle.interpolator_syntax.specs.At.{Placed, placed_from}
-use Rattle.interpolator_syntax.specs.Nodes.{Node, as_forest, argument_content}
-use Rattle.interpolator_syntax.specs.Nodes.{target_value}
+use Rattle.interpolator_syntax.specs.Nodes.{Node, as_forest, argument_content, target_value}
 use Rattle.interpolator_syntax.specs.declared.piece_kind.PieceKind.TheVariants as kinds
 use Rattle.interpolator_syntax.specs.declared.range.Range.{Range}
 use Rattle.interpolator_pieces.specs.Stored.{branch_of, content_of, node_of, nodes_of, node_whole}

@@ -1,7 +1,6 @@
 -- What stored steps mean, one after the other.
-use Rattle.std.proofs.Common.{◌≡◌, ◌∙◌, refl, ap, ℕ, zero, suc, List, [], ◌∷◌}
-use Rattle.std.proofs.Common.{arith, sym, ◌++◌, flat_map}
-use Rattle.std.proofs.Common.{length, drop, map, Option, None, Some, IsSome}
+use Rattle.std.proofs.Common.{◌≡◌, ◌∙◌, refl, ap, ℕ, zero, suc, List, [], ◌∷◌, arith, sym, ◌++◌}
+use Rattle.std.proofs.Common.{flat_map, length, drop, map, Option, None, Some, IsSome}
 use Rattle.std.specs.List.{All}
 use Rattle.std.specs.Prelude.{true, ◌==◌}
 use Rattle.interpolator_prepared.specs.declared.step.Part.{Part}
@@ -21,9 +20,8 @@ use Rattle.interpolator_eval.proofs.MeaningLemmas.SinkLemmas.{and_then, nothing_
 use Rattle.interpolator_pieces.specs.Stored.{part}
 use Rattle.interpolator_prepared.specs.Programs.{Instruction, step_means, steps_mean}
 use Rattle.interpolator_prepared.specs.StoredSteps.{Fit, all_mean, fitting_means, joined_placed}
-use Rattle.interpolator_prepared.specs.StoredSteps.{joined_step, literal_step, parts_size}
-use Rattle.interpolator_prepared.specs.StoredSteps.{step_of, steps_of}
-use Rattle.interpolator_prepared.specs.StoredSteps.{stored_step_means, stored_steps_mean}
+use Rattle.interpolator_prepared.specs.StoredSteps.{joined_step, literal_step, parts_size, step_of}
+use Rattle.interpolator_prepared.specs.StoredSteps.{steps_of, stored_step_means, stored_steps_mean}
 use Rattle.interpolator_prepared.specs.declared.step.Step.{Step}
 use Rattle.interpolator_prepared.proofs.JoinedLemmas.{with_value}
 

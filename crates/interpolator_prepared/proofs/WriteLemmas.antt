@@ -1,9 +1,8 @@
 -- What is written for stored steps with a row is what their format means.
-use Rattle.std.proofs.Common.{◌≡◌, ◌∙◌, refl, sym, ap, arith, ℕ, zero, suc, ◌<◌, ◌≤◌, List, [], ◌∷◌, length, map}
-use Rattle.std.proofs.Common.{Option, None, Some, IsSome, get_or, option_map}
+use Rattle.std.proofs.Common.{◌≡◌, ◌∙◌, refl, sym, ap, ℕ, ◌<◌, ◌≤◌, List, length, map}
+use Rattle.std.proofs.Common.{Option, None, Some, get_or, option_map}
 use Rattle.std.proofs.lemmas.Option.{slice_get_past, slice_get_read}
-use Rattle.std.proofs.lemmas.List.{length-map}
-use Rattle.std.specs.Prelude.{String, string_bytes, slice_get, flat_map}
+use Rattle.std.specs.Prelude.{String, slice_get, flat_map}
 use Rattle.std.specs.Str.{chars, IsUtf8}
 use Rattle.interpolator_render.specs.declared.view.Trait.{Trait}
 use Rattle.interpolator_render.specs.declared.view.Spec.{Spec}
@@ -12,13 +11,12 @@ use Rattle.interpolator_render.specs.Written.{Written}
 use Rattle.interpolator_syntax.specs.At.{outermost}
 use Rattle.interpolator_syntax.specs.Faults.{Answer}
 use Rattle.interpolator_syntax.specs.Nodes.{nodes}
-use Rattle.interpolator_eval.specs.Slots.{Slots, values_of, slot_at}
+use Rattle.interpolator_eval.specs.Slots.{Slots}
 use Rattle.interpolator_eval.specs.Meaning.Environments.{environment}
 use Rattle.interpolator_eval.specs.Meaning.Meanings.{means}
 use Rattle.interpolator_eval.specs.Meaning.Outcomes.{Outcome}
 use Rattle.interpolator_prepared.specs.Programs.{program}
 use Rattle.interpolator_prepared.specs.Rows.{InOrder, found_by_row, name_bytes, last_position}
-use Rattle.interpolator_prepared.specs.Rows.{slot_found}
 use Rattle.std.specs.Option.{option_and_then}
 use Rattle.std.proofs.lemmas.Str.{encodes-chars}
 use Rattle.interpolator_prepared.specs.StoredSteps.{steps_of, stored_steps_mean}
@@ -31,12 +29,6 @@ module _ {A X : Type 0} (tree : A → Slots X) where
   abbrev At : List A → ℕ → Option (Slots X)
   At row k = option_map tree (slice_get row k)
 
-  -- it reaches each position below its length
-  row_reaches : (row : List A) (k : ℕ) → k < length row → IsSome (At row k)
-  row_reaches [] k h = absurd (omega (arith, h))
-  row_reaches (x ∷ row) zero h = refl
-  row_reaches (x ∷ row) (suc k) h = row_reaches row k (omega (arith, h))
-
   -- the tree at a position
   item_at : (row : List A) (k : ℕ) (x : A) → k < length row → x ≡ get_or row k x
       → At row k ≡ Some (tree x)
@@ -44,27 +36,6 @@ module _ {A X : Type 0} (tree : A → Slots X) where
 
   none_at : (row : List A) (k : ℕ) → length row ≤ k → At row k ≡ None
   none_at row k h = ap (option_map tree) (slice_get_past row k h)
-
-  -- it is in the order of as many names, or fewer
-  pub row_in_order : {Z : Type 0} (names : List (String Z)) (row : List A)
-      → length names ≤ length row
-      → InOrder (name_bytes names) (At row) (found_by_row (name_bytes names) (At row))
-  row_in_order names row h =
-      let all : length (name_bytes names) ≡ length names
-      = length-map names (λ name. string_bytes name) in
-      record {
-        reached = λ k l. row_reaches row k (omega (arith, all, h, l));
-        same = refl;
-      }
-
-  module _ (row : List A) (wanted : Trait) (k : ℕ) where
-    -- what is in a slot of the tree at a position
-    pub slot_there : (x : A) → k < length row → x ≡ get_or row k x
-        → slot_at wanted (values_of (tree x)) ≡ slot_found wanted (At row k)
-    slot_there x h is = ap (slot_found wanted) (sym (item_at row k x h is))
-
-    pub slot_past : length row ≤ k → None ≡ slot_found wanted (At row k)
-    slot_past h = ap (slot_found wanted) (sym (none_at row k h))
 
   -- what it gives under a name
   module _ {Z : Type 0} (names : List (String Z)) (row : List A) (key : List ℕ)
