@@ -57,9 +57,11 @@ pub empty_text : (x : JoinedText) (bs : List ℕ) (b : Bool) → bs ≡ string_b
 empty_text x bs b same is test = rw (← same, empty_name bs b is test) refl
 
 module _ {F X : Type 0} (shows : X → Trait → Spec → Shown) (slots : F → Slots X)
-    (asked : ValueSpec) (before between after : Placed) where
+    (list : ListStep) where
   abbrev Within : List F → Meaning
-  Within xs = items_within shows asked before between after (map slots xs)
+  Within xs =
+      items_within shows list.value (joined_text list.before) (joined_text list.between)
+      (joined_text list.after) (map slots xs)
 
   -- of no items nothing is written
   pub none_within : (xs : List F) (b : Bool) → b ≡ (length xs == 0) → b ≡ true → (s : Written)
@@ -71,8 +73,9 @@ module _ {F X : Type 0} (shows : X → Trait → Spec → Shown) (slots : F → 
   -- of some, the text before them, they, and the text after them
   pub some_within : (xs : List F) (b : Bool) → b ≡ (length xs == 0) → b ≡ false
       → Within xs
-      ≡ chain (text_alone before) (chain
-      (items_mean (text_alone between) (value_under shows asked) (map slots xs)) (text_alone after))
+      ≡ chain (text_alone (joined_text list.before)) (chain
+      (items_mean (text_alone (joined_text list.between)) (value_under shows list.value) (map slots xs))
+      (text_alone (joined_text list.after)))
   some_within [] b is test = absurd (let e : true ≡ false = sym is ∙ test in cc)
   some_within (x ∷ xs) b is test = refl
 
