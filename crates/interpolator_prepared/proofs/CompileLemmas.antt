@@ -1,6 +1,6 @@
 -- The steps that stand for the pieces of a text.
-use Rattle.std.proofs.Common.{◌≡◌, ◌≢◌, ◌∙◌, refl, sym, ap, arith, ℕ, zero, suc, ◌≤◌, List, [], ◌∷◌, ◌++◌, map}
-use Rattle.std.proofs.Common.{Option, None, Some, IsSome, true, false, Bool, length}
+use Rattle.std.proofs.Common.{◌≡◌, ◌≢◌, ◌∙◌, refl, sym, ap, arith, ℕ, zero, suc, ◌≤◌, List, [], ◌∷◌}
+use Rattle.std.proofs.Common.{◌++◌, map, Option, None, Some, IsSome, true, false, Bool, length}
 use Rattle.std.proofs.Common.{drop, take}
 use Rattle.std.proofs.lemmas.List.{append-nil, append_assoc}
 use Rattle.std.specs.List.{All}
@@ -22,8 +22,8 @@ use Rattle.interpolator_pieces.specs.declared.piece.Form.{Form}
 use Rattle.interpolator_pieces.specs.declared.piece.Form.TheVariants as forms
 use Rattle.interpolator_pieces.specs.declared.piece.Piece.{Piece}
 use Rattle.interpolator_pieces.specs.declared.piece.Piece.TheViews.{out-Piece}
-use Rattle.interpolator_pieces.proofs.RunLemmas.{text_fits, text_held, name_held, value_held, name_fits}
-use Rattle.interpolator_pieces.proofs.RunLemmas.{value_fits}
+use Rattle.interpolator_pieces.proofs.RunLemmas.{text_fits, text_held, name_held, value_held}
+use Rattle.interpolator_pieces.proofs.RunLemmas.{name_fits, value_fits}
 use Rattle.interpolator_pieces.proofs.StoredLemmas.{node_of_out}
 use Rattle.interpolator_pieces.proofs.WholePieceLemmas.{both, fits_text, pieces_whole}
 use Rattle.interpolator_prepared.specs.Programs.{Instruction, text_step, value_step, whole_step}
@@ -31,8 +31,8 @@ use Rattle.interpolator_prepared.specs.Programs.{text_before, node_before, progr
 use Rattle.interpolator_prepared.specs.Programs.{content_position, node_position, step_at}
 use Rattle.interpolator_prepared.specs.Programs.{argument_step}
 use Rattle.interpolator_prepared.specs.Rows.{last_position}
-use Rattle.interpolator_prepared.specs.StoredSteps.{first_step, is_text, is_text_form, step_of, steps_of}
-use Rattle.interpolator_prepared.specs.StoredSteps.{text_count, texts_after, texts_placed}
+use Rattle.interpolator_prepared.specs.StoredSteps.{first_step, is_text, is_text_form, step_of}
+use Rattle.interpolator_prepared.specs.StoredSteps.{steps_of, text_count, texts_after, texts_placed}
 use Rattle.interpolator_prepared.specs.declared.step.Step.{Step}
 use Rattle.interpolator_prepared.proofs.JoinedLemmas.{on_test, with_value}
 use Rattle.interpolator_prepared.proofs.StepLemmas.{alone}

@@ -1,7 +1,7 @@
 -- Lists of a prepared format: what writing their items, and the texts around these, leaves.
 use Rattle.std.proofs.Common.{◌≡◌, ◌∙◌, refl, sym, ap, arith, ℕ, ◌+◌, ◌<◌, List, [], ◌∷◌, ◌++◌}
-use Rattle.std.proofs.Common.{length, drop, map, get_or, Bool, true, false, Option, None, Some, IsSome}
-use Rattle.std.proofs.Common.{subst}
+use Rattle.std.proofs.Common.{length, drop, map, get_or, Bool, true, false, Option, None, Some}
+use Rattle.std.proofs.Common.{IsSome, subst}
 use Rattle.std.proofs.lemmas.List.{drop_more}
 use Rattle.std.specs.Prelude.{◌==◌, is_some, string_bytes}
 use Rattle.std.specs.Str.{chars}

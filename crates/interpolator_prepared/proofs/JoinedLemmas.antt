@@ -21,8 +21,8 @@ use Rattle.interpolator_eval.specs.declared.evaluate.sink.WriteFault.TheVariants
 use Rattle.interpolator_eval.proofs.MeaningLemmas.PlacedLemmas.{placed_from-append}
 use Rattle.interpolator_prepared.specs.Programs.{text_step}
 use Rattle.interpolator_prepared.specs.StoredSteps.{parts_size, joined_place, placed_by}
-use Rattle.interpolator_prepared.specs.StoredSteps.{joined_placed, joined_step, joined_text, moved_fault}
-use Rattle.interpolator_prepared.specs.StoredSteps.{texts_placed}
+use Rattle.interpolator_prepared.specs.StoredSteps.{joined_placed, joined_step, joined_text}
+use Rattle.interpolator_prepared.specs.StoredSteps.{moved_fault, texts_placed}
 use Rattle.interpolator_prepared.specs.declared.step.JoinedText.{JoinedText}
 use Rattle.interpolator_prepared.specs.declared.step.Part.{Part}
 use Rattle.interpolator_pieces.specs.Stored.{detail_of}
@@ -62,15 +62,11 @@ pub moved_places : (f : ℕ → ℕ) (q from : ℕ) (cs : List ℕ)
 moved_places f q from [] h = refl
 moved_places f q from (c ∷ cs) h =
     let (least, most) = len_utf8_bounds c in
-    let here : f q ≡ from =
-    ap f (let e : q ≡ q + 0 = omega arith in e) ∙ h 0 (omega arith)
-    ∙ (let e : from + 0 ≡ from = omega arith in e) in
+    let here : f q ≡ from = grind (arith, h 0 (omega arith)) in
     ap (λ p. (c, p) ∷ placed_by f (placed_from (q + len_utf8 c) cs)) here
     ∙ ap (λ xs. (c, from) ∷ xs)
     (moved_places f (q + len_utf8 c) (from + len_utf8 c) cs
-    (λ o l. ap f (let e : q + len_utf8 c + o ≡ q + (len_utf8 c + o) = omega arith in e)
-    ∙ h (len_utf8 c + o) (omega arith)
-    ∙ (let e : from + (len_utf8 c + o) ≡ from + len_utf8 c + o = omega arith in e)))
+    (λ o l. grind (arith, h (len_utf8 c + o) (omega arith))))
 
 -- ---- one more part
 

@@ -16,8 +16,8 @@ use Rattle.interpolator_eval.specs.Meaning.Environments.{Environment, bind, slot
 use Rattle.interpolator_eval.specs.Meaning.Lists.{list_under_name}
 use Rattle.interpolator_eval.specs.Meaning.Meanings.{Meaning, text_alone, chain, fault_alone}
 use Rattle.interpolator_eval.specs.Meaning.Meanings.{and_closed, forbids_list, padded_list}
-use Rattle.interpolator_eval.specs.Meaning.Meanings.{items_after, items_mean, listed_means, under_name}
-use Rattle.interpolator_eval.specs.Meaning.Meanings.{node_means, forest_means}
+use Rattle.interpolator_eval.specs.Meaning.Meanings.{items_after, items_mean, listed_means}
+use Rattle.interpolator_eval.specs.Meaning.Meanings.{under_name, node_means, forest_means}
 use Rattle.interpolator_eval.specs.Meaning.Meanings.{item_branch_means, join_branch_means}
 use Rattle.interpolator_eval.proofs.MeaningLemmas.MeaningLemmas.{joined_assoc, joined_none, nothing_last}
 use Rattle.interpolator_prepared.specs.Items.{ItemPart, characters, in_item, in_join, item_parts}

@@ -7,8 +7,9 @@ use Rattle.interpolator_render.specs.declared.view.Trait.{Trait}
 use Rattle.interpolator_render.specs.declared.view.Spec.{Spec}
 use Rattle.interpolator_render.specs.Views.{Shown}
 use Rattle.interpolator_syntax.specs.At.{Placed, placed_from}
-use Rattle.interpolator_syntax.specs.Nodes.{Node, node, Branch, Content, text_content, argument_content, fault_content}
-use Rattle.interpolator_syntax.specs.Nodes.{target_value, target_list, as_forest}
+use Rattle.interpolator_syntax.specs.Nodes.{Node, node, Branch, Content, text_content}
+use Rattle.interpolator_syntax.specs.Nodes.{argument_content, fault_content, target_value}
+use Rattle.interpolator_syntax.specs.Nodes.{target_list, as_forest}
 use Rattle.interpolator_syntax.specs.declared.piece_kind.PieceKind.{PieceKind}
 use Rattle.interpolator_syntax.specs.declared.piece_kind.PieceKind.TheVariants as kinds
 use Rattle.interpolator_eval.specs.Slots.{Slots}

@@ -1,6 +1,6 @@
 use Rattle.interpolator_prepared.specs.Rows.{name_bytes}
-use Rattle.interpolator_prepared.proofs.CompileLemmas.{first_whole, one_added, rest_whole, two_added}
-use Rattle.interpolator_prepared.proofs.CompileLemmas.{texts_after_fit}
+use Rattle.interpolator_prepared.proofs.CompileLemmas.{first_whole, one_added, rest_whole}
+use Rattle.interpolator_prepared.proofs.CompileLemmas.{two_added, texts_after_fit}
 use Rattle.interpolator_prepared.proofs.compile.add_first.Goals as goal
 
 pub first_step-requires-clause-texts : goal.first_step-requires-clause-texts
