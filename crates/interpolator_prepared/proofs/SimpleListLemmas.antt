@@ -186,7 +186,8 @@ module _ (bs : List ℕ) (x : Piece) (range : Option Range) (pieces : ListPieces
 
     pub list_made : compiled_list bs Made ≡ Some (whole_step (node_of bs x))
     list_made =
-        with_value (stored_name bs x) (list_fits bs x range listed (fits_text bs x whole).held) (λ name is.
+        with_value (stored_name bs x) (list_fits bs x range listed (fits_text bs x whole).held)
+        (λ name is.
         let held = list_held bs x start name begins (sym is) range listed in
         rw (
           made_fits,
