@@ -35,7 +35,8 @@ returns-in_err-put_item-2 g c =
     let next = next_item slots_of c.in-Some.rest.now _ _ c.loop-item-test.true c.item-item.is in
     rw (err.1, err.2) (record {
       outcome = c.loop-item.invariant _ _ (rw next (and_then _ _ _ _ _ _
-          c.in_ok-put_joined.ensures.outcome (fault_first _ _ _ _ _ c.in_err-put_item-2.ensures.outcome)));
+          c.in_ok-put_joined.ensures.outcome
+          (fault_first _ _ _ _ _ c.in_err-put_item-2.ensures.outcome)));
     })
 
 pub loop-item-preserved : goal.loop-item-preserved

@@ -26,5 +26,6 @@ returns-in_ok-put_joined-in-JoinedPlain g c =
     let done = rw c.deref-in-JoinedPlain.ensures at c.in_ok-put_joined-in-JoinedPlain.ensures.outcome in
     record {
       outcome = λ e. rw c.in-JoinedPlain.is (joined_then _ e _ c.args.text.now
-          joined.parts.items (string_bytes joined.text) _ _ _ _ _ done c.put_plain-in-JoinedPlain.ensures.outcome fits.0);
+          joined.parts.items (string_bytes joined.text) _ _ _ _ _ done
+          c.put_plain-in-JoinedPlain.ensures.outcome fits.0);
     }

@@ -25,7 +25,8 @@ returns-in_err-run_list-in-List g c =
 
 pub returns-in_err-run_kept-in-Kept : goal.returns-in_err-run_kept-in-Kept
 returns-in_err-run_kept-in-Kept g c =
-    let err = err_from_is_err_and c.from_residual-in_err-run_kept-in-Kept.result c.from_residual-in_err-run_kept-in-Kept.ensures.1 in
+    let residual = c.from_residual-in_err-run_kept-in-Kept in
+    let err = err_from_is_err_and residual.result residual.ensures.1 in
     let kept : steps_of c.args.text.now c.in-Some.step.now
     ≡ kept_step (node_of c.args.text.now c.deref-in-Kept.result.now) ∷ [] = search rules in
     let value_at = g.R.PreparedRow.value_at c.args.named.now.row.now in
@@ -36,7 +37,8 @@ returns-in_err-run_kept-in-Kept g c =
 
 pub returns-in_err-put_step-in_default-step : goal.returns-in_err-put_step-in_default-step
 returns-in_err-put_step-in_default-step g c =
-    let err = err_from_is_err_and c.from_residual-in_err-put_step-in_default-step.result c.from_residual-in_err-put_step-in_default-step.ensures.1 in
+    let residual = c.from_residual-in_err-put_step-in_default-step in
+    let err = err_from_is_err_and residual.result residual.ensures.1 in
     let named = c.args.named.now in
     let e = environment (g.R.PreparedRow.finds_in named.row.now (name_bytes named.names.now)) in
     rw (err.1, err.2) (record {
@@ -51,7 +53,8 @@ loop-step-preserved-in_ok-run_list-in-List g c =
     let value_at = g.R.PreparedRow.value_at c.args.named.now.row.now in
     record {
       fit = fit_rest c.args.text.now _ _ _ c.in-Some.ensures.cases.0 c.loop-step.invariant.fit;
-      goes_on = λ new answer k. c.loop-step.invariant.goes_on new answer (rw (c.in-Some.ensures.cases.0, list)
+      goes_on = λ new answer k. c.loop-step.invariant.goes_on new answer
+          (rw (c.in-Some.ensures.cases.0, list)
           (and_then _ _ _ _ _ _ (c.in_ok-run_list-in-List.ensures.outcome value_at) k));
     }
 
@@ -62,7 +65,8 @@ loop-step-preserved-in_ok-run_kept-in-Kept g c =
     let value_at = g.R.PreparedRow.value_at c.args.named.now.row.now in
     record {
       fit = fit_rest c.args.text.now _ _ _ c.in-Some.ensures.cases.0 c.loop-step.invariant.fit;
-      goes_on = λ new answer k. c.loop-step.invariant.goes_on new answer (rw (c.in-Some.ensures.cases.0, kept)
+      goes_on = λ new answer k. c.loop-step.invariant.goes_on new answer
+          (rw (c.in-Some.ensures.cases.0, kept)
           (and_then _ _ _ _ _ _ (c.in_ok-run_kept-in-Kept.ensures.outcome value_at) k));
     }
 
@@ -72,7 +76,8 @@ loop-step-preserved g c =
     let e = environment (g.R.PreparedRow.finds_in named.row.now (name_bytes named.names.now)) in
     record {
       fit = fit_rest c.args.text.now _ _ _ c.in-Some.ensures.cases.0 c.loop-step.invariant.fit;
-      goes_on = λ new answer k. c.loop-step.invariant.goes_on new answer (rw c.in-Some.ensures.cases.0
+      goes_on = λ new answer k. c.loop-step.invariant.goes_on new answer
+          (rw c.in-Some.ensures.cases.0
           (and_then _ _ _ _ _ _ (c.in_ok-put_step-in_default-step.ensures.outcome e) k));
     }
 
