@@ -50,9 +50,13 @@ name_found :
     → argument_at a ≡ named_so a.place name p b
 unfolding argument_at
 name_found a name p b h =
-    let white = longest_front (in_class WhiteSpace) a.text h.spaces (name ++ b.text) h.white in
-    let named = longest_front (in_class Name) (name ++ b.text) name b.text h.named in
-    rw (white.0, white.1, named.0, named.1, ← h.name_place, ← h.end_place) refl
+    grind (
+      arith,
+      longest_front (in_class WhiteSpace) a.text h.spaces (name ++ b.text) h.white,
+      longest_front (in_class Name) (name ++ b.text) name b.text h.named,
+      h.name_place,
+      h.end_place,
+    )
 
 -- ---- after the name
 
@@ -83,10 +87,10 @@ module _ (start : ℕ) (b : At) where
   only_told : (o : Result (Request × At) Fault) → Told start b o → asked_at start b ≡ o
   only_told (Ok w) (inl s) = rw s.0.1 (ok_pair (sym s.1) (at_same refl (sym s.0.1) ∙ sym s.2))
   only_told (Ok w) (inr s) =
-      after_colon s.0 s.1 ∙ (law_spec (still start)).agrees.only s.0 w.1 w.0 s.2
+      rw (after_colon s.0 s.1) ((law_spec (still start)).agrees.only s.0 w.1 w.0 s.2)
   only_told (Err f) (inl s) = rw (s.0, s.1) refl
   only_told (Err f) (inr s) =
-      after_colon s.0 s.1 ∙ (law_spec (still start)).agrees.only_not s.0 f s.2
+      rw (after_colon s.0 s.1) ((law_spec (still start)).agrees.only_not s.0 f s.2)
 
 -- ---- the whole argument
 
@@ -115,8 +119,7 @@ module _ (a : At) where
 
   argument_says : ArgumentSays (argument_at a)
   argument_says =
-      subst ArgumentSays
-      (sym (name_found a (name_read a) (name_from a).place (name_end a) (named_is a)))
+      rw (name_found a (name_read a) (name_from a).place (name_end a) (named_is a))
       (told_says (asked_at a.place (name_end a)) what_is_told)
 
 pub argument_is : (a q : At) (x : Argument) → argument_at a ≡ Ok (x, q) → IsArgument a x q
@@ -124,15 +127,13 @@ argument_is a q x e = subst (ArgumentSays a) e (argument_says a)
 
 pub only_argument : (a q : At) (x : Argument) → IsArgument a x q → argument_at a ≡ Ok (x, q)
 only_argument a q x h =
-    name_found a x.name x.name_place h.after h.named
-    ∙ ap (λ (o : Result (Request × At) Fault). on o (λ y. give (argument x.name x.name_place y)))
-    (only_told a.place h.after (Ok (request_in x, q)) h.asks)
+    let told = only_told a.place h.after (Ok (request_in x, q)) h.asks in
+    rw (name_found a x.name x.name_place h.after h.named, told) refl
 
 pub broken_is : (a : At) (f : Fault) → argument_at a ≡ Err f → IsNoArgument a f
 broken_is a f e = subst (ArgumentSays a) e (argument_says a)
 
 pub only_broken : (a : At) (f : Fault) → IsNoArgument a f → argument_at a ≡ Err f
 only_broken a f h =
-    name_found a h.name h.name_place h.after h.named
-    ∙ ap (λ (o : Result (Request × At) Fault). on o (λ y. give (argument h.name h.name_place y)))
-    (only_told a.place h.after (Err f) h.refused)
+    let told = only_told a.place h.after (Err f) h.refused in
+    rw (name_found a h.name h.name_place h.after h.named, told) refl

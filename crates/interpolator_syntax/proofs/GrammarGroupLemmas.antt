@@ -1,6 +1,6 @@
 -- A group is what opens it, its text and what closes it, and only such a text is a group.
 use Rattle.std.proofs.Common.{◌≡◌, ◌≢◌, ℕ, zero, suc, ◌+◌, cond, eqb, List, [], ◌∷◌, ◌++◌, length}
-use Rattle.std.proofs.Common.{arith, refl, ap, ◌∙◌, sym, subst, Ok, Err, Option, Some, None}
+use Rattle.std.proofs.Common.{arith, refl, ap, ◌∙◌, sym, Ok, Err, Option, Some, None}
 use Rattle.std.proofs.Common.{append_assoc, ne_eqb, append-nil, eqb-true, codes}
 use Rattle.std.proofs.lemmas.Bool.{eqb-false, cond_both}
 use Rattle.std.specs.Char.{len_utf8}
@@ -40,7 +40,7 @@ signs_split (suc k) p (c ∷ cs) q e =
 -- and only those
 pub only_signs : (k p : ℕ) (rest : List ℕ) → after_hashes k p (sign_text k ++ rest)
     ≡ Some (stands (p + k) rest)
-only_signs zero p rest = let same : p ≡ p + 0 = omega arith in ap (λ n. Some (stands n rest)) same
+only_signs zero p rest = grind arith
 only_signs (suc k) p rest = grind (arith, only_signs k (p + 1) rest)
 
 -- ---- the end
@@ -50,7 +50,7 @@ none_closes : (k c : ℕ) (inner after : List ℕ) → ((rest : List ℕ) → c 
     → inner ++ after ≢ sign_text k ++ rest) → NoneCloses k inner after
     → NoneCloses k (c ∷ inner) after
 none_closes k c inner after here later [] more rest e h = grind (arith, here rest)
-none_closes k c inner after here later (d ∷ front) more rest e h = later front more rest (cc) h
+none_closes k c inner after here later (d ∷ front) more rest e h = grind (arith, later front more)
 
 later_closes : (k c : ℕ) (inner after : List ℕ) → NoneCloses k (c ∷ inner) after
     → NoneCloses k inner after
@@ -66,8 +66,7 @@ signs_at k p c cs = cond (eqb c close_bracket) (after_hashes k (p + len_utf8 c) 
 
 not_here : (k p c : ℕ) (cs rest : List ℕ) → signs_at k p c cs ≡ None → c ≡ close_bracket
     → cs ≢ sign_text k ++ rest
-not_here k p c cs rest e same h =
-    none_some {x = stands (p + 1 + k) rest} (sym e ∙ rw (same, h) (only_signs k (p + 1) rest))
+not_here k p c cs rest e same h = grind (arith, only_signs k (p + 1) rest, e)
 
 signs_here : (k p c : ℕ) (cs : List ℕ) (q : At) → signs_at k p c cs ≡ Some q
     → (c ∷ cs ≡ close_text k ++ q.text) × (q.place ≡ p + 1 + k)
@@ -78,7 +77,7 @@ none_here : (k p c : ℕ) (cs : List ℕ) → ((rest : List ℕ) → c ≡ close
 none_here k p c cs h =
     elim (signs_at k p c cs) as (λ o. signs_at k p c cs ≡ o → o ≡ None) [
       | None ↦ λ e. refl
-      | Some q ↦ λ e. let s = signs_here k p c cs q e in absurd (h q.text (cc) (cc))
+      | Some q ↦ λ e. grind (arith, signs_here k p c cs q e, h q.text)
     ] refl
 
 -- the text at p ends in front of q, at the first place where it closes
@@ -126,10 +125,11 @@ only_close k p (c ∷ inner) rest h =
 pub only_no_close : (k p : ℕ) (cs : List ℕ) → NoneCloses k cs [] → close_from k p cs ≡ None
 only_no_close k p [] h = refl
 only_no_close k p (c ∷ cs) h =
-    rw (
+    grind (
+      arith,
       none_here k p c cs (λ more d e. h [] cs more (ap (λ n. n ∷ cs) d) (append-nil cs ∙ e)),
       only_no_close k (p + len_utf8 c) cs (later_closes k c cs [] h),
-    ) refl
+    )
 
 -- ---- groups
 
@@ -161,9 +161,7 @@ pub group_of_signs : (start k : ℕ) (a : At) (rest : List ℕ) → a.text ≡ s
     → NoSign rest → group_at start a ≡ bracket_first start k (stands (a.place + k) rest)
     (first_of (a.place + k) rest)
 unfolding group_at
-group_of_signs start k a rest e h =
-    let front = signs_front k rest h in
-    rw (e, front.0, front.1, sign_length k, sign_size k) refl
+group_of_signs start k a rest e h = grind (arith, signs_front k rest h, sign_length, sign_size, e)
 
 opened : (k : ℕ) (rest : List ℕ) → open_text k ++ rest ≡ sign_text k ++ (open_bracket ∷ rest)
 opened k rest = append_assoc (sign_text k) (open_bracket ∷ []) rest
@@ -180,14 +178,15 @@ open_no_hash e = cc
 only_group : (start : ℕ) (a : At) (g : Group) (q : At) → IsGroup a g q → group_at start a
     ≡ Ok (g, q)
 only_group start a g q h =
-    let tail = g.text ++ (close_text h.k ++ q.text) in
-    let p = a.place + h.k + 1 in
-    let here : p ≡ g.place = omega (arith, h.place, open_size h.k) in
-    let there : p + size g.text + 1 + h.k ≡ q.place =
-    omega (arith, h.end_place, close_size g.text h.k, here) in
-    group_of_signs start h.k a (open_bracket ∷ tail) (h.split ∙ opened h.k tail) open_no_hash
-    ∙ ap (closed_group start p) (only_close h.k p g.text q.text h.first)
-    ∙ rw (there, here) refl
+    grind (
+      arith,
+      group_of_signs start h.k a (open_bracket ∷ (g.text ++ (close_text h.k ++ q.text))),
+      only_close h.k (a.place + h.k + 1) g.text q.text h.first,
+      opened h.k (g.text ++ (close_text h.k ++ q.text)),
+      open_size h.k,
+      close_size g.text h.k,
+      h,
+    )
 
 module _ (start k : ℕ) (a : At) where
   -- what a bracket opens, by where it closes
@@ -195,13 +194,14 @@ module _ (start k : ℕ) (a : At) where
       (p : ℕ) (cs : List ℕ) (o : Option (List ℕ × At)) → p ≡ a.place + k + 1
       → a.text ≡ open_text k ++ cs → Closes k p cs o → Says (group start) a (closed_group start p o)
   opened_says p cs None e split none = no_end k cs split none refl
-  opened_says p cs (Some w) e split close = record {
-    k = k;
-    split = split ∙ ap (λ xs. open_text k ++ xs) close.split;
-    first = close.first;
-    place = omega (arith, e, open_size k);
-    end_place = omega (arith, close.place, close_size w.0 k);
-  }
+  opened_says p cs (Some w) e split close =
+      record {
+        k = k;
+        split = grind (arith, split, close.split);
+        first = close.first;
+        place = omega (arith, e, open_size k);
+        end_place = omega (arith, close.place, close_size w.0 k);
+      }
 
   -- the text after the signs
   bracket_says :
@@ -222,26 +222,26 @@ module _ (start k : ℕ) (a : At) where
 
 only_no_group : (start : ℕ) (a : At) (f : Fault) → IsNoGroup start a f → group_at start a
     ≡ Err f
-only_no_group start a f (ends k e d) =
-    group_of_signs start k a [] (e ∙ sym (append-nil (sign_text k))) tt ∙ ap Err (sym d)
+only_no_group start a f (ends k e d) = grind (arith, group_of_signs start k a [], append-nil, d)
 only_no_group start a f (no_bracket k c rest e bare other d) =
-    group_of_signs start k a (c ∷ rest) e bare
-    ∙ rw (ne_eqb c open_bracket other, d, sign_size k) refl
+    grind (arith, group_of_signs start k a (c ∷ rest) e bare, ne_eqb, other, d, sign_size k)
 only_no_group start a f (no_end k inner e none d) =
-    group_of_signs start k a (open_bracket ∷ inner) (e ∙ opened k inner) open_no_hash
-    ∙ ap (closed_group start (a.place + k + 1)) (only_no_close k (a.place + k + 1) inner none)
-    ∙ ap Err (sym d)
+    grind (
+      arith,
+      group_of_signs start k a (open_bracket ∷ inner),
+      opened k inner,
+      only_no_close k (a.place + k + 1) inner none,
+      d,
+    )
 
 pub agrees_group : (start : ℕ) → Agrees (group_at start) (group start)
 agrees_group start = record {
   says = λ a.
       let k = length (front_of (in_class Hash) a.text) in
       let rest = after_of (in_class Hash) a.text in
-      let split =
-      sym (front_after (in_class Hash) a.text) ∙ ap (λ xs. xs ++ rest) (all_signs a.text) in
+      let split : a.text ≡ sign_text k ++ rest = grind (arith, all_signs, front_after) in
       let bare = after_no_sign a.text in
-      subst (Says (group start) a) (sym (group_of_signs start k a rest split bare))
-      (bracket_says start k a rest split bare);
+      rw (group_of_signs start k a rest split bare) (bracket_says start k a rest split bare);
   only = λ a q g. only_group start a g q;
   only_not = only_no_group start;
 }

@@ -29,10 +29,7 @@ Shows p c cs (literal d) rest = (d ≡ c) × (rest ≡ cs)
 shown :
     (p c : ℕ) (cs : List ℕ) (k : PieceKind) (text rest : List ℕ) → c ∷ cs ≡ text ++ rest
     → Fits p k text rest → Shows p c cs k rest
-shown p c cs (closed start x end) text rest e h = grind (arith, append_assoc)
-shown p c cs (unclosed start x end) text rest e h = grind (arith, append-nil)
-shown p c cs (broken f) text rest e h = grind (arith, append-nil)
-shown p c cs k text rest e h = grind arith
+shown p c cs k text rest e h = grind (arith, append_assoc, append-nil)
 
 pub stands_shown :
     (p c : ℕ) (cs : List ℕ) (x : Piece) (rest : List ℕ) → Stands (from_place p (c ∷ cs)) x rest
@@ -53,9 +50,7 @@ same_ok e = grind (arith, e)
 same_kind :
     (p c : ℕ) (cs : List ℕ) (k l : PieceKind) (r s : List ℕ) → Shows p c cs k r → Shows p c cs l s
     → rank k ≡ rank l → (k ≡ l) × (r ≡ s)
-same_kind p c cs (unclosed n x i) (broken f) r s h k e = let both = sym h.3 ∙ k.1 in cc
-same_kind p c cs (broken f) (unclosed n x i) r s h k e = let both = sym h.1 ∙ k.3 in cc
-same_kind p c cs k l r s h j e = grind (arith, h, j, e)
+same_kind p c cs k l r s h j e = grind (arith, same_ok, h, j, e)
 
 piece_same :
     {p q : ℕ} {cs ds : List ℕ} {k l : PieceKind} → p ≡ q → cs ≡ ds → k ≡ l
@@ -86,13 +81,10 @@ pieces_moved p xs e d h = rw (e, d) h
 -- at most one list consists of the pieces of a text
 pub one_list : (xs ys : List Piece) (a : At) → IsPieces a xs → IsPieces a ys → xs ≡ ys
 one_list [] [] a h k = refl
-one_list [] (y ∷ ys) a h k =
-    absurd (not_empty a.place y.kind y.text k.0 (sym h ∙ k.1.stands.split) k.1.stands.fits)
-one_list (x ∷ xs) [] a h k =
-    absurd (not_empty a.place x.kind x.text h.0 (sym k ∙ h.1.stands.split) h.1.stands.fits)
+one_list [] (y ∷ ys) a h k = grind (arith, not_empty a.place y.kind y.text k.0)
+one_list (x ∷ xs) [] a h k = grind (arith, not_empty a.place x.kind x.text h.0)
 one_list (x ∷ xs) (y ∷ ys) a h k =
     let same = first_same a.place a.text x y h.0 k.0 h.1 k.1 in
-    let first : x ≡ y = same.0 in
     let after = from_place (a.place + size x.text) h.0 in
     let rest : xs ≡ ys = one_list xs ys after h.2 (pieces_moved a.place ys same.0 same.1 k.2) in cc
 
@@ -100,5 +92,4 @@ one_list (x ∷ xs) (y ∷ ys) a h k =
 pub pieces_joined : (xs : List Piece) (a : At) → IsPieces a xs → flat_map (λ x. x.text) xs ≡ a.text
 pieces_joined [] a h = sym h
 pieces_joined (x ∷ xs) a h =
-    let more = pieces_joined xs (from_place (a.place + size x.text) h.0) h.2 in
-    ap (λ cs. x.text ++ cs) more ∙ sym h.1.stands.split
+    rw (pieces_joined xs (from_place (a.place + size x.text) h.0) h.2) (sym h.1.stands.split)

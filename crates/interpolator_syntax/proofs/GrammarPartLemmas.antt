@@ -1,8 +1,8 @@
 -- Readers that agree with parts of a text, and how they are chained.
-use Rattle.std.proofs.Common.{◌≡◌, ◌≢◌, ℕ, ◌+◌, List, [], ◌∷◌, arith, refl, ap, ◌∙◌, sym, subst}
+use Rattle.std.proofs.Common.{◌≡◌, ◌≢◌, ℕ, ◌+◌, List, [], ◌∷◌, arith, refl, sym, subst}
 use Rattle.std.proofs.Common.{Result, Ok, Err, Option, Some, None, eqb-true}
 use Rattle.std.specs.Char.{len_utf8}
-use Rattle.interpolator_syntax.specs.At.{At, size, first, first_of, strip, strip_of, after}
+use Rattle.interpolator_syntax.specs.At.{At, size, first, strip, strip_of, after}
 use Rattle.interpolator_syntax.specs.Classes.{front_of, in_class}
 use Rattle.interpolator_syntax.specs.Readers.{Reader, ◌>>=◌ as ◌>>>◌, give, letter as read_letter}
 use Rattle.interpolator_syntax.specs.Readers.{flag as read_flag, run_before, run as read_run}
@@ -68,8 +68,7 @@ lies_here p c cs = record { split = refl; place = omega arith }
 pub lies_cons :
     (p c : ℕ) (cs ds : List ℕ) (q : At) → Lies (from_place (p + len_utf8 c) cs) ds q
     → Lies (from_place p (c ∷ cs)) (c ∷ ds) q
-lies_cons p c cs ds q h =
-    record { split = ap (λ xs. c ∷ xs) h.split; place = omega (arith, h.place) }
+lies_cons p c cs ds q h = grind (arith, h)
 
 -- the text after characters at a
 pub lies_end : (a : At) (cs : List ℕ) (q : At) → Lies a cs q
@@ -81,7 +80,7 @@ past_end : (a : At) (c : ℕ) (q : At) → Lies a (c ∷ []) q
 past_end a c q h = at_same (omega (arith, h.place)) refl
 
 pub first_lies : (a : At) (c : ℕ) (q : At) → Lies a (c ∷ []) q → first a ≡ Some (c, q)
-first_lies a c q h = ap (first_of a.place) h.split ∙ ap (λ (b : At). Some (c, b)) (past_end a c q h)
+first_lies a c q h = grind (arith, h.split, past_end a c q h)
 
 -- what `strip` returns
 abbrev pub Stripped : (c : ℕ) (a : At) → Option At → Type 0
@@ -120,8 +119,7 @@ run_says :
     (class : Class) (start : ℕ) (a : At) (cs : List ℕ) (p : ℕ) (ds : List ℕ)
     → IsRun class a cs (from_place p ds)
     → Says (run class start) a (run_before start cs (from_place p ds) ds)
-run_says class start a cs p [] h = (cs, from_place p [], h, refl, refl)
-run_says class start a cs p (d ∷ ds) h = (h, λ e. cc)
+run_says class start a cs p ds h = grind arith
 
 more_after :
     (start : ℕ) (cs : List ℕ) (p : ℕ) (ds : List ℕ) → ds ≢ []
@@ -131,4 +129,4 @@ more_after start cs p ds h = grind (arith, h)
 pub agrees_run : (class : Class) (start : ℕ)
     → Agrees (read_run (in_class class) start) (run class start)
 agrees_run class start =
-    grind (arith, run_says class start, run_is class, longest_front (in_class class), more_after start)
+    grind (arith, run_says class start, run_is class, longest_front (in_class class))

@@ -1,6 +1,6 @@
 -- A trait is its text, and the reverse; why a text begins none; and its reader is local.
 use Rattle.std.proofs.Common.{◌≡◌, ◌≢◌, ℕ, ◌+◌, Bool, true, false, eqb, All, List, [], ◌∷◌, arith}
-use Rattle.std.proofs.Common.{refl, ap, ◌∙◌, sym, Result, Ok, Err, Option, Some, inl, inr, eqb-true}
+use Rattle.std.proofs.Common.{refl, Result, Ok, Err, Option, Some, inl, inr, eqb-true}
 use Rattle.std.proofs.Common.{get_or, ltb, cond, codes, ne_eqb, ltb-true}
 use Rattle.std.proofs.lemmas.Grind.{common_steps}
 use Rattle.std.specs.Char.{len_utf8}
@@ -73,8 +73,8 @@ module _ (start : ℕ) (flagged : Bool) where
     no_trait_begins :
         None_of (codes "}?oxXbeEip") → trait_from here c past ≡ Err (parse (expected (codes "}") p))
     no_trait_begins h =
-        rw (apart 0 refl, apart 3 refl, apart 4 refl, apart 1 refl, apart 2 refl, apart 5 refl)
-        (rw (apart 6 refl, apart 7 refl, apart 8 refl, apart 9 refl) refl)
+        rw (apart 0 refl, apart 3 refl, apart 4 refl, apart 1 refl, apart 2 refl)
+        (rw (apart 5 refl, apart 6 refl, apart 7 refl, apart 8 refl, apart 9 refl) refl)
       where
         apart : (i : ℕ) → ltb i 10 ≡ true → eqb c (get_or (codes "}?oxXbeEip") i 0) ≡ false
         apart i k =
@@ -100,15 +100,11 @@ module _ (start : ℕ) (flagged : Bool) where
   agrees_trait : Agrees (trait_at start flagged) (trait_part start flagged)
   agrees_trait = record {
     says = λ a. trait_shows a.place a.text;
-    only = λ a q x t. elim t [
-      | inl s ↦ display_read a s.0 ∙ ok_pair (sym s.1) (sym s.2)
-      | inr s ↦ named_read a x s.0 q s.1 s.2 s.3
-    ];
+    only = λ a q x t. grind (arith, display_read a, named_read a x);
     only_not = λ a f t. elim t [
       | inl s ↦ rw (s.0, s.1, s.2) refl
       | inr (inl s) ↦ rw (s.0.1, s.1) refl
-      | inr (inr s) ↦
-          ap (reads a.place) s.1.1 ∙ no_trait_begins a.place s.0 s.1.0 s.2 ∙ ap Err (sym s.3)
+      | inr (inr s) ↦ rw (s.1.1, no_trait_begins a.place s.0 s.1.0 s.2, s.3) refl
     ];
   }
 

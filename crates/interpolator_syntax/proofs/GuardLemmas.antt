@@ -1,6 +1,6 @@
 -- Where the groups of an argument begin: in the text, after a `:` and the letter of a list.
 use Rattle.std.proofs.Common.{◌≡◌, ℕ, ◌+◌, ◌≤◌, List, ◌∷◌, [], ◌++◌, length, arith, ap, Bool, ◌||◌}
-use Rattle.std.proofs.Common.{subst, sym, ◌∙◌, Ok, Option, Some, None, inl, inr, append_assoc}
+use Rattle.std.proofs.Common.{subst, Ok, Option, Some, None, inl, inr, append_assoc}
 use Rattle.std.specs.Prelude.{⊤}
 use Rattle.std.proofs.lemmas.List.{length-append}
 use Rattle.interpolator_render.specs.declared.view.Trait.{Trait}
@@ -67,8 +67,7 @@ module _ (m n : ℕ) (a b : At) (t : Takes a b) (far : n + length b.text ≤ m +
   }
 
   pub kind_grows : (k : Kind) → KindAfter m k b → KindAfter n k a
-  kind_grows (of_value t) h = tt
-  kind_grows (of_list l) h = (group_grows l.item h.0, group_grows l.join h.1)
+  kind_grows k h = grind (arith, group_grows)
 
 -- at least n characters come before each group of what is read as this part
 record Begins {A : Type 0} (n : ℕ) (kind_of : A → Kind) (part : Part A) : Type 0 where
@@ -87,7 +86,7 @@ begins_then {n = n} {kind_of = kind_of} law k = record {
 }
 
 lies_takes : (a : At) (cs : List ℕ) (q : At) → Lies a cs q → Takes a q
-lies_takes a cs q h = record { front = cs; split = h.split; place = h.place }
+lies_takes a cs q h = grind (arith, h)
 
 -- ---- lists
 
@@ -101,13 +100,7 @@ module _ (start : ℕ) where
       let is = h.1.2 in
       rw (h.1.3.0, h.1.3.1) (
         law_takes (law_group s) a h.1.0 h.1.1 is,
-        record {
-          opens = a;
-          closed = h.1.1;
-          is = is;
-          takes = takes_none a;
-          far = omega arith;
-        },
+        record { opens = a; closed = h.1.1; is = is; takes = takes_none a; far = omega arith },
       )
   group_after a o q (inr h) = rw (h.1, h.2) (takes_none a, tt)
 
@@ -117,8 +110,8 @@ module _ (start : ℕ) where
       let join = item.3 in
       let t = law_takes (law_range s) a h.0 h.1 h.2 in
       let first = group_after h.1 item.0 item.1 item.2 in
-      let second = group_after item.1 join.0 join.1 join.2 in
       let u = takes_then a h.1 item.1 t first.0 in
+      let second = group_after item.1 join.0 join.1 join.2 in
       rw join.3.0 (
         group_grows 0 0 a h.1 t (no_longer 0 a h.1 t) item.0 first.1,
         group_grows 0 0 a item.1 u (no_longer 0 a item.1 u) join.0 second.1,
@@ -138,12 +131,9 @@ module _ (start : ℕ) where
 
   lettered_after : (slot : Trait) (hex : HexDebug) (a b : At) (cs : List ℕ) (k : Kind) (q : At)
       → trait_text slot hex ≡ Some cs → Lies a cs b → (kind start slot).is b k q → KindAfter 1 k a
-  lettered_after traits.Iter hex a b cs k q e l h =
-      let t = lies_takes a cs b l in
-      let one = list_letter hex cs e in
-      kind_grows 0 1 a b t (omega (arith, one, ap length l.split, length-append cs b.text)) k
-      (kind_after traits.Iter b k q h)
-  lettered_after slot hex a b cs k q e l h = rw h.0 tt
+  lettered_after slot hex a b cs k q e l h =
+      let grows = kind_grows 0 1 a b (lies_takes a cs b l) in
+      grind (arith, list_letter, grows, l.split, length-append, kind_after)
 
   shown_after : (flagged : Bool) (a : At) (x : Wanted) (b : At) (k : Kind) (q : At)
       → (trait_part start flagged).is a x b → (kind start x.slot).is b k q → KindAfter 1 k a
@@ -192,13 +182,10 @@ pub argument_after : (a : At) (x : Argument) (q : At) → argument_at a ≡ Ok (
     → KindAfter 2 x.kind a
 argument_after a x q e =
     let h = argument_is a q x e in
-    let front = h.named.spaces ++ x.name in
     let t : Takes a h.after = record {
-      front = front;
-      split =
-          h.named.white.split ∙ sym (append_assoc h.named.spaces x.name h.after.text);
-      place =
-          omega (arith, h.named.name_place, h.named.end_place, size-append h.named.spaces x.name);
+      front = h.named.spaces ++ x.name;
+      split = rw append_assoc h.named.white.split;
+      place = omega (arith, h.named.name_place, h.named.end_place, size-append);
     } in
     kind_grows 2 2 a h.after t (no_longer 2 a h.after t) x.kind
     (asks_after a.place h.after (request_in x) q h.asks)

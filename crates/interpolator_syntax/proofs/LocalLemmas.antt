@@ -1,6 +1,6 @@
 -- A reader is local: it takes a front of its text, its faults lie there, and elsewhere it returns
 -- the same; and so are readers that are put together of local ones.
-use Rattle.std.proofs.Common.{◌≡◌, ℕ, ◌+◌, ◌≤◌, Bool, cond, List, [], ◌∷◌, ◌++◌, arith, refl, ap}
+use Rattle.std.proofs.Common.{◌≡◌, ℕ, ◌+◌, ◌≤◌, Bool, cond, List, [], ◌∷◌, ◌++◌, arith, refl}
 use Rattle.std.proofs.Common.{◌∙◌, Result, Ok, Err, Option, Some, None, inl, inr, ◌⊎◌, eqb-true}
 use Rattle.std.specs.Char.{len_utf8}
 use Rattle.interpolator_syntax.specs.At.{At, size, first, first_of, strip_of}
@@ -127,12 +127,10 @@ module _ (s : Setting) where
         → IsLocal move (stands p cs) (f (Some (c, b))) (g (Some (c, elsewhere b))))
         → IsLocal move (stands p cs) (f (first_of p cs)) (g (first_of (p + s.by) (cs ++ s.more)))
     local_first p [] f g none some =
-        let a = stands p [] in
-        local_past move a a (f None) (g None) _ (takes_none a)
-        (λ t. ap (λ cs. g (first_of (p + s.by) cs)) (nothing_more t)) none
+        local_past move (stands p []) (stands p []) (f None) (g None) _ (takes_none _)
+        (λ t. rw (nothing_more t) refl) none
     local_first p (c ∷ cs) f g none some =
-        rw (step_moved p s.by (len_utf8 c))
-        (some c (stands (p + len_utf8 c) cs) (takes_one p c cs))
+        rw (step_moved p s.by (len_utf8 c)) (some c (stands (p + len_utf8 c) cs) (takes_one p c cs))
 
     -- a result at a by whether c begins the text cs, which ends where the text at a does
     pub local_strip_at :
@@ -144,10 +142,9 @@ module _ (s : Setting) where
         → IsLocal move a (f (strip_of c p cs)) (g (strip_of c (p + s.by) (cs ++ s.more)))
     local_strip_at a c p [] f g settled none some =
         local_past move a a (f None) (g None) _ (takes_none a)
-        (λ t. ap (λ cs. g (strip_of c (p + s.by) cs)) (nothing_more (settled t))) none
+        (λ t. rw (nothing_more (settled t)) refl) none
     local_strip_at a c p (d ∷ ds) f g settled none some =
-        rw (step_moved p s.by (len_utf8 d))
-        (grind (arith, eqb-true d c, none, some, takes_one p d ds))
+        rw (step_moved p s.by (len_utf8 d)) (grind (arith, eqb-true, none, some, takes_one p d ds))
 
     -- a result by whether the first character is c
     pub local_strip :

@@ -1,6 +1,6 @@
 -- Fronts of a text, and the text after them.
 use Rattle.std.proofs.Common.{◌≡◌, ℕ, ◌+◌, ◌≤◌, Bool, List, [], ◌∷◌, ◌++◌, length, arith, refl, ap}
-use Rattle.std.proofs.Common.{◌∙◌, sym, subst, inr, ◌⊎◌, append_assoc, length-append}
+use Rattle.std.proofs.Common.{sym, subst, inr, ◌⊎◌, append_assoc, length-append}
 use Rattle.std.specs.Char.{len_utf8}
 use Rattle.interpolator_syntax.specs.At.{At, size, after}
 use Rattle.interpolator_syntax.specs.Classes.{front_of, close_brace}
@@ -33,7 +33,7 @@ takes_one p c cs = record { front = c ∷ []; split = refl; place = omega arith 
 pub takes_then : (a b c : At) → Takes a b → Takes b c → Takes a c
 takes_then a b c h k = record {
   front = h.front ++ k.front;
-  split = h.split ∙ ap (λ xs. h.front ++ xs) k.split ∙ sym (append_assoc h.front k.front c.text);
+  split = rw (append_assoc, ← k.split) h.split;
   place = omega (arith, h.place, k.place, size-append h.front k.front);
 }
 

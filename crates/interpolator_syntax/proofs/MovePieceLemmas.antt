@@ -34,9 +34,7 @@ module _ (by : ℕ) where
       (c p : ℕ) (cs : List ℕ) (f g : Option At → Step) → f None ≡ moved_step (g None)
       → ((r : At) → f (Some (moved_at by r)) ≡ moved_step (g (Some r)))
       → f (strip_of c (p + by) cs) ≡ moved_step (g (strip_of c p cs))
-  by_strip c p [] f g none some = none
-  by_strip c p (d ∷ ds) f g none some =
-      rw (step_moved p by (len_utf8 d)) (grind (arith, none, some))
+  by_strip c p cs f g none some = grind (arith, step_moved, none, some)
 
   argument_or_broken_moves : (p : ℕ) (b : At) (o : Result (Argument × At) Fault)
       → argument_or_broken (p + by) (moved_at by b) (moved_read by o)
@@ -51,9 +49,7 @@ module _ (by : ℕ) where
   argument_from_moves : (p : ℕ) (b : At)
       → argument_from (p + by) (moved_at by b) ≡ moved_step (argument_from p b)
   unfolding argument_from
-  argument_from_moves p b =
-      ap (argument_or_broken (p + by) (moved_at by b)) (moves_argument by b)
-      ∙ argument_or_broken_moves p b (argument_at b)
+  argument_from_moves p b = rw (moves_argument by b) (argument_or_broken_moves p b (argument_at b))
 
   either_step : (t : Bool) (s r u v : Step) → s ≡ moved_step u → r ≡ moved_step v
       → cond t s r ≡ moved_step (cond t u v)
@@ -87,8 +83,7 @@ module _ (by : ℕ) where
   pieces_within_moves zero p (c ∷ cs) = refl
   pieces_within_moves (suc most) p (c ∷ cs) =
       let s = piece_from p c (past p c cs) in
-      ap (from_step most) (first_piece_moves p c cs)
-      ∙ ap (λ xs. moved_piece by s.piece ∷ xs) (pieces_within_moves most s.rest.place s.rest.text)
+      rw (first_piece_moves p c cs, pieces_within_moves most s.rest.place s.rest.text) refl
 
   -- the pieces at another base are the same, moved
   pub pieces_move : (a : At) → pieces (moved_at by a) ≡ map (moved_piece by) (pieces a)

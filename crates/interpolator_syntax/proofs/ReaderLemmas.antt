@@ -1,7 +1,7 @@
 -- The reader of an argument is local: what it takes, where its faults lie, and what it returns
 -- elsewhere.
 use Rattle.std.proofs.Common.{◌≡◌, ℕ, ◌+◌, ◌≤◌, List, [], arith, refl, ap, ◌∙◌, sym, Result, Ok}
-use Rattle.std.proofs.Common.{Err, None, inl, inr, append-nil}
+use Rattle.std.proofs.Common.{Err, None, inl, append-nil}
 use Rattle.interpolator_syntax.specs.At.{At, size, strip}
 use Rattle.interpolator_syntax.specs.Classes.{close_brace, colon}
 use Rattle.interpolator_syntax.specs.Readers.{Reader, ◌>>=◌, give, here, span}
@@ -101,14 +101,11 @@ moved_alone by a = at_same refl (append-nil a.text)
 -- an argument at another base is the same, moved
 pub moves_argument : (by : ℕ) (a : At) → argument_at (moved_at by a) ≡ moved_read by (argument_at a)
 moves_argument by a =
-    ap argument_at (sym (moved_alone by a))
-    ∙ elim (argument_at a) as (λ o. argument_at a ≡ o
+    rw (← moved_alone by a) (elim (argument_at a) as (λ o. argument_at a ≡ o
     → argument_at (elsewhere (setting by [] a) a) ≡ moved_read by o) [
-      | Ok w ↦ λ e.
-          (read_argument by [] a w.0 w.1 e).1 (inr refl)
-          ∙ ok_pair refl (at_same refl (append-nil w.1.text))
-      | Err f ↦ λ e. (refused_argument by [] a f e).3 refl
-    ] refl
+      | Ok w ↦ λ e. grind (arith, read_argument by [] a w.0 w.1 e, append-nil w.1.text)
+      | Err f ↦ λ e. grind (arith, refused_argument by [] a f e)
+    ] refl)
 
 -- an argument in front of a closing brace is the same whatever comes after the text
 pub argument_same :

@@ -1,6 +1,6 @@
 -- The pieces of a text, and the groups of its arguments, lie in it; the groups are shorter.
 use Rattle.std.proofs.Common.{◌≡◌, ℕ, ◌+◌, ◌<◌, ◌≤◌, List, [], ◌∷◌, ◌++◌, length, arith, refl, ap}
-use Rattle.std.proofs.Common.{append_assoc, Ok, Option, Some, None, sym, ◌∙◌}
+use Rattle.std.proofs.Common.{append_assoc, Ok, Option, Some, None}
 use Rattle.std.specs.Prelude.{⊤}
 use Rattle.std.proofs.lemmas.List.{append-nil, length-append}
 use Rattle.interpolator_syntax.specs.At.{At, size}
@@ -51,18 +51,12 @@ group_in : (n : ℕ) (o : Option Group) (a : At) → GroupAfter n o a → GroupI
 group_in n None a h = tt
 group_in n (Some g) a h =
     let is = h.is in
-    let t = h.takes in
-    let front = t.front ++ open_text is.k in
-    let back = close_text is.k ++ h.closed.text in
-    record {
-      front = front;
-      back = back;
-      split =
-          t.split ∙ ap (λ xs. t.front ++ xs) is.split
-          ∙ sym (append_assoc t.front (open_text is.k) (g.text ++ back));
+    let t = h.takes in record {
+      front = t.front ++ open_text is.k;
+      back = close_text is.k ++ h.closed.text;
+      split = rw (append_assoc, ← is.split) t.split;
       place = omega (arith, is.place, t.place, size-append t.front (open_text is.k));
-      shorter =
-          omega (arith, ap length is.split, length-append {A = ℕ}, takes_shorter a h.opens t);
+      shorter = omega (arith, ap length is.split, length-append {A = ℕ}, takes_shorter a h.opens t);
       lies =
           omega (arith, is.place, ap size is.split, size-append, takes_reaches _ a h.opens t refl);
     }
@@ -97,14 +91,13 @@ PiecesIn (x ∷ xs) a = PieceIn x.kind a × (x.place ≤ a.place + size a.text) 
 argument_lies : (a b : At) (x : Argument) (q : At) → Takes a b → argument_at b ≡ Ok (x, q)
     → ArgumentIn b.place x q.place a
 argument_lies a b x q t e =
-    let there = takes_reaches _ a b t refl in
-    record {
-      starts = omega (arith, there);
-      ends = omega (arith, there, takes_reaches _ b q (argument_takes b x q e) refl);
-      kind =
-          kind_in 2 x.kind a
-          (kind_grows 2 2 a b t (no_longer 2 a b t) x.kind (argument_after b x q e));
-    }
+    grind (
+      arith,
+      takes_reaches _ a b t refl,
+      takes_reaches _ b q (argument_takes b x q e) refl,
+      kind_in 2 x.kind a
+          (kind_grows 2 2 a b t (no_longer 2 a b t) x.kind (argument_after b x q e)),
+    )
 
 module _ (a b : At) (t : Takes a b) where
   -- the text after a brace

@@ -18,8 +18,7 @@ use Rattle.interpolator_syntax.proofs.ReaderLemmas.{argument_takes}
 
 -- the end of the text
 takes_all_after : (a : At) → Takes a (all_after a)
-takes_all_after a =
-    record { front = a.text; split = sym (append-nil a.text); place = refl }
+takes_all_after a = record { front = a.text; split = sym (append-nil a.text); place = refl }
 
 -- ---- tokens
 
@@ -110,7 +109,7 @@ step_taken :
     (p : ℕ) (a : At) (x : Argument) (q : At) (o : Option At) → Takes a q → strip close_brace q ≡ o
     → Takes a (argument_step p a x q o).rest
 step_taken p a x q o t e =
-    grind (arith, takes_all_after a, strip_after close_brace q.place q.text, takes_then a q, one_taken q close_brace)
+    grind (arith, takes_all_after a, strip_after, takes_then a q, one_taken q close_brace)
 
 or_broken_taken :
     (p : ℕ) (a : At) (o : Result (Argument × At) Fault) → argument_at a ≡ o
@@ -123,8 +122,7 @@ unfolding argument_from
 argument_taken p a = or_broken_taken p a (argument_at a) refl
 
 past_taken : (x : Token) (b : At) → Takes b (past_token x b)
-past_taken argument b = argument_taken b.place b
-past_taken x b = takes_none b
+past_taken x b = grind (arith, argument_taken, takes_none)
 
 -- the text after a token, and after its argument
 pub scan_taken : (a : At) (w : Token × At) → first_token a ≡ Some w → Takes a (past_token w.0 w.1)

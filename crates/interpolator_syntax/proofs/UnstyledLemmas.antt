@@ -3,7 +3,7 @@ use Rattle.std.proofs.Common.{◌≡◌, refl, sym, subst, ◌∙◌, List, [], 
 use Rattle.std.proofs.lemmas.Bool.{false≢true}
 use Rattle.std.specs.Prelude.{Option, Some, None, Result, OnOk, Ok, Err}
 use Rattle.std.specs.List.{FoldsTo, concat}
-use Rattle.std.specs.Fmt.{IsDefaultSpec, IsFlush, HasWrittenStyled, WritesText}
+use Rattle.std.specs.Fmt.{IsFlush, HasWrittenStyled, WritesText}
 use Rattle.std.specs.Fmt.{DisplaysOnOk, DisplaysStyledOnOk}
 use Rattle.std.specs.declared.fmt.Formatter.{Formatter}
 use Rattle.std.specs.declared.fmt.Error.{Error}
@@ -18,10 +18,8 @@ module _ {W : Type 0} (took : W → List ℕ → W → Type 0) where
   displays_plainly f g result (Some bytes) shown = λ plain ok.
       let written = shown plain.flush ok in record {
         wrote = written.wrote;
-        plain = record {
-          bare = subst IsDefaultSpec (sym written.spec) plain.bare;
-          flush = written.flush;
-        };
+        plain =
+            record { bare = rw written.spec plain.bare; flush = written.flush };
       }
 
   module _ {S N : Type 0} (name : S → N) (below : S → Formatter W) where
