@@ -1,6 +1,6 @@
 -- What the fault of an argument can be and where it lies; and that an argument has one outcome.
-use Rattle.std.proofs.Common.{◌≡◌, ℕ, ◌≤◌, List, length, arith, refl, inl, inr, ◌⊎◌}
-use Rattle.std.proofs.Common.{Ok, Err, length-drop, IsUtf8, IsCharBoundary}
+use Rattle.std.proofs.Common.{◌≡◌, ℕ, ◌≤◌, List, length, arith, refl, inl, inr, ◌⊎◌, Ok, Err}
+use Rattle.std.proofs.Common.{length-drop, IsUtf8, IsCharBoundary}
 use Rattle.std.proofs.lemmas.Str.{IsUtf8-drop}
 use Rattle.interpolator_syntax.specs.At.{At}
 use Rattle.interpolator_syntax.specs.Arguments.{Argument, argument_at, from_byte}

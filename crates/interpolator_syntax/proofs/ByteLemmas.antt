@@ -1,23 +1,22 @@
 -- The text up to the first of two ASCII characters, found by its bytes.
-use Rattle.std.proofs.Common.{◌≡◌, ℕ, suc, ◌+◌, ◌<◌, ◌≤◌, zero, Bool, true, cond, eqb}
-use Rattle.std.proofs.Common.{List, [], ◌∷◌, ◌++◌, length, take, drop, get_or, arith, refl}
-use Rattle.std.proofs.Common.{sym, ◌⊎◌, inl, ◌||◌, ◌%◌, ◌^◌, Option, Some, None, bit_or}
-use Rattle.std.proofs.Common.{map, replicate, eqb-true}
-use Rattle.std.specs.List.{position, position_or_len, slice_get}
-use Rattle.std.specs.Prelude.{⊤, IfSome, min, unwrap_or}
+use Rattle.std.proofs.Common.{encode_utf8_all, IsCharBoundary, length-take-le, get_or-take, IfSome}
+use Rattle.std.proofs.Common.{length-drop, slice_get, unwrap_or, replicate, position, eqb-true, ◌≡◌}
+use Rattle.std.proofs.Common.{IsUtf8, ne_eqb, length, get_or, Option, bit_or, chars, arith, zero, ℕ}
+use Rattle.std.proofs.Common.{Bool, true, cond, List, ◌++◌, take, drop, refl, ◌||◌, Some, None, suc}
+use Rattle.std.proofs.Common.{◌+◌, ◌<◌, ◌≤◌, eqb, min, ◌∷◌, sym, ◌⊎◌, inl, ◌%◌, ◌^◌, map, []}
+use Rattle.std.specs.List.{position_or_len}
+use Rattle.std.specs.Prelude.{⊤}
 use Rattle.std.specs.Char.{encode_utf8}
-use Rattle.std.specs.Str.{chars, IsUtf8, IsCharBoundary, encode_utf8_all}
 use Rattle.std.proofs.lemmas.Str.{encodes-chars, encode_ascii, chars_from_encodes, IsUtf8-take}
-use Rattle.std.proofs.lemmas.Str.{length-encode, len_utf8_bounds}
-use Rattle.std.proofs.lemmas.Str.{IsUtf8-drop}
+use Rattle.std.proofs.lemmas.Str.{length-encode, len_utf8_bounds, IsUtf8-drop}
 use Rattle.std.proofs.lemmas.List.Sums.{position_or_len_is, fails_before_first, passes_at_first}
 use Rattle.std.proofs.lemmas.List.Sums.{prefix_len-le-length}
-use Rattle.std.proofs.lemmas.List.{get_or-take, length-take-le, length-map, length-drop}
+use Rattle.std.proofs.lemmas.List.{length-map}
 use Rattle.std.proofs.lemmas.Simd.{zip2_splat, zip2_of_maps, mask_l-mod, leading_from_mask_l}
 use Rattle.std.proofs.lemmas.Simd.{trailing_mask_l}
 use Rattle.std.specs.Simd.Lanes.{mask_l, zip2, top}
 use Rattle.std.specs.Int.Count.{count_trailing_zeros}
-use Rattle.std.proofs.lemmas.Bool.{cond_both, ne_eqb, cases_lt}
+use Rattle.std.proofs.lemmas.Bool.{cond_both, cases_lt}
 use Rattle.interpolator_syntax.specs.Classes.{avoids, front_of, after_of}
 
 -- ---- a block's mask

@@ -1,6 +1,5 @@
 -- An error with the bytes of a missing name, and with its characters: both say the same.
-use Rattle.std.proofs.Common.{◌≡◌, arith, ℕ, List, string_bytes, encode_utf8_all}
-use Rattle.std.specs.Str.{chars}
+use Rattle.std.proofs.Common.{◌≡◌, arith, ℕ, List, string_bytes, encode_utf8_all, chars}
 use Rattle.std.proofs.lemmas.Str.{encodes-chars, IsUtf8-string_bytes}
 use Rattle.interpolator_syntax.specs.declared.error.Error.{Error}
 use Rattle.interpolator_syntax.specs.declared.error.Error.TheVariants.{MissingValue}

@@ -1,7 +1,7 @@
 -- What the first byte of a text says about its characters.
-use Rattle.std.proofs.Common.{◌≡◌, ℕ, ◌≤◌, List, [], ◌∷◌, arith, refl, Option, Some}
-use Rattle.std.proofs.Common.{None, length, Bool, eqb, MatchOption, MatchBool, slice_get, chars}
-use Rattle.std.proofs.Common.{IsUtf8, encode_utf8_all}
+use Rattle.std.proofs.Common.{◌≡◌, ℕ, ◌≤◌, List, [], ◌∷◌, arith, refl, Option, Some, None, length}
+use Rattle.std.proofs.Common.{Bool, eqb, MatchOption, MatchBool, slice_get, chars, IsUtf8}
+use Rattle.std.proofs.Common.{encode_utf8_all}
 use Rattle.std.proofs.lemmas.Str.{encodes-chars}
 use Rattle.interpolator_syntax.specs.Classes.{front_of, after_of, in_class}
 use Rattle.interpolator_syntax.specs.SpecReads.{FirstByte}

@@ -9,8 +9,8 @@ use Rattle.interpolator_syntax.specs.Arguments.{Argument, argument, asked_by, as
 use Rattle.interpolator_syntax.specs.Faults.{Fault}
 use Rattle.interpolator_syntax.specs.Grammar.{NotFirst}
 use Rattle.interpolator_syntax.specs.GrammarParts.{Lies}
-use Rattle.interpolator_syntax.specs.ArgumentGrammar.{IsNamed, Asks, AsksNothing, request_in, IsArgument}
-use Rattle.interpolator_syntax.specs.ArgumentGrammar.{IsNoArgument}
+use Rattle.interpolator_syntax.specs.ArgumentGrammar.{IsNamed, Asks, AsksNothing, request_in}
+use Rattle.interpolator_syntax.specs.ArgumentGrammar.{IsArgument, IsNoArgument}
 use Rattle.interpolator_syntax.specs.declared.class.Class.TheVariants.{WhiteSpace, Name}
 use Rattle.interpolator_syntax.proofs.FrontLemmas.{front_after}
 use Rattle.interpolator_syntax.proofs.LongestLemmas.{at_same, front_longest, longest_front}

@@ -1,7 +1,7 @@
 -- A group is what opens it, its text and what closes it, and only such a text is a group.
 use Rattle.std.proofs.Common.{◌≡◌, ◌≢◌, ℕ, zero, suc, ◌+◌, cond, eqb, List, [], ◌∷◌, ◌++◌, length}
-use Rattle.std.proofs.Common.{arith, refl, ap, ◌∙◌, sym, Ok, Err, Option, Some, None}
-use Rattle.std.proofs.Common.{append_assoc, ne_eqb, append-nil, eqb-true, codes}
+use Rattle.std.proofs.Common.{arith, refl, ap, ◌∙◌, sym, Ok, Err, Option, Some, None, append_assoc}
+use Rattle.std.proofs.Common.{ne_eqb, append-nil, eqb-true, codes}
 use Rattle.std.proofs.lemmas.Bool.{eqb-false, cond_both}
 use Rattle.std.specs.Char.{len_utf8}
 use Rattle.interpolator_syntax.specs.At.{At, size, first_of}

@@ -1,9 +1,8 @@
 -- A number is its digits, and the reverse; and why a text is none.
 use Rattle.std.proofs.Common.{rules, ◌≡◌, ℕ, ◌+◌, ◌*◌, ◌^◌, ◌<◌, ◌≤◌, true, false, eqb, IsTrue}
-use Rattle.std.proofs.Common.{List, [], ◌∷◌, ◌++◌, length, arith, refl, ◌≢◌, ap, subst}
-use Rattle.std.proofs.Common.{Result, Ok, Err, inl, inr, eqb-true, append-nil, append_assoc, ℤ, pos}
-use Rattle.std.proofs.Common.{length-append, pow-suc}
-use Rattle.std.proofs.Common.{le-mul_of_pos_right}
+use Rattle.std.proofs.Common.{List, [], ◌∷◌, ◌++◌, length, arith, refl, ◌≢◌, ap, subst, Result, Ok}
+use Rattle.std.proofs.Common.{Err, inl, inr, eqb-true, append-nil, append_assoc, ℤ, pos}
+use Rattle.std.proofs.Common.{length-append, pow-suc, le-mul_of_pos_right}
 use Rattle.std.proofs.lemmas.Grind.{common_steps}
 use Rattle.std.specs.Char.{is_ascii_digit}
 use Rattle.std.proofs.lemmas.Bool.{eqb-false, cond_both}

@@ -1,6 +1,6 @@
 -- Parts that may be absent, and numbers: the laws of their readers.
-use Rattle.std.proofs.Common.{◌≡◌, ℕ, ◌+◌, Bool, cond, List, arith, refl, ◌∙◌, sym}
-use Rattle.std.proofs.Common.{Result, Ok, Err, Option, Some, None}
+use Rattle.std.proofs.Common.{◌≡◌, ℕ, ◌+◌, Bool, cond, List, arith, refl, ◌∙◌, sym, Result, Ok, Err}
+use Rattle.std.proofs.Common.{Option, Some, None}
 use Rattle.std.specs.Char.{is_ascii_digit}
 use Rattle.std.proofs.lemmas.Bool.{cond_both}
 use Rattle.interpolator_syntax.specs.At.{At, first, strip}
@@ -11,8 +11,8 @@ use Rattle.interpolator_syntax.specs.SpecTexts.{number_or, number_at, width_at, 
 use Rattle.interpolator_syntax.specs.SpecTexts.{precision_at}
 use Rattle.interpolator_syntax.specs.Ranges.{bound_or, bound_if}
 use Rattle.interpolator_syntax.specs.NumberGrammar.{Spelling, naturals, integers}
-use Rattle.interpolator_syntax.specs.GrammarParts.{Part, where_first}
-use Rattle.interpolator_syntax.specs.GrammarParts.{where_after, spelling_of, number}
+use Rattle.interpolator_syntax.specs.GrammarParts.{Part, where_first, where_after, spelling_of}
+use Rattle.interpolator_syntax.specs.GrammarParts.{number}
 use Rattle.interpolator_syntax.specs.SpecGrammar.{width, precision}
 use Rattle.interpolator_syntax.specs.ListGrammar.{bound}
 use Rattle.interpolator_syntax.specs.Faults.{Fault, ParseFault, parse, parse_place, range_bound}

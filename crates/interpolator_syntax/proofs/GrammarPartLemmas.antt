@@ -1,6 +1,6 @@
 -- Readers that agree with parts of a text, and how they are chained.
-use Rattle.std.proofs.Common.{◌≡◌, ◌≢◌, ℕ, ◌+◌, List, [], ◌∷◌, arith, refl, sym, subst}
-use Rattle.std.proofs.Common.{Result, Ok, Err, Option, Some, None, eqb-true}
+use Rattle.std.proofs.Common.{◌≡◌, ◌≢◌, ℕ, ◌+◌, List, [], ◌∷◌, arith, refl, sym, subst, Result, Ok}
+use Rattle.std.proofs.Common.{Err, Option, Some, None, eqb-true}
 use Rattle.std.specs.Char.{len_utf8}
 use Rattle.interpolator_syntax.specs.At.{At, size, first, strip, strip_of, after}
 use Rattle.interpolator_syntax.specs.Classes.{front_of, in_class}

@@ -1,7 +1,7 @@
 -- The pieces that the reader finds are each of the first kind that its place allows.
 use Rattle.std.proofs.Common.{rules, ◌≡◌, ◌≢◌, ℕ, zero, suc, ◌+◌, ◌≤◌, List, [], ◌∷◌, ◌++◌, length}
-use Rattle.std.proofs.Common.{arith, refl, ap, sym, Result, Ok, Option, Some, None}
-use Rattle.std.proofs.Common.{append_assoc, append-nil, eqb-true}
+use Rattle.std.proofs.Common.{arith, refl, ap, sym, Result, Ok, Option, Some, None, append_assoc}
+use Rattle.std.proofs.Common.{append-nil, eqb-true}
 use Rattle.std.proofs.lemmas.Bool.{eqb-false, cond_both}
 use Rattle.interpolator_syntax.specs.At.{At, size, strip, strip_of}
 use Rattle.interpolator_syntax.specs.Classes.{open_brace, close_brace}

@@ -4,8 +4,7 @@ use Rattle.std.proofs.Common.{◌∙◌, sym, Result, Ok, Option, None, inl, inr
 use Rattle.std.specs.Char.{len_utf8}
 use Rattle.interpolator_render.specs.declared.view.Alignment.{Alignment}
 use Rattle.interpolator_syntax.specs.At.{At}
-use Rattle.interpolator_syntax.specs.Classes.{is_alignment, hash, zero_digit}
-use Rattle.interpolator_syntax.specs.Classes.{close_brace}
+use Rattle.interpolator_syntax.specs.Classes.{is_alignment, hash, zero_digit, close_brace}
 use Rattle.interpolator_syntax.specs.SpecTexts.{Request, plain_display, alignment_letter}
 use Rattle.interpolator_syntax.specs.SpecTexts.{sign_letter, spec_from_sign, spec_from_alignment}
 use Rattle.interpolator_syntax.specs.SpecTexts.{fill_or_fault, fill_of, fill_at, spec_parts}
@@ -21,9 +20,9 @@ use Rattle.interpolator_syntax.proofs.GrammarOptionLemmas.{law_width, law_precis
 use Rattle.interpolator_syntax.proofs.GrammarPartLemmas.{ok_pair, Says, Agrees, agrees_then}
 use Rattle.interpolator_syntax.proofs.GrammarPartLemmas.{lies_here}
 use Rattle.interpolator_syntax.proofs.GrammarTraitLemmas.{law_trait}
-use Rattle.interpolator_syntax.proofs.LocalLemmas.{Setting, still, stays, elsewhere}
-use Rattle.interpolator_syntax.proofs.LocalLemmas.{IsSettled, nothing_more, IsLocal, local_stay}
-use Rattle.interpolator_syntax.proofs.LocalLemmas.{local_either, local_then}
+use Rattle.interpolator_syntax.proofs.LocalLemmas.{Setting, still, stays, elsewhere, IsSettled}
+use Rattle.interpolator_syntax.proofs.LocalLemmas.{nothing_more, IsLocal, local_stay, local_either}
+use Rattle.interpolator_syntax.proofs.LocalLemmas.{local_then}
 use Rattle.interpolator_syntax.proofs.LocalityLemmas.{stands, takes_none, takes_one}
 use Rattle.interpolator_syntax.proofs.LongestLemmas.{at_same}
 use Rattle.interpolator_syntax.proofs.SimpleReaderLemmas.{Law, law_then, law_ends, law_letter}

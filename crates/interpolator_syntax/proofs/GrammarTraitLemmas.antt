@@ -1,7 +1,7 @@
 -- A trait is its text, and the reverse; why a text begins none; and its reader is local.
 use Rattle.std.proofs.Common.{◌≡◌, ◌≢◌, ℕ, ◌+◌, Bool, true, false, eqb, All, List, [], ◌∷◌, arith}
-use Rattle.std.proofs.Common.{refl, Result, Ok, Err, Option, Some, inl, inr, eqb-true}
-use Rattle.std.proofs.Common.{get_or, ltb, cond, codes, ne_eqb, ltb-true}
+use Rattle.std.proofs.Common.{refl, Result, Ok, Err, Option, Some, inl, inr, eqb-true, get_or, ltb}
+use Rattle.std.proofs.Common.{cond, codes, ne_eqb, ltb-true}
 use Rattle.std.proofs.lemmas.Grind.{common_steps}
 use Rattle.std.specs.Char.{len_utf8}
 use Rattle.std.proofs.lemmas.Bool.{eqb-false, cond_both}

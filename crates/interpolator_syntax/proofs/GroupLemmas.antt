@@ -1,15 +1,13 @@
 -- Where a group closes.
 use Rattle.std.proofs.Common.{◌≡◌, ℕ, suc, ◌+◌, ◌-◌, ◌<◌, ◌≤◌, List, [], ◌∷◌, ◌++◌, length, take}
-use Rattle.std.proofs.Common.{arith, refl, ◌∙◌, Option, Some, None, append_assoc}
-use Rattle.std.proofs.Common.{append-nil, length-append, eqb-true, option_map, chars, IsUtf8}
-use Rattle.std.proofs.Common.{encode_utf8_all}
+use Rattle.std.proofs.Common.{arith, refl, ◌∙◌, Option, Some, None, append_assoc, append-nil}
+use Rattle.std.proofs.Common.{length-append, eqb-true, option_map, chars, IsUtf8, encode_utf8_all}
 use Rattle.std.proofs.lemmas.List.{append_cancel_right}
 use Rattle.std.proofs.lemmas.Str.{encodes-chars, encodes-append, IsUtf8-take, chars-append}
 use Rattle.std.specs.Char.{len_utf8}
 use Rattle.interpolator_syntax.specs.At.{At, size, strip_of, after}
 use Rattle.interpolator_syntax.specs.Classes.{front_of, after_of, in_class, hash, close_bracket}
-use Rattle.interpolator_syntax.specs.Groups.{after_hashes, here_or_later, close_from}
-use Rattle.interpolator_syntax.specs.Groups.{next_close}
+use Rattle.interpolator_syntax.specs.Groups.{after_hashes, here_or_later, close_from, next_close}
 use Rattle.interpolator_syntax.specs.declared.class.Class.TheVariants.{Hash, Enclosed}
 use Rattle.interpolator_syntax.proofs.CharacterLemmas.{size-chars}
 use Rattle.interpolator_syntax.proofs.FrontLemmas.{IsRest, front_after, rest_boundary, cut_at_rest}

@@ -1,6 +1,6 @@
 -- The reader of a group is local.
-use Rattle.std.proofs.Common.{◌≡◌, ℕ, zero, suc, ◌+◌, eqb, List, [], ◌∷◌, ◌++◌, length, arith}
-use Rattle.std.proofs.Common.{refl, Some, append_assoc, Option, append-nil}
+use Rattle.std.proofs.Common.{◌≡◌, ℕ, zero, suc, ◌+◌, eqb, List, [], ◌∷◌, ◌++◌, length, arith, refl}
+use Rattle.std.proofs.Common.{Some, append_assoc, Option, append-nil}
 use Rattle.interpolator_syntax.specs.At.{At, size}
 use Rattle.interpolator_syntax.specs.Classes.{open_bracket, close_bracket}
 use Rattle.interpolator_syntax.specs.Groups.{close_from, closed_group, bracket_first, bracket_at}

@@ -1,8 +1,7 @@
 -- Where the groups of an argument begin: in the text, after a `:` and the letter of a list.
 use Rattle.std.proofs.Common.{◌≡◌, ℕ, ◌+◌, ◌≤◌, List, ◌∷◌, [], ◌++◌, length, arith, ap, Bool, ◌||◌}
-use Rattle.std.proofs.Common.{subst, Ok, Option, Some, None, inl, inr, append_assoc}
+use Rattle.std.proofs.Common.{length-append, subst, Ok, Option, Some, None, inl, inr, append_assoc}
 use Rattle.std.specs.Prelude.{⊤}
-use Rattle.std.proofs.lemmas.List.{length-append}
 use Rattle.interpolator_render.specs.declared.view.Trait.{Trait}
 use Rattle.interpolator_render.specs.declared.view.Trait.TheVariants as traits
 use Rattle.interpolator_render.specs.declared.view.Alignment.{Alignment}
@@ -19,8 +18,8 @@ use Rattle.interpolator_syntax.specs.GrammarParts.{Part, ◌>>=◌, Lies}
 use Rattle.interpolator_syntax.specs.ListGrammar.{group_there, IsList}
 use Rattle.interpolator_syntax.specs.Lists.{ListRequest}
 use Rattle.interpolator_syntax.specs.Readers.{Reader}
-use Rattle.interpolator_syntax.specs.SpecGrammar.{kind, from_sign, fill, parts, trait_part, trait_text}
-use Rattle.interpolator_syntax.specs.SpecGrammar.{IsSpec}
+use Rattle.interpolator_syntax.specs.SpecGrammar.{kind, from_sign, fill, parts, trait_part}
+use Rattle.interpolator_syntax.specs.SpecGrammar.{trait_text, IsSpec}
 use Rattle.interpolator_syntax.specs.SpecTexts.{Kind, of_value, of_list, Request, Wanted}
 use Rattle.interpolator_syntax.specs.SpecTexts.{alignment_letter, sign_letter}
 use Rattle.interpolator_syntax.proofs.GrammarArgumentLemmas.{argument_is}

@@ -1,7 +1,7 @@
 -- A reader is local: it takes a front of its text, its faults lie there, and elsewhere it returns
 -- the same; and so are readers that are put together of local ones.
-use Rattle.std.proofs.Common.{◌≡◌, ℕ, ◌+◌, ◌≤◌, Bool, cond, List, [], ◌∷◌, ◌++◌, arith, refl}
-use Rattle.std.proofs.Common.{◌∙◌, Result, Ok, Err, Option, Some, None, inl, inr, ◌⊎◌, eqb-true}
+use Rattle.std.proofs.Common.{◌≡◌, ℕ, ◌+◌, ◌≤◌, Bool, cond, List, [], ◌∷◌, ◌++◌, arith, refl, ◌∙◌}
+use Rattle.std.proofs.Common.{Result, Ok, Err, Option, Some, None, inl, inr, ◌⊎◌, eqb-true}
 use Rattle.std.specs.Char.{len_utf8}
 use Rattle.interpolator_syntax.specs.At.{At, size, first, first_of, strip_of}
 use Rattle.interpolator_syntax.specs.ArgumentFaults.{IsArgumentFault}

@@ -1,6 +1,6 @@
 -- The pieces of a text at another base.
-use Rattle.std.proofs.Common.{◌≡◌, ℕ, zero, suc, ◌+◌, Bool, cond, eqb, List, [], ◌∷◌}
-use Rattle.std.proofs.Common.{length, map, arith, refl, ap, ◌∙◌, Result, Ok, Err, Option, Some, None}
+use Rattle.std.proofs.Common.{◌≡◌, ℕ, zero, suc, ◌+◌, Bool, cond, eqb, List, [], ◌∷◌, length, map}
+use Rattle.std.proofs.Common.{arith, refl, ap, ◌∙◌, Result, Ok, Err, Option, Some, None}
 use Rattle.std.specs.Char.{len_utf8}
 use Rattle.interpolator_syntax.specs.At.{At, size, strip_of}
 use Rattle.interpolator_syntax.specs.Classes.{open_brace, close_brace}

@@ -10,8 +10,8 @@ use Rattle.interpolator_syntax.specs.Pieces.{PieceKind, closed, unclosed, broken
 use Rattle.interpolator_syntax.specs.Pieces.{argument_or_broken, argument_step}
 use Rattle.interpolator_syntax.specs.SpecTexts.{Kind}
 use Rattle.interpolator_syntax.specs.Tokens.{Token, first_token, past_token, argument}
-use Rattle.interpolator_syntax.specs.Nodes.{Node, group_branch, argument_node, nodes}
-use Rattle.interpolator_syntax.specs.Nodes.{piece_node, token_node, leading_nodes, nodes_within}
+use Rattle.interpolator_syntax.specs.Nodes.{Node, group_branch, argument_node, nodes, piece_node}
+use Rattle.interpolator_syntax.specs.Nodes.{token_node, leading_nodes, nodes_within}
 use Rattle.interpolator_syntax.proofs.TokenLemmas.{token_shorter, scan_shorter}
 use Rattle.interpolator_syntax.proofs.SizeLemmas.{GroupIfIn, KindIn, argument_in}
 use Rattle.interpolator_syntax.specs.declared.piece_kind.PieceKind as told

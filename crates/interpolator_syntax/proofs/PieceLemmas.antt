@@ -1,7 +1,6 @@
 -- The pieces of a text, one after the other.
-use Rattle.std.proofs.Common.{◌≡◌, ℕ, zero, suc, ◌≤◌, Bool, false, List, [], ◌∷◌}
-use Rattle.std.proofs.Common.{length, arith, refl, ap, Ok, Some, ◌+◌, eqb-true}
-use Rattle.std.proofs.Common.{Result, Err, ◌++◌, ◌∙◌, append_assoc}
+use Rattle.std.proofs.Common.{◌≡◌, ℕ, zero, suc, ◌≤◌, Bool, false, List, [], ◌∷◌, length, arith, ap}
+use Rattle.std.proofs.Common.{refl, Ok, Some, ◌+◌, eqb-true, Result, Err, ◌++◌, ◌∙◌, append_assoc}
 use Rattle.std.proofs.lemmas.List.{append_cancel_right}
 use Rattle.interpolator_syntax.specs.At.{At, at, strip, strip_of}
 use Rattle.interpolator_syntax.specs.Classes.{after_of, open_brace, close_brace, is_brace}

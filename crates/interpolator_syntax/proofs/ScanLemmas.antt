@@ -1,13 +1,13 @@
 -- The pieces of the first token, and then those of the text after it.
-use Rattle.std.proofs.Common.{◌≡◌, ℕ, ◌+◌, Bool, List, [], ◌∷◌, ◌++◌, arith, refl}
-use Rattle.std.proofs.Common.{subst, Option, Some, None, eqb-true}
+use Rattle.std.proofs.Common.{◌≡◌, ℕ, ◌+◌, Bool, List, [], ◌∷◌, ◌++◌, arith, refl, subst, Option}
+use Rattle.std.proofs.Common.{Some, None, eqb-true}
 use Rattle.std.specs.Char.{len_utf8}
 use Rattle.interpolator_syntax.specs.At.{At, size}
 use Rattle.interpolator_syntax.specs.Classes.{front_of, after_of, in_class, is_brace, open_brace}
 use Rattle.interpolator_syntax.specs.Classes.{close_brace}
 use Rattle.interpolator_syntax.specs.PieceGrammar.{literal_pieces, token_pieces}
-use Rattle.interpolator_syntax.specs.Pieces.{Piece, Step, argument_from, open_step}
-use Rattle.interpolator_syntax.specs.Pieces.{close_step, past, pieces}
+use Rattle.interpolator_syntax.specs.Pieces.{Piece, Step, argument_from, open_step, close_step}
+use Rattle.interpolator_syntax.specs.Pieces.{past, pieces}
 use Rattle.interpolator_syntax.specs.Tokens.{Token, open_scan, close_scan, first_token, past_token}
 use Rattle.interpolator_syntax.specs.declared.class.Class.TheVariants.{Literal}
 use Rattle.interpolator_syntax.proofs.LocalityLemmas.{stands}

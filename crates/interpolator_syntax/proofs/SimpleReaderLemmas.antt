@@ -1,7 +1,7 @@
 -- The law of a reader: it agrees with its part, and is local; and the readers
 -- that the parts of an argument are made of.
-use Rattle.std.proofs.Common.{◌≡◌, ℕ, ◌+◌, Bool, false, List, [], ◌∷◌, ◌++◌, arith, refl}
-use Rattle.std.proofs.Common.{Option, inl, inr, append-nil}
+use Rattle.std.proofs.Common.{◌≡◌, ℕ, ◌+◌, Bool, false, List, [], ◌∷◌, ◌++◌, arith, refl, Option}
+use Rattle.std.proofs.Common.{inl, inr, append-nil}
 use Rattle.interpolator_syntax.specs.At.{At, after}
 use Rattle.interpolator_syntax.specs.Classes.{front_of, after_of}
 use Rattle.interpolator_syntax.specs.Readers.{Reader, ◌>>=◌ as ◌>>>◌, give, here, span}
@@ -11,9 +11,9 @@ use Rattle.interpolator_syntax.specs.GrammarParts.{Part, ◌>>=◌, ends, letter
 use Rattle.interpolator_syntax.specs.declared.class.Class.{Class}
 use Rattle.interpolator_syntax.proofs.GrammarPartLemmas.{ok_pair, Agrees, agrees_then, agrees_ends}
 use Rattle.interpolator_syntax.proofs.GrammarPartLemmas.{agrees_same, agrees_letter, agrees_flag}
-use Rattle.interpolator_syntax.proofs.LocalLemmas.{Setting, stays, elsewhere, IsSettled}
-use Rattle.interpolator_syntax.proofs.LocalLemmas.{IsLocal, Reads, local_stay, local_first}
-use Rattle.interpolator_syntax.proofs.LocalLemmas.{local_strip, value_local, reads_then}
+use Rattle.interpolator_syntax.proofs.LocalLemmas.{Setting, stays, elsewhere, IsSettled, IsLocal}
+use Rattle.interpolator_syntax.proofs.LocalLemmas.{Reads, local_stay, local_first, local_strip}
+use Rattle.interpolator_syntax.proofs.LocalLemmas.{value_local, reads_then}
 use Rattle.interpolator_syntax.proofs.LocalityLemmas.{Takes, takes_after}
 
 module _ (s : Setting) where

@@ -1,8 +1,7 @@
 -- The pieces of a text, and the groups of its arguments, lie in it; the groups are shorter.
 use Rattle.std.proofs.Common.{◌≡◌, ℕ, ◌+◌, ◌<◌, ◌≤◌, List, [], ◌∷◌, ◌++◌, length, arith, refl, ap}
-use Rattle.std.proofs.Common.{append_assoc, Ok, Option, Some, None}
+use Rattle.std.proofs.Common.{append-nil, length-append, append_assoc, Ok, Option, Some, None}
 use Rattle.std.specs.Prelude.{⊤}
-use Rattle.std.proofs.lemmas.List.{append-nil, length-append}
 use Rattle.interpolator_syntax.specs.At.{At, size}
 use Rattle.interpolator_syntax.specs.Classes.{close_brace, open_brace}
 use Rattle.interpolator_syntax.specs.Groups.{Group}

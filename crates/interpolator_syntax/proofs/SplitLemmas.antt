@@ -1,17 +1,15 @@
 -- The tree of a text beside its pieces.
 use Rattle.std.proofs.Common.{◌≡◌, ℕ, ◌+◌, Bool, true, false, List, [], ◌∷◌, ◌++◌, length, map}
-use Rattle.std.proofs.Common.{arith, refl, ap, sym, Option, Some, None, ◌<◌}
-use Rattle.std.specs.Prelude.{flat_map, ◌&&◌}
+use Rattle.std.proofs.Common.{flat_map, ◌&&◌, arith, refl, ap, sym, Option, Some, None, ◌<◌}
 use Rattle.std.specs.Char.{len_utf8}
 use Rattle.std.proofs.lemmas.List.{map-append}
 use Rattle.interpolator_syntax.specs.At.{At, size}
 use Rattle.interpolator_syntax.specs.PieceGrammar.{literal_pieces, token_pieces}
 use Rattle.interpolator_syntax.specs.Classes.{front_of, after_of, in_class}
 use Rattle.interpolator_syntax.specs.Pieces.{Piece, pieces, argument_from}
-use Rattle.interpolator_syntax.specs.Tokens.{Token, literals, argument}
-use Rattle.interpolator_syntax.specs.Tokens.{first_token, past_token}
-use Rattle.interpolator_syntax.specs.Nodes.{Node, text_node}
-use Rattle.interpolator_syntax.specs.Nodes.{piece_node, token_node, leading_nodes, nodes}
+use Rattle.interpolator_syntax.specs.Tokens.{Token, literals, argument, first_token, past_token}
+use Rattle.interpolator_syntax.specs.Nodes.{Node, text_node, piece_node, token_node, leading_nodes}
+use Rattle.interpolator_syntax.specs.Nodes.{nodes}
 use Rattle.interpolator_syntax.specs.Splits.{node_alone, nodes_alone, with_literals, with_node}
 use Rattle.interpolator_syntax.specs.Splits.{join_literals, literal_nodes, split_node, split_again}
 use Rattle.interpolator_syntax.specs.Splits.{is_literal, begins_literal, NoTwoLiterals}
@@ -21,8 +19,8 @@ use Rattle.interpolator_syntax.proofs.GrammarLemmas.{pieces_joined}
 use Rattle.interpolator_syntax.proofs.GrammarPieceLemmas.{pieces_are}
 use Rattle.interpolator_syntax.proofs.LocalityLemmas.{stands, size-append, takes_reaches}
 use Rattle.interpolator_syntax.proofs.ScanLemmas.{hands_on, hands_nothing}
-use Rattle.interpolator_syntax.proofs.NodeLemmas.{by_token, argument_kind, nodes_lead}
-use Rattle.interpolator_syntax.proofs.NodeLemmas.{nodes_first, nodes_none}
+use Rattle.interpolator_syntax.proofs.NodeLemmas.{by_token, argument_kind, nodes_lead, nodes_first}
+use Rattle.interpolator_syntax.proofs.NodeLemmas.{nodes_none}
 use Rattle.interpolator_syntax.proofs.TokenTextLemmas.{takes_token, scan_taken}
 
 -- ---- nodes that are not of literals

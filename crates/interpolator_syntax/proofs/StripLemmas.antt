@@ -1,7 +1,6 @@
 -- An ASCII character at the beginning of a text, by its byte.
-use Rattle.std.proofs.Common.{◌≡◌, ℕ, ◌+◌, ◌<◌, List, [], ◌∷◌, length, get_or, arith}
-use Rattle.std.proofs.Common.{Some, None, chars, IsUtf8, IsCharBoundary}
-use Rattle.std.proofs.Common.{encode_utf8_all, slice_get, eqb-true}
+use Rattle.std.proofs.Common.{◌≡◌, ℕ, ◌+◌, ◌<◌, List, [], ◌∷◌, length, get_or, arith, Some, None}
+use Rattle.std.proofs.Common.{chars, IsUtf8, IsCharBoundary, encode_utf8_all, slice_get, eqb-true}
 use Rattle.std.proofs.lemmas.Str.{chars_past_char, chars-nil, encodes-chars, encode_ascii}
 use Rattle.std.proofs.lemmas.Str.{len_utf8_ascii, IsCharBoundary-after_ascii}
 use Rattle.interpolator_syntax.specs.At.{At, strip, strip_of, after}

@@ -13,8 +13,7 @@ use Rattle.interpolator_syntax.specs.Nodes.{argument_content, fault_content, gro
 use Rattle.interpolator_syntax.specs.Nodes.{item_branch, join_branch, piece_node, token_node}
 use Rattle.interpolator_syntax.specs.Pieces.{argument_from, argument_or_broken, argument_step}
 use Rattle.interpolator_syntax.specs.SpecTexts.{Kind}
-use Rattle.interpolator_syntax.specs.Tokens.{Token, argument}
-use Rattle.interpolator_syntax.specs.Tokens.{first_token, past_token}
+use Rattle.interpolator_syntax.specs.Tokens.{Token, argument, first_token, past_token}
 use Rattle.interpolator_syntax.proofs.ArgumentFaultLemmas.{fault_of_argument}
 use Rattle.interpolator_syntax.proofs.GrammarArgumentLemmas.{broken_is}
 use Rattle.interpolator_syntax.proofs.TokenTextLemmas.{WrittenSize, takes_token, scan_taken}

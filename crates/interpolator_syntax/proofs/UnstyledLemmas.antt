@@ -1,10 +1,9 @@
 -- What is written through a writer on top of a formatter is written to the formatter.
-use Rattle.std.proofs.Common.{◌≡◌, refl, sym, subst, ◌∙◌, List, [], ◌∷◌, ℕ}
+use Rattle.std.proofs.Common.{◌≡◌, refl, sym, subst, ◌∙◌, List, [], ◌∷◌, ℕ, Option, Some, None}
+use Rattle.std.proofs.Common.{Result, OnOk, Ok, Err}
 use Rattle.std.proofs.lemmas.Bool.{false≢true}
-use Rattle.std.specs.Prelude.{Option, Some, None, Result, OnOk, Ok, Err}
 use Rattle.std.specs.List.{FoldsTo, concat}
-use Rattle.std.specs.Fmt.{IsFlush, HasWrittenStyled, WritesText}
-use Rattle.std.specs.Fmt.{DisplaysOnOk, DisplaysStyledOnOk}
+use Rattle.std.specs.Fmt.{IsFlush, HasWrittenStyled, WritesText, DisplaysOnOk, DisplaysStyledOnOk}
 use Rattle.std.specs.declared.fmt.Formatter.{Formatter}
 use Rattle.std.specs.declared.fmt.Error.{Error}
 use Rattle.std.proofs.Output.{has_written_styled_nil, has_written_styled_append}
