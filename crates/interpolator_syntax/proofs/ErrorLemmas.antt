@@ -1,5 +1,5 @@
 -- An error with the bytes of a missing name, and with its characters: both say the same.
-use Rattle.std.proofs.Common.{◌≡◌, arith, ℕ, List, string_bytes, encode_utf8_all, chars}
+use Rattle.std.proofs.Common.{◌≡◌, arith, ℕ, List, string_bytes, encode_utf8_all}
 use Rattle.std.proofs.lemmas.Str.{encodes-chars, IsUtf8-string_bytes}
 use Rattle.interpolator_syntax.specs.declared.error.Error.{Error}
 use Rattle.interpolator_syntax.specs.declared.error.Error.TheVariants.{MissingValue}
@@ -15,10 +15,6 @@ with_name : (List ℕ → List ℕ) → Answer → Answer
 with_name change (fault (missing_value name place)) = fault (missing_value (change name) place)
 with_name change answer = answer
 
-answer_of_bytes : (error : Error) → answer_of error ≡ with_name chars (byte_answer_of error)
-unfolding with_name
-answer_of_bytes error = grind arith
-
 bytes_of_answer : (error : Error) →
     byte_answer_of error ≡ with_name encode_utf8_all (answer_of error)
 unfolding with_name
@@ -27,7 +23,7 @@ bytes_of_answer error = grind (arith, encodes-chars, IsUtf8-string_bytes)
 -- answers that are the same in bytes are the same in characters
 pub same_answers : (first second : Error) →
     byte_answer_of first ≡ byte_answer_of second → answer_of first ≡ answer_of second
-same_answers first second same = grind (arith, answer_of_bytes)
+same_answers first second same = grind arith
 
 -- and the other way round
 pub same_byte_answers : (first second : Error) →

@@ -12,9 +12,7 @@ use Rattle.interpolator_syntax.proofs.CharacterLemmas.{no_text, chars_of_end}
 first_byte_at : (cs bs : List ℕ) (b : ℕ) → encode_utf8_all cs ≡ bs → slice_get bs 0 ≡ Some b
     → FirstByte b cs
 first_byte_at [] bs b e f = absurd (grind (arith, e, f))
-first_byte_at (c ∷ cs) bs b e f =
-    let same = encode_head c (encode_utf8_all cs) b (rw e f) in
-    record { char = c; more = cs; split = refl; same = same }
+first_byte_at (c ∷ cs) bs b e f = grind (arith, encode_head, encode_utf8_all)
 
 pub first_byte : (bs : List ℕ) (b : ℕ) → IsUtf8 bs → slice_get bs 0 ≡ Some b
     → FirstByte b (chars bs)

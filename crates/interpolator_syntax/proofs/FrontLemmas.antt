@@ -1,4 +1,5 @@
 -- The longest front of one class, and the rest after it.
+use Rattle.std.proofs.lemmas.Grind.{common_steps}
 use Rattle.std.proofs.Common.{IsCharBoundary, length-append, append_assoc, encode_utf8, length, ◌≡◌}
 use Rattle.std.proofs.Common.{IsUtf8, arith, chars, Bool, List, ◌++◌, take, refl, ◌-◌, ◌∷◌, [], ℕ}
 use Rattle.std.proofs.lemmas.Str.{chars-append, IsCharBoundary-at_seam, IsUtf8-take}
@@ -27,8 +28,7 @@ rest_boundary text rest r u =
 
 pub cut_at_rest : (text rest : List ℕ) → IsRest text rest
     → take (length text - length rest) text ++ rest ≡ text
-cut_at_rest text rest r =
-    grind (arith, r.1, length-append r.0 rest, take-append_seam r.0 rest)
+cut_at_rest text rest r = grind (arith, common_steps, length-append, take-append_seam)
 
 pub front_cut :
     (passes : ℕ → Bool) (text front rest : List ℕ) → IsUtf8 front → front ++ rest ≡ text

@@ -1,6 +1,6 @@
 -- An argument is its parts, one after the other, and the reverse.
-use Rattle.std.proofs.Common.{◌≡◌, ℕ, IsFalse, List, [], ◌∷◌, ◌++◌, arith, refl, ap, ◌∙◌, sym}
-use Rattle.std.proofs.Common.{subst, Result, Ok, Err, Option, inl, inr, eqb-true}
+use Rattle.std.proofs.Common.{◌≡◌, ℕ, IsFalse, List, [], ◌∷◌, arith, refl, ◌∙◌, sym, subst, Result}
+use Rattle.std.proofs.Common.{Ok, Err, Option, inl, inr, eqb-true}
 use Rattle.interpolator_syntax.specs.At.{At, after, strip}
 use Rattle.interpolator_syntax.specs.Classes.{front_of, in_class, close_brace, colon}
 use Rattle.interpolator_syntax.specs.Readers.{on, give}
@@ -49,14 +49,7 @@ name_found :
     (a : At) (name : List ℕ) (p : ℕ) (b : At) → IsNamed a name p b
     → argument_at a ≡ named_so a.place name p b
 unfolding argument_at
-name_found a name p b h =
-    grind (
-      arith,
-      longest_front (in_class WhiteSpace) a.text h.spaces (name ++ b.text) h.white,
-      longest_front (in_class Name) (name ++ b.text) name b.text h.named,
-      h.name_place,
-      h.end_place,
-    )
+name_found a name p b h = grind (arith, longest_front)
 
 -- ---- after the name
 
@@ -81,8 +74,7 @@ module _ (start : ℕ) (b : At) where
       grind (arith, name_ends b.text stops, (law_spec (still start)).agrees.says)
 
   after_colon : (m : At) → Lies b (colon ∷ []) m → asked_at start b ≡ spec_after start m
-  after_colon m h =
-      rw h.split (ap (spec_after start) (at_same (omega (arith, h.place)) refl))
+  after_colon m h = grind (arith, at_same)
 
   only_told : (o : Result (Request × At) Fault) → Told start b o → asked_at start b ≡ o
   only_told (Ok w) (inl s) = rw s.0.1 (ok_pair (sym s.1) (at_same refl (sym s.0.1) ∙ sym s.2))

@@ -1,7 +1,7 @@
 -- A group is what opens it, its text and what closes it, and only such a text is a group.
 use Rattle.std.proofs.Common.{◌≡◌, ◌≢◌, ℕ, zero, suc, ◌+◌, cond, eqb, List, [], ◌∷◌, ◌++◌, length}
-use Rattle.std.proofs.Common.{arith, refl, ap, ◌∙◌, sym, Ok, Err, Option, Some, None, append_assoc}
-use Rattle.std.proofs.Common.{ne_eqb, append-nil, eqb-true, codes}
+use Rattle.std.proofs.Common.{arith, refl, ap, ◌∙◌, Ok, Err, Option, Some, None, append_assoc}
+use Rattle.std.proofs.Common.{ne_eqb, append-nil, eqb-true}
 use Rattle.std.proofs.lemmas.Bool.{eqb-false, cond_both}
 use Rattle.std.specs.Char.{len_utf8}
 use Rattle.interpolator_syntax.specs.At.{At, size, first_of}
@@ -12,7 +12,7 @@ use Rattle.interpolator_syntax.specs.Groups.{closed_group, bracket_first, group_
 use Rattle.interpolator_syntax.specs.GroupGrammar.{sign_text, open_text, close_text, NoneCloses}
 use Rattle.interpolator_syntax.specs.GroupGrammar.{IsGroup, IsNoGroup, ends, no_bracket, no_end}
 use Rattle.interpolator_syntax.specs.ListGrammar.{group}
-use Rattle.interpolator_syntax.specs.Faults.{Fault, parse, expected}
+use Rattle.interpolator_syntax.specs.Faults.{Fault}
 use Rattle.interpolator_syntax.specs.declared.class.Class.TheVariants.{Hash}
 use Rattle.interpolator_syntax.proofs.FrontLemmas.{front_after}
 use Rattle.interpolator_syntax.proofs.GrammarPartLemmas.{Says, Agrees}
@@ -95,19 +95,13 @@ Closes k p cs None = NoneCloses k cs []
 later_says :
     (k p c : ℕ) (cs : List ℕ) (o : Option (List ℕ × At)) → signs_at k p c cs ≡ None
     → Closes k (p + len_utf8 c) cs o → Closes k p (c ∷ cs) (here_or_later c None o)
-later_says k p c cs o none there =
-    grind (arith, none_closes k c, not_here k p c cs, append-nil, none)
+later_says k p c cs o none there = grind (arith, none_closes, not_here, append-nil)
 
 pub close_says : (k p : ℕ) (cs : List ℕ) → Closes k p cs (close_from k p cs)
 close_says k p [] = nothing_closes k []
 close_says k p (c ∷ cs) =
-    grind (
-      arith,
-      signs_here k p c cs,
-      nothing_closes k,
-      later_says k p c cs (close_from k (p + len_utf8 c) cs),
-      close_says k (p + len_utf8 c) cs,
-    )
+    let later = later_says k p c cs (close_from k (p + len_utf8 c) cs) in
+    grind (arith, signs_here, nothing_closes k, later, close_says k (p + len_utf8 c) cs)
 
 pub only_close :
     (k p : ℕ) (inner rest : List ℕ) → NoneCloses k inner (close_text k ++ rest)
@@ -115,21 +109,15 @@ pub only_close :
     ≡ Some (inner, stands (p + size inner + 1 + k) rest)
 only_close k p [] rest h = grind (arith, only_signs k (p + 1) rest)
 only_close k p (c ∷ inner) rest h =
-    let more = inner ++ (close_text k ++ rest) in
-    grind (
-      arith,
-      none_here k p c more (λ after d. h [] inner after (ap (λ n. n ∷ inner) d)),
-      only_close k (p + len_utf8 c) inner rest (later_closes k c inner (close_text k ++ rest) h),
-    )
+    let tail = close_text k ++ rest in
+    let none = none_here k p c (inner ++ tail) (λ after d. h [] inner after (cc)) in
+    grind (arith, none, only_close k (p + len_utf8 c) inner rest (later_closes k c inner tail h))
 
 pub only_no_close : (k p : ℕ) (cs : List ℕ) → NoneCloses k cs [] → close_from k p cs ≡ None
 only_no_close k p [] h = refl
 only_no_close k p (c ∷ cs) h =
-    grind (
-      arith,
-      none_here k p c cs (λ more d e. h [] cs more (ap (λ n. n ∷ cs) d) (append-nil cs ∙ e)),
-      only_no_close k (p + len_utf8 c) cs (later_closes k c cs [] h),
-    )
+    let none = none_here k p c cs (λ more d. rw append-nil at (h [] cs more (cc))) in
+    grind (arith, none, only_no_close k (p + len_utf8 c) cs (later_closes k c cs [] h))
 
 -- ---- groups
 
@@ -178,15 +166,10 @@ open_no_hash e = cc
 only_group : (start : ℕ) (a : At) (g : Group) (q : At) → IsGroup a g q → group_at start a
     ≡ Ok (g, q)
 only_group start a g q h =
-    grind (
-      arith,
-      group_of_signs start h.k a (open_bracket ∷ (g.text ++ (close_text h.k ++ q.text))),
-      only_close h.k (a.place + h.k + 1) g.text q.text h.first,
-      opened h.k (g.text ++ (close_text h.k ++ q.text)),
-      open_size h.k,
-      close_size g.text h.k,
-      h,
-    )
+    let tail = g.text ++ (close_text h.k ++ q.text) in
+    let signs = group_of_signs start h.k a (open_bracket ∷ tail) in
+    let close = only_close h.k (a.place + h.k + 1) g.text q.text h.first in
+    grind (arith, signs, close, opened h.k tail, open_size h.k, close_size g.text h.k, h)
 
 module _ (start k : ℕ) (a : At) where
   -- what a bracket opens, by where it closes
@@ -194,14 +177,7 @@ module _ (start k : ℕ) (a : At) where
       (p : ℕ) (cs : List ℕ) (o : Option (List ℕ × At)) → p ≡ a.place + k + 1
       → a.text ≡ open_text k ++ cs → Closes k p cs o → Says (group start) a (closed_group start p o)
   opened_says p cs None e split none = no_end k cs split none refl
-  opened_says p cs (Some w) e split close =
-      record {
-        k = k;
-        split = grind (arith, split, close.split);
-        first = close.first;
-        place = omega (arith, e, open_size k);
-        end_place = omega (arith, close.place, close_size w.0 k);
-      }
+  opened_says p cs (Some w) e split close = grind (arith, open_size, close_size)
 
   -- the text after the signs
   bracket_says :
@@ -213,12 +189,9 @@ module _ (start k : ℕ) (a : At) where
       cond_both (eqb c open_bracket) _ _ (Says (group start) a)
       (λ t.
       let first = eqb-true c open_bracket t in
-      let one = ap len_utf8 first in
-      let split = e ∙ ap (λ n. sign_text k ++ (n ∷ cs)) first ∙ sym (opened k cs) in
-      opened_says (a.place + k + len_utf8 c) cs _ (omega (arith, one)) split (close_says k _ cs))
-      (λ t.
-      let place = ap (λ n. parse (expected (codes "(") (a.place + n))) (sym (sign_size k)) in
-      no_bracket k c cs e bare (eqb-false c open_bracket t) place)
+      let split : a.text ≡ open_text k ++ cs = grind (arith, opened k cs) in
+      opened_says (a.place + k + len_utf8 c) cs _ (rw first refl) split (close_says k _ cs))
+      (λ t. no_bracket k c cs e bare (eqb-false c open_bracket t) (rw (sign_size k) refl))
 
 only_no_group : (start : ℕ) (a : At) (f : Fault) → IsNoGroup start a f → group_at start a
     ≡ Err f
@@ -226,13 +199,8 @@ only_no_group start a f (ends k e d) = grind (arith, group_of_signs start k a []
 only_no_group start a f (no_bracket k c rest e bare other d) =
     grind (arith, group_of_signs start k a (c ∷ rest) e bare, ne_eqb, other, d, sign_size k)
 only_no_group start a f (no_end k inner e none d) =
-    grind (
-      arith,
-      group_of_signs start k a (open_bracket ∷ inner),
-      opened k inner,
-      only_no_close k (a.place + k + 1) inner none,
-      d,
-    )
+    let signs = group_of_signs start k a (open_bracket ∷ inner) in
+    grind (arith, signs, opened k inner, only_no_close k (a.place + k + 1) inner none, d)
 
 pub agrees_group : (start : ℕ) → Agrees (group_at start) (group start)
 agrees_group start = record {
@@ -248,5 +216,4 @@ agrees_group start = record {
 
 -- no two groups begin at one place
 pub one_group : (a q r : At) (g h : Group) → IsGroup a g q → IsGroup a h r → (g ≡ h) × (q ≡ r)
-one_group a q r g h is other =
-    grind (arith, only_group 0 a g q is, only_group 0 a h r other)
+one_group a q r g h is other = grind (arith, only_group 0 a g q is, only_group 0 a h r other)

@@ -71,16 +71,8 @@ module _ (limit : ℕ) (overflow : NumberError) where
   spelled_after front [] d h = grind (arith, append-nil)
   spelled_after front (c ∷ cs) d h =
       let digits = All-append Digit front (c ∷ []) d in
-      grind (
-        arith,
-        at_once,
-        digits,
-        All-cons,
-        All-nil,
-        append_assoc front (c ∷ []) cs,
-        value_last front c,
-        spelled_after (front ++ (c ∷ [])) cs,
-      )
+      let more = spelled_after (front ++ (c ∷ [])) cs in
+      grind (arith, at_once, digits, All-cons, All-nil, append_assoc front, value_last front, more)
     where
       at_once : {kind : NumberError} → IsStop limit overflow front c kind
           → IsStopped limit overflow (front ++ (c ∷ cs)) kind

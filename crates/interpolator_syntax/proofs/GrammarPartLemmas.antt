@@ -2,7 +2,7 @@
 use Rattle.std.proofs.Common.{◌≡◌, ◌≢◌, ℕ, ◌+◌, List, [], ◌∷◌, arith, refl, sym, subst, Result, Ok}
 use Rattle.std.proofs.Common.{Err, Option, Some, None, eqb-true}
 use Rattle.std.specs.Char.{len_utf8}
-use Rattle.interpolator_syntax.specs.At.{At, size, first, strip, strip_of, after}
+use Rattle.interpolator_syntax.specs.At.{At, size, first, strip, after}
 use Rattle.interpolator_syntax.specs.Classes.{front_of, in_class}
 use Rattle.interpolator_syntax.specs.Readers.{Reader, ◌>>=◌ as ◌>>>◌, give, letter as read_letter}
 use Rattle.interpolator_syntax.specs.Readers.{flag as read_flag, run_before, run as read_run}
@@ -87,11 +87,8 @@ abbrev pub Stripped : (c : ℕ) (a : At) → Option At → Type 0
 Stripped c a (Some q) = Lies a (c ∷ []) q
 Stripped c a None = NotFirst c a.text
 
-stripped_at : (c p : ℕ) (cs : List ℕ) → Stripped c (from_place p cs) (strip_of c p cs)
-stripped_at c p cs = grind (arith, eqb-true)
-
 pub stripped : (c : ℕ) (a : At) → Stripped c a (strip c a)
-stripped c a = stripped_at c a.place a.text
+stripped c a = grind (arith, eqb-true)
 
 pub strip_lies : (c : ℕ) (a q : At) → Lies a (c ∷ []) q → strip c a ≡ Some q
 strip_lies c a q h = grind (arith, h.split, past_end a c q h)

@@ -116,12 +116,7 @@ reached_bracket k a h b r g e =
 pub reached_past : (k : ℕ) (a h b r : At) → Reached k a h → next_close h ≡ Some (b, r)
     → after_hashes k r.place r.text ≡ None → Reached k a r
 reached_past k a h b r g e none =
-    let n = next_is h b r e in
-    let there = reached_bracket k a h b r g e in record {
-      front = there.front ++ (close_bracket ∷ []);
-      split = rw (append_assoc, ← n.bracket.text) there.split;
-      closes = rw (← one_more) (rw (n.bracket.closes k, none) at there.closes);
-    }
+    grind (arith, next_is h b r e, reached_bracket k a h b r g e, append_assoc, one_more)
 
 -- the text closes there, if the signs are there
 pub reached_close :

@@ -57,13 +57,7 @@ no_longer n a b t = omega (arith, takes_shorter a b t)
 module _ (m n : ℕ) (a b : At) (t : Takes a b) (far : n + length b.text ≤ m + length a.text) where
   group_grows : (o : Option Group) → GroupAfter m o b → GroupAfter n o a
   group_grows None h = tt
-  group_grows (Some g) h = record {
-    opens = h.opens;
-    closed = h.closed;
-    is = h.is;
-    takes = takes_then a b h.opens t h.takes;
-    far = omega (arith, h.far, far);
-  }
+  group_grows (Some g) h = grind (arith, takes_then)
 
   pub kind_grows : (k : Kind) → KindAfter m k b → KindAfter n k a
   kind_grows k h = grind (arith, group_grows)

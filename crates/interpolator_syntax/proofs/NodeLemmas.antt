@@ -1,19 +1,16 @@
 -- The pieces of a text: the first, and then those of the text after it.
 use Rattle.std.proofs.Common.{◌≡◌, ℕ, zero, suc, ◌<◌, ◌≤◌, List, [], ◌∷◌, length, arith, refl, ap}
-use Rattle.std.proofs.Common.{◌∙◌, sym, Option, Some, None, Ok, Err}
-use Rattle.interpolator_syntax.specs.At.{At, strip}
-use Rattle.interpolator_syntax.specs.Arguments.{Argument, argument_at}
-use Rattle.interpolator_syntax.specs.Classes.{close_brace}
+use Rattle.std.proofs.Common.{◌∙◌, sym, Option, Some, None}
+use Rattle.interpolator_syntax.specs.At.{At}
+use Rattle.interpolator_syntax.specs.Arguments.{Argument}
 use Rattle.interpolator_syntax.specs.Faults.{Fault}
-use Rattle.interpolator_syntax.specs.Groups.{Group}
 use Rattle.interpolator_syntax.specs.Pieces.{PieceKind, closed, unclosed, broken, argument_from}
-use Rattle.interpolator_syntax.specs.Pieces.{argument_or_broken, argument_step}
 use Rattle.interpolator_syntax.specs.SpecTexts.{Kind}
 use Rattle.interpolator_syntax.specs.Tokens.{Token, first_token, past_token, argument}
-use Rattle.interpolator_syntax.specs.Nodes.{Node, group_branch, argument_node, nodes, piece_node}
-use Rattle.interpolator_syntax.specs.Nodes.{token_node, leading_nodes, nodes_within}
+use Rattle.interpolator_syntax.specs.Nodes.{Node, argument_node, nodes, piece_node, token_node}
+use Rattle.interpolator_syntax.specs.Nodes.{leading_nodes, nodes_within}
 use Rattle.interpolator_syntax.proofs.TokenLemmas.{token_shorter, scan_shorter}
-use Rattle.interpolator_syntax.proofs.SizeLemmas.{GroupIfIn, KindIn, argument_in}
+use Rattle.interpolator_syntax.proofs.SizeLemmas.{KindIn, argument_in}
 use Rattle.interpolator_syntax.specs.declared.piece_kind.PieceKind as told
 
 -- ---- induction by length
@@ -40,30 +37,16 @@ ArgumentKind P b =
 pub argument_kind : (P : PieceKind → Type 0) (b : At) → ArgumentKind P b
     → P (argument_from b.place b).piece.kind
 unfolding argument_from
-argument_kind P b h =
-    elim (argument_at b) as (λ r. argument_at b ≡ r
-    → P (argument_or_broken b.place b r).piece.kind) [
-      | Ok w ↦ λ e. by_strip w.0 w.1 (strip close_brace w.1) (argument_in b w.0 w.1 e)
-      | Err f ↦ λ e. h.1 f
-    ] refl
-  where
-    by_strip : (x : Argument) (q : At) (o : Option At) → KindIn x.kind b
-        → P (argument_step b.place b x q o).piece.kind
-    by_strip x q None k = (h.0 b.place x q.place k).1
-    by_strip x q (Some rest) k = (h.0 b.place x q.place k).0
+argument_kind P b h = grind (arith, argument_in)
 
 -- ---- the pieces do not depend on how many characters are allowed
 
 module _ (a : At) (run other : At → List Node)
     (same : (b : At) → length b.text < length a.text → run b ≡ other b) where
-  group_same : (b : At) (o : Option Group) → length b.text < length a.text → GroupIfIn o b
-      → group_branch run o ≡ group_branch other o
-  group_same b o l h = grind (arith, same)
-
   argument_same : (b : At) (p end : ℕ) (kind : told.PieceKind) (start : ℕ) (x : Argument) (q : ℕ)
       → length b.text < length a.text → (k : Kind) → x.kind ≡ k → KindIn k b
       → argument_node run p end kind start x q ≡ argument_node other p end kind start x q
-  argument_same b p end kind start x q l k e h = grind (arith, group_same)
+  argument_same b p end kind start x q l k e h = grind arith
 
   token_same : (p : ℕ) (t : Token) (b : At) → length b.text < length a.text
       → token_node run p t b ≡ token_node other p t b

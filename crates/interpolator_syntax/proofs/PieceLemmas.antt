@@ -28,8 +28,7 @@ strip_after c p cs r e = grind (arith, eqb-true)
 -- a character that is no brace is a literal
 pub literal_step : (p c : ℕ) (b : At) → is_brace c ≡ false
     → piece_from p c b ≡ step p (c ∷ []) (literal c) b
-literal_step p c b h =
-    grind (arith, h)
+literal_step p c b h = grind arith
 
 argument_or_broken_within :
     (p : ℕ) (b : At) (r : Result (Argument × At) Fault) → argument_at b ≡ r

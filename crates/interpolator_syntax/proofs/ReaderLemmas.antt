@@ -1,7 +1,7 @@
 -- The reader of an argument is local: what it takes, where its faults lie, and what it returns
 -- elsewhere.
-use Rattle.std.proofs.Common.{◌≡◌, ℕ, ◌+◌, ◌≤◌, List, [], arith, refl, ap, ◌∙◌, sym, Result, Ok}
-use Rattle.std.proofs.Common.{Err, None, inl, append-nil}
+use Rattle.std.proofs.Common.{◌≡◌, ℕ, ◌+◌, ◌≤◌, List, [], arith, refl, Result, Ok, Err, None}
+use Rattle.std.proofs.Common.{append-nil}
 use Rattle.interpolator_syntax.specs.At.{At, size, strip}
 use Rattle.interpolator_syntax.specs.Classes.{close_brace, colon}
 use Rattle.interpolator_syntax.specs.Readers.{Reader, ◌>>=◌, give, here, span}
@@ -12,8 +12,6 @@ use Rattle.interpolator_syntax.specs.ArgumentFaults.{IsArgumentFault}
 use Rattle.interpolator_syntax.specs.Faults.{Fault, fault_place}
 use Rattle.interpolator_syntax.specs.Moved.{moved_at, moved_fault, moved_argument}
 use Rattle.interpolator_syntax.specs.declared.class.Class.TheVariants.{WhiteSpace, Name}
-use Rattle.interpolator_syntax.proofs.GrammarLemmas.{same_ok}
-use Rattle.interpolator_syntax.proofs.GrammarPartLemmas.{ok_pair}
 use Rattle.interpolator_syntax.proofs.GrammarSpecLemmas.{moved_request, law_spec}
 use Rattle.interpolator_syntax.proofs.LocalLemmas.{Setting, elsewhere, IsLocalValue, IsLocalFault}
 use Rattle.interpolator_syntax.proofs.LocalLemmas.{Reads, local_stay, local_strip, local_on}
@@ -111,8 +109,4 @@ moves_argument by a =
 pub argument_same :
     (a : At) (more : List ℕ) (x : Argument) (q : At) → argument_at a ≡ Ok (x, q) → Guarded q.text
     → argument_at (with_more a more) ≡ Ok (x, with_more q more)
-argument_same a more x q e guard =
-    let here = at_same {p = a.place} {q = a.place + 0} {cs = a.text} (omega arith) refl in
-    let alike = sym e ∙ ap argument_at here ∙ moves_argument 0 a ∙ ap (moved_read 0) e in
-    ap argument_at (at_same (omega arith) refl) ∙ (read_argument 0 more a x q e).1 (inl guard)
-    ∙ ok_pair (sym (same_ok alike).0) (at_same (omega arith) refl)
+argument_same a more x q e guard = grind (arith, moves_argument 0 a, read_argument 0 more a x q e)

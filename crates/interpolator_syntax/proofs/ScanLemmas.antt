@@ -51,9 +51,7 @@ at_end p cs = grind arith
 
 run_of : (p c : ℕ) (cs : List ℕ) (t : Bool) → is_brace c ≡ t → IsRun (p + len_utf8 c) cs
     → IsRun p (c ∷ cs)
-run_of p c cs t h k =
-    let one = literal_step p c (past p c cs) in
-    grind (arith, h, at_end p (c ∷ cs), pieces_next p c cs, one, k, at_same)
+run_of p c cs t h k = grind (arith, literal_step, at_end, pieces_next, at_same)
 
 run_is : (p : ℕ) (cs : List ℕ) → IsRun p cs
 run_is p [] = at_end p []
@@ -66,9 +64,7 @@ Hands a o = pieces a ≡ of_scan a.place o
 
 hands_at : (p : ℕ) (cs : List ℕ) → Hands (stands p cs) (first_token (stands p cs))
 unfolding first_token
-hands_at p [] = pieces_none p
-hands_at p (c ∷ cs) =
-    grind (arith, eqb-true, pieces_next p c cs, scans_open p, scans_close p, run_is p (c ∷ cs))
+hands_at p cs = grind (arith, pieces_none, eqb-true, pieces_next, scans_open, scans_close, run_is)
 
 pub hands_on : (a : At) (x : Token) (b : At) → first_token a ≡ Some (x, b)
     → pieces a ≡ token_pieces a.place x b ++ pieces (past_token x b)

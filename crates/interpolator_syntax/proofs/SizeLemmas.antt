@@ -90,13 +90,10 @@ PiecesIn (x ∷ xs) a = PieceIn x.kind a × (x.place ≤ a.place + size a.text) 
 argument_lies : (a b : At) (x : Argument) (q : At) → Takes a b → argument_at b ≡ Ok (x, q)
     → ArgumentIn b.place x q.place a
 argument_lies a b x q t e =
-    grind (
-      arith,
-      takes_reaches _ a b t refl,
-      takes_reaches _ b q (argument_takes b x q e) refl,
-      kind_in 2 x.kind a
-          (kind_grows 2 2 a b t (no_longer 2 a b t) x.kind (argument_after b x q e)),
-    )
+    let kind = kind_grows 2 2 a b t (no_longer 2 a b t) x.kind (argument_after b x q e) in
+    let there = takes_reaches _ a b t refl in
+    let ends = takes_reaches _ b q (argument_takes b x q e) refl in
+    grind (arith, there, ends, kind_in 2 x.kind a kind)
 
 module _ (a b : At) (t : Takes a b) where
   -- the text after a brace

@@ -8,11 +8,10 @@ use Rattle.interpolator_syntax.specs.PieceGrammar.{literal_pieces, token_pieces}
 use Rattle.interpolator_syntax.specs.Classes.{front_of, after_of, in_class}
 use Rattle.interpolator_syntax.specs.Pieces.{Piece, pieces, argument_from}
 use Rattle.interpolator_syntax.specs.Tokens.{Token, literals, argument, first_token, past_token}
-use Rattle.interpolator_syntax.specs.Nodes.{Node, text_node, piece_node, token_node, leading_nodes}
-use Rattle.interpolator_syntax.specs.Nodes.{nodes}
-use Rattle.interpolator_syntax.specs.Splits.{node_alone, nodes_alone, with_literals, with_node}
-use Rattle.interpolator_syntax.specs.Splits.{join_literals, literal_nodes, split_node, split_again}
-use Rattle.interpolator_syntax.specs.Splits.{is_literal, begins_literal, NoTwoLiterals}
+use Rattle.interpolator_syntax.specs.Nodes.{Node, text_node, piece_node, token_node, nodes}
+use Rattle.interpolator_syntax.specs.Splits.{node_alone, nodes_alone, with_node, join_literals}
+use Rattle.interpolator_syntax.specs.Splits.{literal_nodes, split_node, split_again, is_literal}
+use Rattle.interpolator_syntax.specs.Splits.{begins_literal, NoTwoLiterals}
 use Rattle.interpolator_syntax.specs.declared.class.Class.TheVariants as classes
 use Rattle.interpolator_syntax.specs.declared.piece_kind.PieceKind.TheVariants.{Literal}
 use Rattle.interpolator_syntax.proofs.GrammarLemmas.{pieces_joined}
@@ -31,11 +30,6 @@ with_other x xs h = grind (arith, h)
 
 split_other : (x : Node) → is_literal x ≡ false → split_node x ≡ x ∷ []
 split_other x h = grind (arith, h)
-
--- literals in front of nodes, the first of which is not of literals
-before_other : (p end : ℕ) (cs : List ℕ) (xs : List Node) → begins_literal xs ≡ false
-    → with_literals p end cs xs ≡ text_node p end Literal cs ∷ xs
-before_other p end cs xs h = grind (arith, h)
 
 -- the node of an argument, or of a broken one, is not of literals
 argument_other : (p end : ℕ) (b : At)
@@ -76,12 +70,8 @@ token_other : (p : ℕ) (t : Token) (b : At) → is_run t ≡ false
     → is_literal (token_node nodes p t b) ≡ false
 token_other p t b h = grind (arith, argument_other, h)
 
-leads_other : (p : ℕ) (o : Option (Token × At)) → begins_run o ≡ false
-    → begins_literal (leading_nodes nodes p o) ≡ false
-leads_other p o h = grind (arith, token_other p)
-
 next_other : (b : At) → begins_run (first_token b) ≡ false → begins_literal (nodes b) ≡ false
-next_other b h = grind (arith, nodes_lead b, leads_other, h)
+next_other b h = grind (arith, nodes_lead, token_other)
 
 neighbour_other : (a b : At) (t : Token) → first_token a ≡ Some (t, b)
     → (is_literal (token_node nodes a.place t b) && begins_literal (nodes (past_token t b))) ≡ false
@@ -145,7 +135,7 @@ token_alone a b t h k = grind (arith, piece_ends a b t h _ refl)
 run_merged : (p c : ℕ) (cs : List ℕ) (xs : List Node) → begins_literal (join_literals xs) ≡ false
     → join_literals (literal_nodes p (c ∷ cs) ++ xs)
     ≡ text_node p (p + size (c ∷ cs)) Literal (c ∷ cs) ∷ join_literals xs
-run_merged p c [] xs h = grind (arith, before_other)
+run_merged p c [] xs h = grind arith
 run_merged p c (d ∷ ds) xs h = grind (arith, run_merged (p + len_utf8 c) d ds xs h)
 
 module _ (a b : At) where
@@ -207,15 +197,7 @@ module _ {M : Type 0} (all : List Node → M)
       → all (nodes (past_token t b)) ≡ all (nodes_alone (past_token t b))
       → all (token_node nodes a.place t b ∷ nodes (past_token t b))
       ≡ all (map node_alone (token_pieces a.place t b) ++ nodes_alone (past_token t b))
-  token_gathers a b (literals cs) h more =
-      grind (
-        arith,
-        literals_alone a.place cs,
-        run a.place b.place cs (nodes b),
-        after_all (literal_nodes a.place cs) _ _ more,
-      )
-  token_gathers a b t h more =
-      grind (arith, next (token_node nodes a.place t b) _ _ more, token_alone a b t h refl)
+  token_gathers a b t h more = grind (arith, literals_alone, after_all, token_alone)
 
   -- what is gathered from the nodes of a text is what is gathered from its pieces
   pub gathered_alone : (a : At) → all (nodes a) ≡ all (nodes_alone a)

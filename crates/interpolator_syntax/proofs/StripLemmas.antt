@@ -16,8 +16,7 @@ strip_here wanted p bs rest low u e =
 
 strip_other_at : (wanted p : ℕ) (bs cs : List ℕ) → wanted < 128 → NotFirst wanted bs
     → encode_utf8_all cs ≡ bs → strip_of wanted p cs ≡ None
-strip_other_at wanted p bs cs low h e =
-    grind (arith, encode_ascii wanted low, eqb-true, h, e)
+strip_other_at wanted p bs cs low h e = grind (arith, encode_ascii, eqb-true)
 
 pub strip_other : (wanted p : ℕ) (bs : List ℕ) → wanted < 128 → IsUtf8 bs → NotFirst wanted bs
     → strip_of wanted p (chars bs) ≡ None
@@ -37,8 +36,7 @@ pub literals_scanned : (p : ℕ) (bs cs : List ℕ) (r : At) → 0 < length bs �
     → r ≡ after (in_class Literal) (record { place = p; text = chars bs })
     → Some (literals cs, r) ≡ first_token (record { place = p; text = chars bs })
 unfolding first_token
-literals_scanned p bs cs r n u h k f b =
-    grind (arith, n, h, k, f, b, encodes-chars bs u)
+literals_scanned p bs cs r n u h k f b = grind (arith, encodes-chars bs u)
 
 -- a text of one byte
 pub one_char : (bs cs : List ℕ) → cs ≡ bs → length cs ≡ 1 → get_or cs 0 0 < 128 → IsUtf8 bs

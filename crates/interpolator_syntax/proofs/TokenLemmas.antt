@@ -1,5 +1,5 @@
 -- The text after a token is shorter than the text.
-use Rattle.std.proofs.Common.{◌≡◌, ℕ, ◌<◌, ◌≤◌, List, length, arith, Some}
+use Rattle.std.proofs.Common.{◌≡◌, ℕ, ◌<◌, List, length, arith, Some}
 use Rattle.interpolator_syntax.specs.At.{At}
 use Rattle.interpolator_syntax.specs.Classes.{in_class}
 use Rattle.interpolator_syntax.specs.Tokens.{Token, first_token, past_token}
@@ -17,10 +17,6 @@ pub token_shorter : (a : At) (x : Token × At) → first_token a ≡ Some x
     → length x.1.text < length a.text
 token_shorter a x h = shorter_at a.place a.text x h
 
--- the text after its argument has no more
-past_within : (x : Token) (b : At) → length (past_token x b).text ≤ length b.text
-past_within x b = grind (arith, argument_from_within)
-
 pub scan_shorter : (a rest : At) (x : Token × At) → first_token a ≡ Some x
     → rest ≡ past_token x.0 x.1 → length rest.text < length a.text
-scan_shorter a rest x h r = rw r (omega (arith, token_shorter a x h, past_within x.0 x.1))
+scan_shorter a rest x h r = grind (arith, token_shorter, argument_from_within)

@@ -92,12 +92,10 @@ takes_literals a (c ∷ cs) = record {
 
 takes_no_open : (a : At) (o : Option At) → strip close_brace a ≡ o
     → MayTakeToken a (no_open_scan a o)
-takes_no_open a o e =
-    grind (arith, takes_literals a a.text, strip_after close_brace a.place a.text, takes_close a)
+takes_no_open a o e = grind (arith, takes_literals, strip_after, takes_close)
 
 takes_scan : (a : At) (o : Option At) → strip open_brace a ≡ o → MayTakeToken a (scan_by a o)
-takes_scan a o e =
-    grind (arith, takes_no_open a _ refl, strip_after open_brace a.place a.text, takes_open a)
+takes_scan a o e = grind (arith, takes_no_open, strip_after, takes_open)
 
 pub takes_token : (a : At) (w : Token × At) → first_token a ≡ Some w → TakesToken a w.0 w.1
 unfolding first_token
@@ -108,8 +106,7 @@ takes_token a w e = subst (MayTakeToken a) e (takes_scan a (strip open_brace a) 
 step_taken :
     (p : ℕ) (a : At) (x : Argument) (q : At) (o : Option At) → Takes a q → strip close_brace q ≡ o
     → Takes a (argument_step p a x q o).rest
-step_taken p a x q o t e =
-    grind (arith, takes_all_after a, strip_after, takes_then a q, one_taken q close_brace)
+step_taken p a x q o t e = grind (arith, takes_all_after, strip_after, takes_then, one_taken)
 
 or_broken_taken :
     (p : ℕ) (a : At) (o : Result (Argument × At) Fault) → argument_at a ≡ o
