@@ -63,8 +63,7 @@ SameFirst test all rest =
 pub drop_before : (test : ℕ → Bool) (k : ℕ) (xs : List ℕ) → k ≤ position_or_len test xs
     → position_or_len test xs ≡ k + position_or_len test (drop k xs)
 drop_before test zero xs h = omega arith
-drop_before test (suc k) [] h = absurd (omega arith)
-drop_before test (suc k) (x ∷ xs) h = grind (arith, drop_before test k xs)
+drop_before test (suc k) xs h = grind (arith, drop_before test k)
 
 take_before : (test : ℕ → Bool) (n : ℕ) (xs : List ℕ)
     → position_or_len test (take n xs) ≤ position_or_len test xs

@@ -32,14 +32,9 @@ module _ (a : At) where
 
   named_is : IsNamed a name_read name_from.place name_end
   named_is =
-      let whole = front_after (in_class Name) name_from.text in
-      record {
-        spaces = front_of (in_class WhiteSpace) a.text;
-        white = rw whole (front_longest (in_class WhiteSpace) a.text);
-        named = rw whole (front_longest (in_class Name) name_from.text);
-        name_place = refl;
-        end_place = refl;
-      }
+      let white = front_longest (in_class WhiteSpace) a.text in
+      let named = front_longest (in_class Name) name_from.text in
+      grind (arith, front_after (in_class Name) name_from.text, white, named)
 
 -- the request after a name, with that name
 abbrev named_so : (start : ℕ) → (name : List ℕ) → (p : ℕ) → (b : At) → Result (Argument × At) Fault

@@ -92,25 +92,19 @@ module _ (limit : ℕ) (overflow : NumberError) where
       → read_from n (cs ++ rest) ≡ read_from (value_from n cs) rest
   read_over n [] rest d h = grind (arith, value_none)
   read_over n (c ∷ cs) rest d h =
-      grind (
-        arith,
-        value_digit n c cs,
-        value_least (with_digit n c) cs,
-        All-head Digit c cs d,
-        read_over (with_digit n c) cs rest (All-tail Digit c cs d),
-      )
+      let least = value_least (with_digit n c) cs in
+      let more = read_over (with_digit n c) cs rest (All-tail Digit c cs d) in
+      grind (arith, value_digit n c cs, least, All-head Digit c cs d, more)
 
   whole_read : (cs rest : List ℕ) → AreDigits cs → decimal_value cs < limit
       → read_from 0 (cs ++ rest) ≡ read_from (decimal_value cs) rest
   whole_read cs rest d h = grind (arith, read_over, value_whole)
 
-  only_number : (cs : List ℕ) (n : ℕ) → IsNumber limit cs n → read_from 0 cs ≡ Ok n
-  only_number cs n h = grind (arith, append-nil, whole_read cs [] h.digits)
-
-  only_none : (d : ℕ) (ds : List ℕ) (kind : NumberError)
-      → IsNoNumber limit overflow (d ∷ ds) kind → read_from 0 (d ∷ ds) ≡ Err kind
-  only_none d ds kind (inl k) = cc
-  only_none d ds kind (inr s) =
+  only : (c : ℕ) (cs : List ℕ) (o : Result ℕ NumberError) → Says (c ∷ cs) o
+      → read_from 0 (c ∷ cs) ≡ o
+  only c cs (Ok n) h = grind (arith, append-nil, whole_read (c ∷ cs) [] h.digits)
+  only c cs (Err kind) (inl k) = cc
+  only c cs (Err kind) (inr s) =
       let read = whole_read s.front (s.c ∷ s.rest) s.digits s.below in
       grind (arith, s.split, read, value_last s.front s.c)
 
@@ -138,17 +132,14 @@ decides_is {spelling = spelling} h text o e = subst (Tells spelling text) e (h.s
 
 -- ---- a number without a sign
 
-natural_says : (text : List ℕ) → Tells naturals text (natural text)
-natural_says text = grind (arith, says)
-
 only_natural : (text : List ℕ) (o : Result ℕ NumberError) → Tells naturals text o
     → natural text ≡ o
-only_natural text (Ok n) h = grind (arith, only_number (2 ^ 64) PosOverflow text n h, h.not_empty)
+only_natural [] (Ok n) h = absurd (h.not_empty refl)
 only_natural [] (Err kind) h = grind (arith, none_empty (2 ^ 64) PosOverflow kind h)
-only_natural (c ∷ cs) (Err kind) h = only_none (2 ^ 64) PosOverflow c cs kind h
+only_natural (c ∷ cs) o h = grind (arith, only (2 ^ 64) PosOverflow c cs o)
 
 pub naturals_decide : Decides natural naturals
-naturals_decide = grind (arith, says, natural_says, only_natural)
+naturals_decide = grind (arith, says, only_natural)
 
 -- ---- an integer
 
@@ -170,12 +161,12 @@ only_positive : (text : List ℕ) (n : ℕ) → IsNumber (2 ^ 63) text n → int
 only_positive [] n h = absurd (h.not_empty refl)
 only_positive (c ∷ cs) n h =
     let digit = All-head Digit c cs h.digits in
-    grind (arith, eqb-true, digit, only_number (2 ^ 63) PosOverflow (c ∷ cs) n h)
+    grind (arith, eqb-true, digit, only (2 ^ 63) PosOverflow c cs (Ok n) h)
 
-only_negative :
-    (after : List ℕ) (n : ℕ) → IsNumber (2 ^ 63 + 1) after n
-    → negative after ≡ Ok (negation n)
-only_negative after n h = grind (arith, only_number (2 ^ 63 + 1) NegOverflow after n h)
+only_negative : (after : List ℕ) (o : Result ℕ NumberError) → after ≢ []
+    → Says (2 ^ 63 + 1) NegOverflow after o → negative after ≡ with_sign negation o
+only_negative [] o some h = absurd (some refl)
+only_negative (d ∷ ds) o some h = ap (with_sign negation) (only (2 ^ 63 + 1) NegOverflow d ds o h)
 
 -- if a text without a sign begins with `-`, the `-` is all of it
 only_lone :
@@ -189,22 +180,16 @@ only_unsigned :
     → IsNoNumber (2 ^ 63) PosOverflow text kind → integer text ≡ Err kind
 only_unsigned [] kind unsigned h = grind (arith, none_empty (2 ^ 63) PosOverflow kind h)
 only_unsigned (c ∷ cs) kind unsigned h =
-    let digits = only_none (2 ^ 63) PosOverflow c cs kind h in
-    grind (arith, digits, only_lone c cs kind)
-
-only_no_negative :
-    (after : List ℕ) (kind : NumberError) → after ≢ []
-    → IsNoNumber (2 ^ 63 + 1) NegOverflow after kind → negative after ≡ Err kind
-only_no_negative [] kind unsigned h = absurd (unsigned refl)
-only_no_negative (d ∷ ds) kind unsigned h =
-    ap (with_sign negation) (only_none (2 ^ 63 + 1) NegOverflow d ds kind h)
+    grind (arith, only (2 ^ 63) PosOverflow c cs (Err kind) h, only_lone c cs kind)
 
 only_integer : (text : List ℕ) (o : Result ℤ NumberError) → Tells integers text o
     → integer text ≡ o
-only_integer text (Ok z) (inl k) = rw (k.2) (only_positive text k.0 k.1)
-only_integer text (Ok z) (inr k) = rw (k.2.split, k.4) (only_negative k.0 k.1 k.3)
+only_integer text (Ok z) (inl k) = rw k.2 (only_positive text k.0 k.1)
+only_integer text (Ok z) (inr k) =
+    rw (k.2.split, k.4) (only_negative k.0 (Ok k.1) k.2.not_empty k.3)
 only_integer text (Err kind) (inl k) = only_unsigned text kind k.0 k.1
-only_integer text (Err kind) (inr k) = rw k.1.split (only_no_negative k.0 kind k.1.not_empty k.2)
+only_integer text (Err kind) (inr k) =
+    rw k.1.split (only_negative k.0 (Err kind) k.1.not_empty k.2)
 
 pub integers_decide : Decides integer integers
 integers_decide = grind (arith, says, integer_says, only_integer)

@@ -1,6 +1,8 @@
 -- Parts that may be absent, and numbers: the laws of their readers.
-use Rattle.std.proofs.Common.{◌≡◌, ℕ, ◌+◌, Bool, cond, List, arith, refl, ◌∙◌, sym, Result, Ok, Err}
-use Rattle.std.proofs.Common.{Option, Some, None}
+use Rattle.interpolator_syntax.proofs.LocalLemmas.{nothing_more, Setting, stays, elsewhere, IsLocal}
+use Rattle.interpolator_syntax.proofs.LocalLemmas.{IsSettled, local_stay, local_strip, local_on}
+use Rattle.std.proofs.Common.{◌≡◌, ℕ, ◌+◌, Bool, cond, List, arith, refl, Result, Ok, Err, Option}
+use Rattle.std.proofs.Common.{Some, None}
 use Rattle.std.specs.Char.{is_ascii_digit}
 use Rattle.std.proofs.lemmas.Bool.{cond_both}
 use Rattle.interpolator_syntax.specs.At.{At, first, strip}
@@ -26,9 +28,6 @@ use Rattle.interpolator_syntax.proofs.GrammarNumberLemmas.{integers_decide}
 use Rattle.interpolator_syntax.proofs.GrammarPartLemmas.{ok_pair, Says, Agrees, agrees_then}
 use Rattle.interpolator_syntax.proofs.GrammarPartLemmas.{agrees_same, agrees_placed, agrees_run}
 use Rattle.interpolator_syntax.proofs.GrammarPartLemmas.{stripped, strip_lies, strip_not}
-use Rattle.interpolator_syntax.proofs.LocalLemmas.{Setting, stays, elsewhere, IsSettled, IsLocal}
-use Rattle.interpolator_syntax.proofs.LocalLemmas.{local_stay, local_through, local_either}
-use Rattle.interpolator_syntax.proofs.LocalLemmas.{local_first, local_strip, local_on}
 use Rattle.interpolator_syntax.proofs.LocalityLemmas.{Takes, takes_none}
 use Rattle.interpolator_syntax.proofs.SimpleReaderLemmas.{reads_run, Law, law_same}
 
@@ -52,19 +51,9 @@ pub law_where :
     → Law s move read other part
     → Law s move (λ a. if_passes passes read a (first a)) (λ a. if_passes passes other a (first a))
     (where_first passes part)
-law_where {s} {A} {move} passes {read} {other} {part} none law = record {
-  agrees = agrees_where_first passes read part law.agrees;
-  reads = record {
-    is_local = λ a.
-        let b = elsewhere s a in
-        let absent : IsLocal s move a (Ok (None, a)) (Ok (None, b)) =
-        (takes_none a, λ settled. ok_pair (sym none) refl) in
-        local_first s move a.place a.text (if_passes passes read a) (if_passes passes other b)
-        absent
-        (λ c rest t.
-        local_either s move a (passes c) (read a) (other b) _ _ (law.reads.is_local a) absent);
-  };
-}
+law_where {s} passes {part = part} none law =
+    let agrees = agrees_where_first passes _ part law.agrees in
+    grind (arith, agrees, law.reads.is_local, takes_none, nothing_more s)
 
 -- ---- after a point
 
@@ -128,15 +117,8 @@ module _
               agrees_placed (λ p.
               agrees_then (agrees_run Number s.start) (λ cs.
               agrees_same (same p (read cs)) (agrees_spelled p cs)));
-          reads = record {
-            is_local = λ a.
-                let digits = reads_run s (in_class Number) in
-                local_through s stays stays a _ _ (λ cs. tell a.place (read cs))
-                (λ cs. tell (a.place + s.by) (read cs)) (digits.is_local a)
-                (λ cs b l t e. rw (same a.place (read cs) b)
-                (local_told a b l (read cs) t
-                (λ settled. e settled ∙ same (a.place + s.by) (read cs) (elsewhere s b))));
-          };
+          reads =
+              let digits = reads_run s (in_class Number) in grind (arith, digits, same, local_told);
         }
 
 -- ---- widths, precisions and bounds

@@ -134,16 +134,9 @@ are_pieces most p [] h = rw (pieces_none p) refl
 are_pieces zero p (c ∷ cs) h = absurd (omega arith)
 are_pieces (suc most) p (c ∷ cs) h =
     let s = piece_from p c (past p c cs) in
-    let first = step_first p c cs in
     let shorter = piece_within p c (past p c cs) in
-    rw (pieces_next p c cs) (
-      s.rest.text,
-      record {
-        stands = record { place = first.0; split = first.1; fits = first.2 };
-        first = λ y r k. first.3 y.kind r (stands_shown p c cs y r k);
-      },
-      rw (← first.4) (are_pieces most s.rest.place s.rest.text (omega arith)),
-    )
+    let more = are_pieces most s.rest.place s.rest.text in
+    grind (arith, pieces_next p c cs, step_first p c cs, stands_shown p c cs, shorter, more)
 
 -- the pieces that the reader finds are pieces of the text
 pub pieces_are : (a : At) → IsPieces a (pieces a)

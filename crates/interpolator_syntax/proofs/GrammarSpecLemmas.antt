@@ -135,10 +135,9 @@ module _ (s : Setting) where
   local_spec p (c ∷ []) = grind (arith, takes_none, one_left c)
   local_spec p (c ∷ d ∷ ds) =
       let a = stands p (c ∷ d ∷ ds) in
-      local_either s (moved_request s.by) a (eqb c close_brace) _ _ _ _
-      (local_stay s (moved_request s.by) a plain_display)
-      (local_then s stays (moved_request s.by) a _ _ (spec_from_alignment s.start)
-      (spec_from_alignment (s.start + s.by)) (local_fill p c d ds)
+      let move = moved_request s.by in
+      local_either s move a (eqb c close_brace) _ _ _ _ (local_stay s move a plain_display)
+      (local_then s stays move a _ _ _ (spec_from_alignment (s.start + s.by)) (local_fill p c d ds)
       (λ filled b t.
       let law = law_from_alignment s filled in law.reads.is_local b))
 

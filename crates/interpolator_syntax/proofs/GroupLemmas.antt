@@ -1,7 +1,7 @@
 -- Where a group closes.
 use Rattle.std.proofs.Common.{◌≡◌, ℕ, suc, ◌+◌, ◌-◌, ◌<◌, ◌≤◌, List, [], ◌∷◌, ◌++◌, length, take}
 use Rattle.std.proofs.Common.{arith, refl, ◌∙◌, Option, Some, None, append_assoc, append-nil}
-use Rattle.std.proofs.Common.{length-append, eqb-true, option_map, chars, IsUtf8, encode_utf8_all}
+use Rattle.std.proofs.Common.{length-append, eqb-true, option_map, chars, IsUtf8}
 use Rattle.std.proofs.lemmas.List.{append_cancel_right}
 use Rattle.std.proofs.lemmas.Str.{encodes-chars, encodes-append, IsUtf8-take, chars-append}
 use Rattle.std.specs.Char.{len_utf8}
@@ -105,8 +105,7 @@ reached_end k a h g e = grind (arith, close_none)
 pub reached_bracket : (k : ℕ) (a h b r : At) → Reached k a h → next_close h ≡ Some (b, r)
     → Reached k a b
 reached_bracket k a h b r g e =
-    let n = next_is h b r e in
-    rw n.is record {
+    let n = next_is h b r e in rw n.is record {
       front = g.front ++ enclosed h.text;
       split = rw (append_assoc, front_after (in_class Enclosed) h.text) g.split;
       closes = grind (arith, front_then, close_past k h.place h.text, g.closes);
@@ -135,7 +134,7 @@ reached_close k a h b r q inner g e signs cut =
 pub rest_of_chars : (text rest front : List ℕ) → IsUtf8 text → IsUtf8 rest → chars text
     ≡ front ++ chars rest → IsRest text rest
 rest_of_chars text rest front u v e =
-    (encode_utf8_all front, grind (arith, encodes-chars, encodes-append front (chars rest)))
+    grind (arith, encodes-chars, encodes-append front (chars rest))
 
 pub rest_short : (text rest : List ℕ) → IsRest text rest → length rest ≤ length text
 rest_short text rest r = grind (arith, length-append)

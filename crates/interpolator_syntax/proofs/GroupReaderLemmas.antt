@@ -1,7 +1,7 @@
 -- The reader of a group is local.
 use Rattle.std.proofs.Common.{◌≡◌, ℕ, zero, suc, ◌+◌, eqb, List, [], ◌∷◌, ◌++◌, length, arith, refl}
 use Rattle.std.proofs.Common.{Some, append_assoc, Option, append-nil}
-use Rattle.interpolator_syntax.specs.At.{At, size}
+use Rattle.interpolator_syntax.specs.At.{At}
 use Rattle.interpolator_syntax.specs.Classes.{open_bracket, close_bracket}
 use Rattle.interpolator_syntax.specs.Groups.{close_from, closed_group, bracket_first, bracket_at}
 use Rattle.interpolator_syntax.specs.Groups.{group_at}
@@ -38,9 +38,7 @@ close_elsewhere :
 close_elsewhere s k p cs w h =
     let rest = sign_text k ++ (w.1.text ++ s.more) in
     let none = none_closes_with k w.0 (sign_text k ++ w.1.text) rest h.first in
-    let there : (p + s.by) + size w.0 + 1 + k ≡ w.1.place + s.by = omega (arith, h.place) in
-    rw h.split (simp append_assoc
-    (rw (only_close k (p + s.by) w.0 (w.1.text ++ s.more) none, there) refl))
+    grind (arith, append_assoc, only_close k (p + s.by) w.0 (w.1.text ++ s.more) none, h)
 
 -- the text up to where it closes is a front of the text
 close_takes :

@@ -1,5 +1,5 @@
 -- Where the groups of an argument begin: in the text, after a `:` and the letter of a list.
-use Rattle.std.proofs.Common.{◌≡◌, ℕ, ◌+◌, ◌≤◌, List, ◌∷◌, [], ◌++◌, length, arith, ap, Bool, ◌||◌}
+use Rattle.std.proofs.Common.{◌≡◌, ℕ, ◌+◌, ◌≤◌, List, ◌∷◌, [], ◌++◌, length, arith, Bool, ◌||◌}
 use Rattle.std.proofs.Common.{length-append, subst, Ok, Option, Some, None, inl, inr, append_assoc}
 use Rattle.std.specs.Prelude.{⊤}
 use Rattle.interpolator_render.specs.declared.view.Trait.{Trait}
@@ -71,12 +71,8 @@ begins_then :
     {s : Setting} {A B : Type 0} {n : ℕ} {kind_of : B → Kind} {move : A → A}
     {read other : Reader A} {part : Part A} {next : A → Part B} → Law s move read other part
     → ((x : A) → Begins n kind_of (next x)) → Begins n kind_of (part >>= next)
-begins_then {n = n} {kind_of = kind_of} law k = record {
-  after = λ a y q h.
-      let t = law_takes law a h.0 h.1 h.2 in
-      kind_grows n n a h.1 t (no_longer n a h.1 t) (kind_of y)
-      ((k h.0).after h.1 y q h.3);
-}
+begins_then {n = n} {kind_of = kind_of} law k =
+    grind (arith, law_takes law, no_longer n, kind_grows n n, k)
 
 lies_takes : (a : At) (cs : List ℕ) (q : At) → Lies a cs q → Takes a q
 lies_takes a cs q h = grind (arith, h)
@@ -89,13 +85,8 @@ module _ (start : ℕ) where
 
   group_after : (a : At) (o : Option Group) (q : At) → (group_there start).is a o q
       → Takes a q × GroupAfter 0 o a
-  group_after a o q (inl h) =
-      let is = h.1.2 in
-      rw (h.1.3.0, h.1.3.1) (
-        law_takes (law_group s) a h.1.0 h.1.1 is,
-        record { opens = a; closed = h.1.1; is = is; takes = takes_none a; far = omega arith },
-      )
-  group_after a o q (inr h) = rw (h.1, h.2) (takes_none a, tt)
+  group_after a o q (inl h) = grind (arith, law_takes (law_group s) a h.1.0 h.1.1 h.1.2, takes_none)
+  group_after a o q (inr h) = grind (arith, takes_none)
 
   list_after : (a : At) (l : ListRequest) (q : At) → IsList start a l q → KindAfter 0 (of_list l) a
   list_after a l q h =
@@ -144,8 +135,8 @@ module _ (start : ℕ) where
       begins_then (law_width s) (λ width.
       begins_then (law_precision s) (λ precision. record {
         after = λ a x q h.
-            let request_in = h.3 in
-            rw request_in.3.0 (shown_after (alternate || zero) a h.0 h.1 request_in.0 request_in.1 h.2 request_in.2);
+            let there = shown_after (alternate || zero) a h.0 h.1 h.3.0 h.3.1 h.2 h.3.2 in
+            rw h.3.3.0 there;
       })))))
 
   fill_takes : (a : At) (x : Option ℕ) (q : At) → fill.is a x q → Takes a q
@@ -168,7 +159,7 @@ module _ (start : ℕ) where
   asks_after a x q (inl h) = rw h.1 tt
   asks_after a x q (inr h) =
       let t = lies_takes a (colon ∷ []) h.0 h.1 in
-      kind_grows 1 2 a h.0 t (omega (arith, ap length h.1.split)) x.kind (spec_after h.0 x q h.2)
+      grind (arith, kind_grows 1 2 a h.0 t, spec_after h.0 x q h.2)
 
 -- the groups of an argument begin after at least two characters
 pub argument_after : (a : At) (x : Argument) (q : At) → argument_at a ≡ Ok (x, q)

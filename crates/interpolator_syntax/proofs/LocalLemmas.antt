@@ -141,8 +141,8 @@ module _ (s : Setting) where
         → IsLocal move a (f (Some b)) (g (Some (elsewhere b))))
         → IsLocal move a (f (strip_of c p cs)) (g (strip_of c (p + s.by) (cs ++ s.more)))
     local_strip_at a c p [] f g settled none some =
-        local_past move a a (f None) (g None) _ (takes_none a)
-        (λ t. rw (nothing_more (settled t)) refl) none
+        let still = local_past move a a (f None) (g None) in
+        grind (arith, still, takes_none a, nothing_more, settled, none)
     local_strip_at a c p (d ∷ ds) f g settled none some =
         rw (step_moved p s.by (len_utf8 d)) (grind (arith, eqb-true, none, some, takes_one p d ds))
 
@@ -182,8 +182,5 @@ pub reads_then :
     {s : Setting} {A B : Type 0} {move : A → A} {next : B → B} {read other : Reader A}
     {g : A → Reader B} (h : A → Reader B) → Reads s move read other
     → ((x : A) → Reads s next (g x) (h (move x))) → Reads s next (read >>= g) (other >>= h)
-reads_then {s} {A} {B} {move} {next} {read} {other} {g} h first then = record {
-  is_local = λ a.
-      local_then s move next a (read a) (other (elsewhere s a)) g h (first.is_local a)
-      (λ x b t. (then x).is_local b);
-}
+reads_then {s} {next = next} h first then =
+    grind (arith, first.is_local, then, local_then s)

@@ -48,12 +48,10 @@ module _ (s : Setting) where
       Reads s (moved_argument s.by) (argument_parts s.start) (argument_parts (s.start + s.by))
   reads_argument =
       let start = s.start + s.by in
-      reads_then {g = λ spaces. here >>= names s.start} (λ spaces. here >>= names start)
-      (reads_span s WhiteSpace) (λ spaces.
-      reads_then {g = names s.start} (names start) (reads_here s) (λ p.
-      reads_then {g = asks s.start p} (asks start (p + s.by)) (reads_span s Name) (λ name.
-      reads_then {g = λ asked. give (argument name p asked)}
-      (λ asked. give (argument name (p + s.by) asked)) reads_asked
+      reads_then (λ spaces. here >>= names start) (reads_span s WhiteSpace) (λ spaces.
+      reads_then (names start) (reads_here s) (λ p.
+      reads_then (asks start (p + s.by)) (reads_span s Name) (λ name.
+      reads_then (λ asked. give (argument name (p + s.by) asked)) reads_asked
       (λ asked. reads_give s (moved_argument s.by) (argument name p asked)))))
 
 -- ---- an argument is local

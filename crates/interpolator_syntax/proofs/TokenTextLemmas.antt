@@ -3,7 +3,7 @@ use Rattle.std.proofs.Common.{◌≡◌, ℕ, ◌+◌, List, [], ◌∷◌, ◌+
 use Rattle.std.proofs.Common.{Some, None, Result, Ok, Err, append-nil}
 use Rattle.std.specs.Char.{len_utf8}
 use Rattle.interpolator_syntax.specs.At.{At, size, strip, all_after}
-use Rattle.interpolator_syntax.specs.Classes.{after_of, in_class, open_brace, close_brace}
+use Rattle.interpolator_syntax.specs.Classes.{in_class, open_brace, close_brace}
 use Rattle.interpolator_syntax.specs.Arguments.{Argument, argument_at}
 use Rattle.interpolator_syntax.specs.Faults.{Fault}
 use Rattle.interpolator_syntax.specs.Pieces.{argument_from, argument_or_broken, argument_step}
@@ -56,12 +56,7 @@ module _ (a b : At) where
   takes_doubled :
       (c : ℕ) (r : At) → len_utf8 c ≡ 1 → a.text ≡ c ∷ b.text → b.place ≡ a.place + len_utf8 c
       → b.text ≡ c ∷ r.text → r.place ≡ b.place + len_utf8 c → TakesToken a (doubled c) r
-  takes_doubled c r one e p f q = record {
-    takes = takes_then a b r (one_taken a c b e p) (one_taken b c r f q);
-    more = b.text;
-    begins = e;
-    size = (one, omega (arith, p, q, one));
-  }
+  takes_doubled c r one e p f q = grind (arith, takes_then a b r, one_taken)
 
   takes_open :
       a.text ≡ open_brace ∷ b.text → b.place ≡ a.place + 1 → (o : Option At)
@@ -82,13 +77,8 @@ module _ (a b : At) where
       takes_doubled close_brace r refl e p s.0 s.1
 
 takes_literals : (a : At) (cs : List ℕ) → MayTakeToken a (literal_scan a cs)
-takes_literals a [] = tt
-takes_literals a (c ∷ cs) = record {
-  takes = takes_after (in_class Literal) a;
-  more = after_of (in_class Literal) a.text;
-  begins = sym (front_after (in_class Literal) a.text);
-  size = refl;
-}
+takes_literals a cs =
+    grind (arith, takes_after (in_class Literal) a, front_after (in_class Literal) a.text)
 
 takes_no_open : (a : At) (o : Option At) → strip close_brace a ≡ o
     → MayTakeToken a (no_open_scan a o)
