@@ -1,8 +1,8 @@
 -- A number is its digits, and the reverse; and why a text is none.
 use Rattle.std.proofs.Common.{rules, ◌≡◌, ℕ, ◌+◌, ◌*◌, ◌^◌, ◌<◌, ◌≤◌, true, false, eqb, IsTrue}
-use Rattle.std.proofs.Common.{List, [], ◌∷◌, ◌++◌, length, arith, refl, ◌≢◌, ap, subst, Result, Ok}
-use Rattle.std.proofs.Common.{Err, inl, inr, eqb-true, append-nil, append_assoc, ℤ, pos}
-use Rattle.std.proofs.Common.{length-append, pow-suc, le-mul_of_pos_right}
+use Rattle.std.proofs.Common.{List, [], ◌∷◌, ◌++◌, length, arith, refl, ◌≢◌, subst, Result, Ok, Err}
+use Rattle.std.proofs.Common.{inl, inr, eqb-true, append-nil, append_assoc, ℤ, pos, length-append}
+use Rattle.std.proofs.Common.{pow-suc, le-mul_of_pos_right}
 use Rattle.std.proofs.lemmas.Grind.{common_steps}
 use Rattle.std.specs.Char.{is_ascii_digit}
 use Rattle.std.proofs.lemmas.Bool.{eqb-false, cond_both}
@@ -165,8 +165,7 @@ only_positive (c ∷ cs) n h =
 
 only_negative : (after : List ℕ) (o : Result ℕ NumberError) → after ≢ []
     → Says (2 ^ 63 + 1) NegOverflow after o → negative after ≡ with_sign negation o
-only_negative [] o some h = absurd (some refl)
-only_negative (d ∷ ds) o some h = ap (with_sign negation) (only (2 ^ 63 + 1) NegOverflow d ds o h)
+only_negative after o some h = grind (arith, only)
 
 -- if a text without a sign begins with `-`, the `-` is all of it
 only_lone :

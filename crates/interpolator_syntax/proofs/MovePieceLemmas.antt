@@ -1,8 +1,8 @@
 -- The pieces of a text at another base.
 use Rattle.std.proofs.Common.{◌≡◌, ℕ, zero, suc, ◌+◌, Bool, cond, List, [], ◌∷◌, length, map, arith}
-use Rattle.std.proofs.Common.{refl, ap, ◌∙◌, Option, Some, None}
+use Rattle.std.proofs.Common.{refl, ap, ◌∙◌}
 use Rattle.std.specs.Char.{len_utf8}
-use Rattle.interpolator_syntax.specs.At.{At, strip_of}
+use Rattle.interpolator_syntax.specs.At.{At}
 use Rattle.interpolator_syntax.specs.Pieces.{Piece, Step, argument_from, piece_from, past}
 use Rattle.interpolator_syntax.specs.Pieces.{pieces_within, pieces}
 use Rattle.interpolator_syntax.specs.Moved.{moved_at, moved_piece}
@@ -15,17 +15,10 @@ module _ (by : ℕ) where
   abbrev moved_step : Step → Step
   moved_step s = record { piece = moved_piece by s.piece; rest = moved_at by s.rest }
 
-  -- a step by the text after the character c, if that is there
-  by_strip :
-      (c p : ℕ) (cs : List ℕ) (f g : Option At → Step) → f None ≡ moved_step (g None)
-      → ((r : At) → f (Some (moved_at by r)) ≡ moved_step (g (Some r)))
-      → f (strip_of c (p + by) cs) ≡ moved_step (g (strip_of c p cs))
-  by_strip c p cs f g none some = grind (arith, step_moved, none, some)
-
   argument_from_moves : (p : ℕ) (b : At)
       → argument_from (p + by) (moved_at by b) ≡ moved_step (argument_from p b)
   unfolding argument_from
-  argument_from_moves p b = grind (arith, moves_argument, by_strip, at_same, step_moved)
+  argument_from_moves p b = grind (arith, moves_argument, step_moved, at_same)
 
   either_step : (t : Bool) (s r u v : Step) → s ≡ moved_step u → r ≡ moved_step v
       → cond t s r ≡ moved_step (cond t u v)

@@ -154,22 +154,12 @@ module _ (a b : At) where
         (takes_token a (literals (c ∷ cs), b) h).size,
       )
 
-  other_one : (t : Token) → first_token a ≡ Some (t, b) → is_run t ≡ false
-      → join_literals (nodes_alone (past_token t b)) ≡ nodes (past_token t b)
-      → join_literals (map node_alone (token_pieces a.place t b) ++ nodes_alone (past_token t b))
-      ≡ token_node nodes a.place t b ∷ nodes (past_token t b)
-  other_one t h k more = grind (arith, token_alone a b t h k, more, with_other, token_other)
-
-  token_one : (t : Token) → first_token a ≡ Some (t, b)
-      → join_literals (nodes_alone (past_token t b)) ≡ nodes (past_token t b)
-      → join_literals (map node_alone (token_pieces a.place t b) ++ nodes_alone (past_token t b))
-      ≡ token_node nodes a.place t b ∷ nodes (past_token t b)
-  token_one t h more = grind (arith, run_one, other_one)
-
 pub literals_as_one : (a : At) → join_literals (nodes_alone a) ≡ nodes a
 literals_as_one =
     by_token _ (λ a e. rw (hands_nothing a e, nodes_none a e) refl)
-    (λ a b t e more. rw (alone_first a b t e, nodes_first a b t e) (token_one a b t e more))
+    (λ a b t e more.
+    rw (alone_first a b t e, nodes_first a b t e)
+    (grind (arith, run_one a b, token_alone a b t e, with_other, token_other, more)))
 
 -- ---- and by themselves again
 
@@ -193,14 +183,10 @@ module _ {M : Type 0} (all : List Node → M)
   after_all [] xs ys h = h
   after_all (z ∷ zs) xs ys h = next z (zs ++ xs) (zs ++ ys) (after_all zs xs ys h)
 
-  token_gathers : (a b : At) (t : Token) → first_token a ≡ Some (t, b)
-      → all (nodes (past_token t b)) ≡ all (nodes_alone (past_token t b))
-      → all (token_node nodes a.place t b ∷ nodes (past_token t b))
-      ≡ all (map node_alone (token_pieces a.place t b) ++ nodes_alone (past_token t b))
-  token_gathers a b t h more = grind (arith, literals_alone, after_all, token_alone)
-
   -- what is gathered from the nodes of a text is what is gathered from its pieces
   pub gathered_alone : (a : At) → all (nodes a) ≡ all (nodes_alone a)
   gathered_alone =
       by_token _ (λ a e. rw (hands_nothing a e, nodes_none a e) refl)
-      (λ a b t e more. rw (alone_first a b t e, nodes_first a b t e) (token_gathers a b t e more))
+      (λ a b t e more.
+      rw (alone_first a b t e, nodes_first a b t e)
+      (grind (arith, literals_alone, after_all, token_alone a b t e, more)))
