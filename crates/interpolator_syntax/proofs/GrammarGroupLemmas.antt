@@ -160,9 +160,6 @@ open_size k = omega (arith, size-append (sign_text k) (open_bracket ∷ []), sig
 pub close_size : (inner : List ℕ) (k : ℕ) → size (inner ++ close_text k) ≡ size inner + 1 + k
 close_size inner k = omega (arith, size-append inner (close_text k), sign_size k)
 
-open_no_hash : open_bracket ≢ hash
-open_no_hash e = cc
-
 only_group : (start : ℕ) (a : At) (g : Group) (q : At) → IsGroup a g q → group_at start a
     ≡ Ok (g, q)
 only_group start a g q h =

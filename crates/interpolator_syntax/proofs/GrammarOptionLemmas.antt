@@ -69,13 +69,6 @@ abbrev told_or : {A : Type 0} → (NumberError → ℕ → ParseFault) → (p : 
 told_or wrong p (Ok n) = λ a. Ok (Some n, a)
 told_or wrong p (Err kind) = λ a. Err (parse (wrong kind p))
 
--- the place of a number's fault is the one that it is made with
-record TellsPlace (wrong : NumberError → ℕ → ParseFault) : Type 0 where
-  is : (kind : NumberError) (p : ℕ) → parse_place (wrong kind p) ≡ p
-  moves :
-      (by : ℕ) (kind : NumberError) (p : ℕ)
-      → wrong kind (p + by) ≡ moved_parse_fault by (wrong kind p)
-
 module _
     {A : Type 0} (wrong : NumberError → ℕ → ParseFault) (read : List ℕ → Result A NumberError)
     (spelling : Spelling A) (h : Decides read spelling) where
@@ -92,34 +85,40 @@ module _
     only_not = λ a f t. rw (h.only cs (Err t.0) t.1, t.2) refl;
   }
 
-  module _ (s : Setting) (tells : TellsPlace wrong) where
-    -- the number of what was read at a up to b, where l is the result elsewhere
-    local_told :
-        (a b : At) (l : Result (Option A × At) Fault) (o : Result A NumberError) → Takes a b
-        → (IsSettled s b.text → l ≡ told_or wrong (a.place + s.by) o (elsewhere s b))
-        → IsLocal s stays a (told_or wrong a.place o b) l
-    local_told a b l o t e = grind arith
+  -- the place of a number's fault is the one that it is made with
+  module _
+      (s : Setting) (place : (kind : NumberError) (p : ℕ) → parse_place (wrong kind p) ≡ p)
+      (moves : (by : ℕ) (kind : NumberError) (p : ℕ)
+      → wrong kind (p + by) ≡ moved_parse_fault by (wrong kind p))
+    where
+      -- the number of what was read at a up to b, where l is the result elsewhere
+      local_told :
+          (a b : At) (l : Result (Option A × At) Fault) (o : Result A NumberError) → Takes a b
+          → (IsSettled s b.text → l ≡ told_or wrong (a.place + s.by) o (elsewhere s b))
+          → IsLocal s stays a (told_or wrong a.place o b) l
+      local_told a b l o t e = grind (arith, place, moves)
 
-    module _
-        (tell : ℕ → Result A NumberError → Reader (Option A))
-        (same : (p : ℕ) (o : Result A NumberError) (a : At) → tell p o a ≡ told_or wrong p o a)
-      where
-        abbrev number_from : (start : ℕ) → Reader (Option A)
-        number_from start =
-            λ a. (read_run (in_class Number) start >>> λ cs. tell a.place (read cs)) a
+      module _
+          (tell : ℕ → Result A NumberError → Reader (Option A))
+          (same : (p : ℕ) (o : Result A NumberError) (a : At) → tell p o a ≡ told_or wrong p o a)
+        where
+          abbrev number_from : (start : ℕ) → Reader (Option A)
+          number_from start =
+              λ a. (read_run (in_class Number) start >>> λ cs. tell a.place (read cs)) a
 
-        -- a run of digits and `-`, and what it spells, with its place
-        law_number :
-            Law s stays (number_from s.start) (number_from (s.start + s.by))
-            (number spelling wrong s.start)
-        law_number = record {
-          agrees =
-              agrees_placed (λ p.
-              agrees_then (agrees_run Number s.start) (λ cs.
-              agrees_same (same p (read cs)) (agrees_spelled p cs)));
-          reads =
-              let digits = reads_run s (in_class Number) in grind (arith, digits, same, local_told);
-        }
+          -- a run of digits and `-`, and what it spells, with its place
+          law_number :
+              Law s stays (number_from s.start) (number_from (s.start + s.by))
+              (number spelling wrong s.start)
+          law_number = record {
+            agrees =
+                agrees_placed (λ p.
+                agrees_then (agrees_run Number s.start) (λ cs.
+                agrees_same (same p (read cs)) (agrees_spelled p cs)));
+            reads =
+                let digits = reads_run s (in_class Number) in
+                grind (arith, digits, same, local_told);
+          }
 
 -- ---- widths, precisions and bounds
 
@@ -128,25 +127,22 @@ module _ (s : Setting) where
   law_width =
       law_same (λ a. grind arith) (λ a. grind arith)
       (law_where is_ascii_digit refl
-      (law_number invalid_width natural naturals naturals_decide s
-      (record { is = λ kind p. refl; moves = λ by kind p. refl })
-      (number_or invalid_width) (λ p o a. grind arith)))
+      (law_number invalid_width natural naturals naturals_decide s (λ kind p. refl)
+      (λ by kind p. refl) (number_or invalid_width) (λ p o a. grind arith)))
 
   pub law_bound : Law s stays (bound_if s.start) (bound_if (s.start + s.by)) (bound s.start)
   law_bound =
       law_same (λ a. grind arith) (λ a. grind arith)
       (law_where (in_class Number) refl
-      (law_number range_bound integer integers integers_decide s
-      (record { is = λ kind p. refl; moves = λ by kind p. refl })
-      bound_or (λ p o a. grind arith)))
+      (law_number range_bound integer integers integers_decide s (λ kind p. refl)
+      (λ by kind p. refl) bound_or (λ p o a. grind arith)))
 
   pub law_precision :
       Law s stays (precision_at s.start) (precision_at (s.start + s.by)) (precision s.start)
   law_precision =
       let number =
-      law_number invalid_precision natural naturals naturals_decide s
-      (record { is = λ kind p. refl; moves = λ by kind p. refl })
-      (number_or invalid_precision) (λ p o a. grind arith) in
+      law_number invalid_precision natural naturals naturals_decide s (λ kind p. refl)
+      (λ by kind p. refl) (number_or invalid_precision) (λ p o a. grind arith) in
       record {
         agrees = agrees_if_point _ _ number.agrees;
         reads = record {

@@ -1,6 +1,6 @@
 -- Readers that agree with parts of a text, and how they are chained.
-use Rattle.std.proofs.Common.{◌≡◌, ◌≢◌, ℕ, ◌+◌, List, [], ◌∷◌, arith, refl, sym, subst, Result, Ok}
-use Rattle.std.proofs.Common.{Err, Option, Some, None, eqb-true}
+use Rattle.std.proofs.Common.{◌≡◌, ℕ, ◌+◌, List, [], ◌∷◌, arith, refl, sym, subst, Result, Ok, Err}
+use Rattle.std.proofs.Common.{Option, Some, None, eqb-true}
 use Rattle.std.specs.Char.{len_utf8}
 use Rattle.interpolator_syntax.specs.At.{At, size, first, strip, after}
 use Rattle.interpolator_syntax.specs.Classes.{front_of, in_class}
@@ -117,11 +117,6 @@ run_says :
     → IsRun class a cs (from_place p ds)
     → Says (run class start) a (run_before start cs (from_place p ds) ds)
 run_says class start a cs p ds h = grind arith
-
-more_after :
-    (start : ℕ) (cs : List ℕ) (p : ℕ) (ds : List ℕ) → ds ≢ []
-    → run_before start cs (from_place p ds) ds ≡ Ok (cs, from_place p ds)
-more_after start cs p ds h = grind (arith, h)
 
 pub agrees_run : (class : Class) (start : ℕ)
     → Agrees (read_run (in_class class) start) (run class start)

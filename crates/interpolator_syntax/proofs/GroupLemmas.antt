@@ -70,16 +70,12 @@ close_none k a e =
     let longest = front_longest (in_class Enclosed) a.text in
     grind (arith, close_past k a.place a.text, none_after, longest)
 
--- a bracket at b, followed by r
-pub record Bracket (b r : At) : Type 0 where
+-- the next bracket in the text at h is at b, followed by r
+pub record Next (h b r : At) : Type 0 where
+  pub is : b ≡ after (in_class Enclosed) h
   pub text : b.text ≡ close_bracket ∷ r.text
   pub closes : (k : ℕ) → close_from k b.place b.text
       ≡ here_or_later close_bracket (after_hashes k r.place r.text) (close_from k r.place r.text)
-
--- the next bracket in the text at h
-pub record Next (h b r : At) : Type 0 where
-  pub is : b ≡ after (in_class Enclosed) h
-  pub bracket : Bracket b r
 
 pub next_is : (h b r : At) → next_close h ≡ Some (b, r) → Next h b r
 next_is h b r e = grind (arith, none_some, eqb-true, some_same)
@@ -126,7 +122,7 @@ reached_close k a h b r q inner g e signs cut =
     let n = next_is h b r e in
     let there = reached_bracket k a h b r g e in
     let same = append_cancel_right inner there.front b.text (cut ∙ there.split) in
-    grind (arith, same, there.closes, n.bracket.closes k, signs, append-nil there.front)
+    grind (arith, same, there.closes, n.closes k, signs, append-nil there.front)
 
 -- ---- a text in front of a rest of it
 

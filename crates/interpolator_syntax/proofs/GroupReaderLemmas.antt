@@ -63,13 +63,11 @@ module _ (s : Setting) where
     is_local = λ a.
         let move = moved_group s.by in
         local_first s move a.place a.text (bracket_first s.start k a)
-        (bracket_first (s.start + s.by) k (elsewhere s a))
-        (tt, λ from. omega arith, λ from. omega arith, λ none. refl)
+        (bracket_first (s.start + s.by) k (elsewhere s a)) (grind arith)
         (λ c rest t.
         local_either s move a (eqb c open_bracket) _ _ _ _
         (local_past s move a rest _ _ _ t (λ settled. refl)
-        (local_close k rest _ (close_says k rest.place rest.text)))
-        (tt, λ from. omega arith, λ from. omega arith, λ none. refl));
+        (local_close k rest _ (close_says k rest.place rest.text))) (grind arith));
   }
 
   pub reads_group : Reads s (moved_group s.by) (group_at s.start) (group_at (s.start + s.by))

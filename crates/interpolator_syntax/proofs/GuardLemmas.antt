@@ -91,14 +91,13 @@ module _ (start : ℕ) where
   list_after : (a : At) (l : ListRequest) (q : At) → IsList start a l q → KindAfter 0 (of_list l) a
   list_after a l q h =
       let item = h.3 in
-      let join = item.3 in
       let t = law_takes (law_range s) a h.0 h.1 h.2 in
       let first = group_after h.1 item.0 item.1 item.2 in
       let u = takes_then a h.1 item.1 t first.0 in
-      let second = group_after item.1 join.0 join.1 join.2 in
-      rw join.3.0 (
+      let second = group_after item.1 item.3.0 item.3.1 item.3.2 in
+      rw item.3.3.0 (
         group_grows 0 0 a h.1 t (no_longer 0 a h.1 t) item.0 first.1,
-        group_grows 0 0 a item.1 u (no_longer 0 a item.1 u) join.0 second.1,
+        group_grows 0 0 a item.1 u (no_longer 0 a item.1 u) item.3.0 second.1,
       )
 
   -- ---- specs

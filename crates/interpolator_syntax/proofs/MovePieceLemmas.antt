@@ -1,10 +1,10 @@
 -- The pieces of a text at another base.
-use Rattle.std.proofs.Common.{◌≡◌, ℕ, zero, suc, ◌+◌, Bool, cond, List, [], ◌∷◌, length, map, arith}
-use Rattle.std.proofs.Common.{refl, ap, ◌∙◌}
+use Rattle.std.proofs.Common.{◌≡◌, ℕ, zero, suc, ◌+◌, List, [], ◌∷◌, length, map, arith, refl, ap}
+use Rattle.std.proofs.Common.{◌∙◌}
 use Rattle.std.specs.Char.{len_utf8}
 use Rattle.interpolator_syntax.specs.At.{At}
-use Rattle.interpolator_syntax.specs.Pieces.{Piece, Step, argument_from, piece_from, past}
-use Rattle.interpolator_syntax.specs.Pieces.{pieces_within, pieces}
+use Rattle.interpolator_syntax.specs.Pieces.{Step, argument_from, piece_from, past, pieces_within}
+use Rattle.interpolator_syntax.specs.Pieces.{pieces}
 use Rattle.interpolator_syntax.specs.Moved.{moved_at, moved_piece}
 use Rattle.interpolator_syntax.proofs.LongestLemmas.{at_same}
 use Rattle.interpolator_syntax.proofs.LocalLemmas.{step_moved}
@@ -20,25 +20,15 @@ module _ (by : ℕ) where
   unfolding argument_from
   argument_from_moves p b = grind (arith, moves_argument, step_moved, at_same)
 
-  either_step : (t : Bool) (s r u v : Step) → s ≡ moved_step u → r ≡ moved_step v
-      → cond t s r ≡ moved_step (cond t u v)
-  either_step t s r u v h k = grind (arith, h, k)
-
   piece_from_moves : (p c : ℕ) (b : At)
       → piece_from (p + by) c (moved_at by b) ≡ moved_step (piece_from p c b)
   piece_from_moves p c b = grind (arith, argument_from_moves p b)
 
-  past_moves : (p c : ℕ) (cs : List ℕ) → past (p + by) c cs ≡ moved_at by (past p c cs)
-  past_moves p c cs = at_same (step_moved p by (len_utf8 c)) refl
-
   first_piece_moves : (p c : ℕ) (cs : List ℕ)
       → piece_from (p + by) c (past (p + by) c cs) ≡ moved_step (piece_from p c (past p c cs))
   first_piece_moves p c cs =
-      ap (piece_from (p + by) c) (past_moves p c cs) ∙ piece_from_moves p c (past p c cs)
-
-  -- the pieces of the text after a piece follow it
-  abbrev from_step : ℕ → Step → List Piece
-  from_step most s = s.piece ∷ pieces_within most s.rest.place s.rest.text
+      ap (piece_from (p + by) c) (at_same {cs = cs} (step_moved p by (len_utf8 c)) refl)
+      ∙ piece_from_moves p c (past p c cs)
 
   pieces_within_moves : (most p : ℕ) (cs : List ℕ)
       → pieces_within most (p + by) cs ≡ map (moved_piece by) (pieces_within most p cs)

@@ -30,8 +30,8 @@ by_length P step a = below P step (suc (length a.text)) a (omega arith)
 -- the kind is that of an argument whose groups lie in its text, or of a broken one
 abbrev pub ArgumentKind : (PieceKind → Type 0) → At → Type 0
 ArgumentKind P b =
-    ((start : ℕ) (x : Argument) (q : ℕ) → KindIn x.kind b → P (closed start x q) × P (unclosed start x q))
-    × ((f : Fault) → P (broken f))
+    ((start : ℕ) (x : Argument) (q : ℕ) → KindIn x.kind b
+    → P (closed start x q) × P (unclosed start x q)) × ((f : Fault) → P (broken f))
 
 -- a property of each such kind is one of the kind of the argument that begins at b
 pub argument_kind : (P : PieceKind → Type 0) (b : At) → ArgumentKind P b
@@ -52,13 +52,8 @@ module _ (a : At) (run other : At → List Node)
       → token_node run p t b ≡ token_node other p t b
   token_same p argument b l =
       let end = (argument_from b.place b).rest.place in
-      argument_kind (λ k. piece_node run p end k ≡ piece_node other p end k) b (
-        λ start x q h. (
-          argument_same b p end _ start x q l x.kind refl h,
-          argument_same b p end _ start x q l x.kind refl h,
-        ),
-        λ f. refl,
-      )
+      argument_kind (λ k. piece_node run p end k ≡ piece_node other p end k) b
+      (λ start x q h. grind (arith, argument_same b p end, h, l), λ f. refl)
   token_same p t b l = refl
 
   leading_same : (o : Option (Token × At)) → first_token a ≡ o

@@ -118,7 +118,8 @@ unfolding argument_from
 any_brace q p b = grind arith
 
 argument_alone : (p : ℕ) (b : At) (end : ℕ) → p + size (argument_from p b).piece.text ≡ end
-    → node_alone (argument_from p b).piece ≡ piece_node nodes p end (argument_from b.place b).piece.kind
+    → node_alone (argument_from p b).piece
+    ≡ piece_node nodes p end (argument_from b.place b).piece.kind
 argument_alone p b end e = grind (arith, any_brace b.place p b, e)
 
 -- a token that is no run of literals
@@ -145,14 +146,11 @@ module _ (a b : At) where
       ≡ text_node a.place b.place Literal cs ∷ nodes b
   run_one [] h more = grind (arith, run_at a.place a.text [] b h)
   run_one (c ∷ cs) h more =
-      grind (
-        arith,
-        next_other b (run_at a.place a.text (c ∷ cs) b h).1,
-        literals_alone a.place (c ∷ cs),
-        run_merged a.place c cs (nodes_alone b),
-        more,
-        (takes_token a (literals (c ∷ cs), b) h).size,
-      )
+      let next = next_other b (run_at a.place a.text (c ∷ cs) b h).1 in
+      let alone = literals_alone a.place (c ∷ cs) in
+      let merged = run_merged a.place c cs (nodes_alone b) in
+      let token = takes_token a (literals (c ∷ cs), b) h in
+      grind (arith, next, alone, merged, more, token.size)
 
 pub literals_as_one : (a : At) → join_literals (nodes_alone a) ≡ nodes a
 literals_as_one =
