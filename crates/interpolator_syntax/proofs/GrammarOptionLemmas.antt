@@ -29,7 +29,7 @@ use Rattle.interpolator_syntax.proofs.GrammarPartLemmas.{ok_pair, Says, Agrees, 
 use Rattle.interpolator_syntax.proofs.GrammarPartLemmas.{agrees_same, agrees_placed, agrees_run}
 use Rattle.interpolator_syntax.proofs.GrammarPartLemmas.{stripped, strip_lies, strip_not}
 use Rattle.interpolator_syntax.proofs.LocalityLemmas.{Takes, takes_none}
-use Rattle.interpolator_syntax.proofs.SimpleReaderLemmas.{reads_run, Law, law_same}
+use Rattle.interpolator_syntax.proofs.SimpleReaderLemmas.{law_of, reads_run, Law, law_same}
 
 -- ---- a part that is there if a character that passes comes first
 
@@ -143,13 +143,7 @@ module _ (s : Setting) where
       let number =
       law_number invalid_precision natural naturals naturals_decide s (λ kind p. refl)
       (λ by kind p. refl) (number_or invalid_precision) (λ p o a. grind arith) in
-      record {
-        agrees = agrees_if_point _ _ number.agrees;
-        reads = record {
-          is_local = λ a.
-              local_strip s stays point a.place a.text
-              (if_point (number_at invalid_precision s.start) a)
-              (if_point (number_at invalid_precision (s.start + s.by)) (elsewhere s a))
-              (local_stay s stays a None) (λ rest e t. local_on number.reads a rest t);
-        };
-      }
+      law_of (agrees_if_point _ _ number.agrees) (λ a.
+      local_strip s stays point a.place a.text (if_point (number_at invalid_precision s.start) a)
+      (if_point (number_at invalid_precision (s.start + s.by)) (elsewhere s a))
+      (local_stay s stays a None) (λ rest e t. local_on number.reads a rest t))

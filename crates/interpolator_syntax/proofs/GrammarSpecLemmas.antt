@@ -25,8 +25,8 @@ use Rattle.interpolator_syntax.proofs.LocalLemmas.{nothing_more, IsLocal, local_
 use Rattle.interpolator_syntax.proofs.LocalLemmas.{local_then}
 use Rattle.interpolator_syntax.proofs.LocalityLemmas.{stands, takes_none, takes_one}
 use Rattle.interpolator_syntax.proofs.LongestLemmas.{at_same}
-use Rattle.interpolator_syntax.proofs.SimpleReaderLemmas.{Law, law_then, law_ends, law_letter}
-use Rattle.interpolator_syntax.proofs.SimpleReaderLemmas.{law_flag}
+use Rattle.interpolator_syntax.proofs.SimpleReaderLemmas.{law_of, Law, law_then, law_ends}
+use Rattle.interpolator_syntax.proofs.SimpleReaderLemmas.{law_letter, law_flag}
 use Rattle.interpolator_render.specs.declared.view.Alignment.TheVariants as alignments
 use Rattle.interpolator_render.specs.declared.view.Sign.TheVariants as signs
 
@@ -144,7 +144,4 @@ module _ (s : Setting) where
   pub law_spec :
       Law s (moved_request s.by) (spec_after s.start) (spec_after (s.start + s.by)) (spec s.start)
   unfolding spec_after
-  law_spec = record {
-    agrees = agrees_spec s.start;
-    reads = record { is_local = λ a. local_spec a.place a.text };
-  }
+  law_spec = law_of (agrees_spec s.start) (λ a. local_spec a.place a.text)

@@ -22,7 +22,7 @@ use Rattle.interpolator_syntax.proofs.CaseLemmas.{none_some, some_same}
 use Rattle.interpolator_syntax.proofs.LocalLemmas.{Setting, stays, elsewhere, IsLocal, local_stay}
 use Rattle.interpolator_syntax.proofs.LocalLemmas.{local_past, local_first, local_strip}
 use Rattle.interpolator_syntax.proofs.LocalityLemmas.{Takes}
-use Rattle.interpolator_syntax.proofs.SimpleReaderLemmas.{Law}
+use Rattle.interpolator_syntax.proofs.SimpleReaderLemmas.{law_of, Law}
 use Rattle.interpolator_render.specs.declared.view.Trait.TheVariants as traits
 use Rattle.interpolator_render.specs.declared.view.HexDebug.TheVariants as hex_debugs
 
@@ -127,14 +127,9 @@ module _ (s : Setting) where
       (flagged : Bool)
       → Law s stays (trait_at s.start flagged) (trait_at (s.start + s.by) flagged)
       (trait_part s.start flagged)
-  law_trait flagged = record {
-    agrees = agrees_trait s.start flagged;
-    reads = record {
-      is_local = λ a.
-          let display = local_stay s stays a (trait_alone traits.Display) in
-          local_first s stays a.place a.text (trait_first s.start flagged a)
-          (trait_first (s.start + s.by) flagged (elsewhere s a)) (grind (arith, display))
-          (λ c rest t.
-          grind (arith, display, local_hexadecimal a rest t, local_lettered a rest t c));
-    };
-  }
+  law_trait flagged =
+      law_of (agrees_trait s.start flagged) (λ a.
+      let display = local_stay s stays a (trait_alone traits.Display) in
+      local_first s stays a.place a.text (trait_first s.start flagged a)
+      (trait_first (s.start + s.by) flagged (elsewhere s a)) (grind (arith, display))
+      (λ c rest t. grind (arith, display, local_hexadecimal a rest t, local_lettered a rest t c)))
