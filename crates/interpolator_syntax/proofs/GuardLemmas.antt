@@ -134,8 +134,7 @@ module _ (start : ℕ) where
       begins_then (law_width s) (λ width.
       begins_then (law_precision s) (λ precision. record {
         after = λ a x q h.
-            let there = shown_after (alternate || zero) a h.0 h.1 h.3.0 h.3.1 h.2 h.3.2 in
-            rw h.3.3.0 there;
+            rw h.3.3.0 (shown_after (alternate || zero) a h.0 h.1 h.3.0 h.3.1 h.2 h.3.2);
       })))))
 
   fill_takes : (a : At) (x : Option ℕ) (q : At) → fill.is a x q → Takes a q

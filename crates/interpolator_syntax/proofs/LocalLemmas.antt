@@ -86,12 +86,7 @@ module _ (s : Setting) where
         → IsLocal move b o k → IsLocal move a o l
     local_past b (Ok w) k l h e r =
         (takes_then a b w.1 h r.0, λ t. e (settled_before b w.1 r.0 t) ∙ r.1 t)
-    local_past b (Err d) k l h e r = (
-      r.0,
-      λ from. r.1 (omega (arith, h.place)),
-      λ from. omega (arith, r.2 (omega (arith, h.place)), takes_reaches _ a b h refl),
-      λ none. e (inr none) ∙ r.3 none,
-    )
+    local_past b (Err d) k l h e r = let ends = takes_reaches _ a b h refl in grind (arith, e, ends)
 
     -- a test decides
     pub local_either :

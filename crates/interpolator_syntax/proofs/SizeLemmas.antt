@@ -113,17 +113,15 @@ module _ (a b : At) (t : Takes a b) where
       by_kind : (k : PieceKind) → Fits b.place k x.text rest → PieceIn k a
       by_kind (closed start y end) f =
           let inner = f.inner ++ (close_brace ∷ rest) in
-          let split : b.text ≡ open_brace ∷ inner =
-          grind (arith, append_assoc, s.split, f.in_braces) in
+          let split : b.text ≡ open_brace ∷ inner = grind (arith, append_assoc, s.split) in
           argument_lies a (stands start inner) y _ (after_brace start inner split f.begins) f.reads
       by_kind (unclosed start y end) f =
-          argument_lies a (stands start f.inner) y _
-          (after_brace start f.inner (to_end f.inner f.in_front f.takes_all) f.begins) f.reads
+          let there = after_brace start f.inner (to_end f.inner f.in_front f.takes_all) f.begins in
+          argument_lies a (stands start f.inner) y _ there f.reads
       by_kind (broken g) f =
-          let c = stands (b.place + 1) f.inner in
           let split = to_end f.inner f.in_front f.takes_all in
-          let there = takes_reaches _ a c (after_brace c.place f.inner split refl) refl in
-          omega (arith, there, argument_refuses c g f.reads)
+          let there = after_brace (b.place + 1) f.inner split refl in
+          grind (arith, takes_reaches _ a _ there refl, argument_refuses _ g f.reads)
       by_kind k f = tt
 
 these_in : (xs : List Piece) (a b : At) → Takes a b → IsPieces b xs → PiecesIn xs a

@@ -64,8 +64,7 @@ module _ (a b : At) where
   takes_open e p None k =
       record { takes = one_taken a open_brace b e p; more = b.text; begins = e; size = p }
   takes_open e p (Some r) k =
-      let s = strip_after open_brace b.place b.text r k in
-      takes_doubled open_brace r refl e p s.0 s.1
+      grind (arith, takes_doubled, strip_after open_brace b.place b.text r k)
 
   takes_close :
       a.text ≡ close_brace ∷ b.text → b.place ≡ a.place + 1 → (o : Option At)
@@ -73,8 +72,7 @@ module _ (a b : At) where
   takes_close e p None k =
       record { takes = one_taken a close_brace b e p; more = b.text; begins = e; size = p }
   takes_close e p (Some r) k =
-      let s = strip_after close_brace b.place b.text r k in
-      takes_doubled close_brace r refl e p s.0 s.1
+      grind (arith, takes_doubled, strip_after close_brace b.place b.text r k)
 
 takes_literals : (a : At) (cs : List ℕ) → MayTakeToken a (literal_scan a cs)
 takes_literals a cs =
