@@ -1,23 +1,22 @@
 -- The text up to the first of two ASCII characters, found by its bytes.
-use Rattle.std.proofs.Common.{◌≡◌, ℕ, suc, ◌+◌, ◌<◌, ◌≤◌, zero, Bool, true, cond, eqb}
-use Rattle.std.proofs.Common.{List, [], ◌∷◌, ◌++◌, length, take, drop, get_or, arith, refl, ap, ◌∙◌}
-use Rattle.std.proofs.Common.{sym, ◌⊎◌, inl, inr, ◌||◌, ◌%◌, ◌^◌, Option, Some, None, bit_or}
-use Rattle.std.proofs.Common.{map, replicate, eqb-true}
-use Rattle.std.specs.List.{position, position_or_len, slice_get}
-use Rattle.std.specs.Prelude.{⊤, IfSome, min, unwrap_or}
+use Rattle.std.proofs.Common.{encode_utf8_all, IsCharBoundary, length-take-le, get_or-take, IfSome}
+use Rattle.std.proofs.Common.{length-drop, slice_get, unwrap_or, replicate, position, eqb-true, ◌≡◌}
+use Rattle.std.proofs.Common.{IsUtf8, ne_eqb, length, get_or, Option, bit_or, chars, arith, zero, ℕ}
+use Rattle.std.proofs.Common.{Bool, true, cond, List, ◌++◌, take, drop, refl, ◌||◌, Some, None, suc}
+use Rattle.std.proofs.Common.{◌+◌, ◌<◌, ◌≤◌, eqb, min, ◌∷◌, sym, ◌⊎◌, inl, ◌%◌, ◌^◌, map, []}
+use Rattle.std.specs.List.{position_or_len}
+use Rattle.std.specs.Prelude.{⊤}
 use Rattle.std.specs.Char.{encode_utf8}
-use Rattle.std.specs.Str.{chars, IsUtf8, IsCharBoundary, encode_utf8_all}
 use Rattle.std.proofs.lemmas.Str.{encodes-chars, encode_ascii, chars_from_encodes, IsUtf8-take}
-use Rattle.std.proofs.lemmas.Str.{length-encode, len_utf8_bounds}
-use Rattle.std.proofs.lemmas.Str.{IsUtf8-drop}
+use Rattle.std.proofs.lemmas.Str.{length-encode, len_utf8_bounds, IsUtf8-drop}
 use Rattle.std.proofs.lemmas.List.Sums.{position_or_len_is, fails_before_first, passes_at_first}
 use Rattle.std.proofs.lemmas.List.Sums.{prefix_len-le-length}
-use Rattle.std.proofs.lemmas.List.{get_or-take, length-take-le, length-map, length-drop}
+use Rattle.std.proofs.lemmas.List.{length-map}
 use Rattle.std.proofs.lemmas.Simd.{zip2_splat, zip2_of_maps, mask_l-mod, leading_from_mask_l}
 use Rattle.std.proofs.lemmas.Simd.{trailing_mask_l}
 use Rattle.std.specs.Simd.Lanes.{mask_l, zip2, top}
 use Rattle.std.specs.Int.Count.{count_trailing_zeros}
-use Rattle.std.proofs.lemmas.Bool.{cond_both, ne_eqb, cases_lt}
+use Rattle.std.proofs.lemmas.Bool.{cond_both, cases_lt}
 use Rattle.interpolator_syntax.specs.Classes.{avoids, front_of, after_of}
 
 -- ---- a block's mask
@@ -44,9 +43,7 @@ module _ (first second : ℕ) where
       let lanes =
       zip2_of_maps bit_or (λ b. Lane b first) (λ b. Lane b second) xs
       (zip2_splat Lane xs n first long) (zip2_splat Lane xs n second long) in
-      let as_long : length (map IsEither xs) ≡ length xs = length-map xs IsEither in
-      ap (λ (ms : List Bool). mask_l ms % 2 ^ 64) (ap (map (top 7)) lanes ∙ tops xs)
-      ∙ mask_l-mod (map IsEither xs) 64 (omega (arith, long, room, as_long))
+      grind (arith, lanes, tops xs, length-map xs IsEither, mask_l-mod (map IsEither xs) 64)
 
   pub no_hit : (xs : List ℕ) (n : ℕ) → length xs ≡ n → n ≤ 64 → Mask xs n ≡ 0
       → n ≡ position_or_len IsEither xs
@@ -66,8 +63,7 @@ SameFirst test all rest =
 pub drop_before : (test : ℕ → Bool) (k : ℕ) (xs : List ℕ) → k ≤ position_or_len test xs
     → position_or_len test xs ≡ k + position_or_len test (drop k xs)
 drop_before test zero xs h = omega arith
-drop_before test (suc k) [] h = absurd (omega arith)
-drop_before test (suc k) (x ∷ xs) h = grind (arith, drop_before test k xs)
+drop_before test (suc k) xs h = grind (arith, drop_before test k)
 
 take_before : (test : ℕ → Bool) (n : ℕ) (xs : List ℕ)
     → position_or_len test (take n xs) ≤ position_or_len test xs
@@ -135,14 +131,9 @@ module _ (first second : ℕ) (low_first : first < 128) (low_second : second < 1
       × (after_of (avoids first second) (encode_utf8_all cs)
       ≡ encode_utf8_all (after_of (avoids first second) cs))
   bytes [] = (refl, refl)
-  bytes (c ∷ cs) = let more = bytes cs in elim (cases_lt c 128) [
-    | inl low ↦
-        let one = encode_ascii c low in
-        rw one (grind (arith, more.0, one), grind (arith, more.1, one))
-    | inr high ↦
-        let past = over (encode_utf8 c) (encode_utf8_all cs) (encode_high c high) in
-        rw (avoids_high c high) (past.0 ∙ ap (λ zs. encode_utf8 c ++ zs) more.0, past.1 ∙ more.1)
-  ]
+  bytes (c ∷ cs) =
+      let past = over (encode_utf8 c) (encode_utf8_all cs) in
+      grind (arith, cases_lt c 128, encode_ascii c, past, encode_high c, avoids_high c, bytes cs)
 
   abbrev Stops : ℕ → Bool
   Stops b = eqb b first || eqb b second
@@ -177,18 +168,14 @@ module _ (first second : ℕ) (low_first : first < 128) (low_second : second < 1
   pub chars_front : (bs : List ℕ) → IsUtf8 bs
       → chars (take (position_or_len Stops bs) bs) ≡ front_of (avoids first second) (chars bs)
   chars_front bs u =
-      sym (chars_from_encodes (front_of (avoids first second) (chars bs)) _
-      (IsUtf8-take bs _ u (cut_boundary bs))
-      (sym (bytes (chars bs)).0 ∙ ap (front_of (avoids first second)) (encodes-chars bs u)
-      ∙ sym (at_cut bs).0))
+      let same = bytes (chars bs) in
+      grind (arith, chars_from_encodes, IsUtf8-take, cut_boundary, same, encodes-chars, at_cut)
 
   pub chars_after : (bs : List ℕ) → IsUtf8 bs
       → chars (drop (position_or_len Stops bs) bs) ≡ after_of (avoids first second) (chars bs)
   chars_after bs u =
-      sym (chars_from_encodes (after_of (avoids first second) (chars bs)) _
-      (IsUtf8-drop bs _ u (cut_boundary bs))
-      (sym (bytes (chars bs)).1 ∙ ap (after_of (avoids first second)) (encodes-chars bs u)
-      ∙ sym (at_cut bs).1))
+      sym (chars_from_encodes _ _ (IsUtf8-drop bs _ u (cut_boundary bs))
+      (grind (arith, bytes (chars bs), encodes-chars bs u, at_cut bs)))
 
 pub near_is :
     (test : ℕ → Bool) (bs : List ℕ) (n : ℕ) (r : Option ℕ) → n ≤ length bs
@@ -198,9 +185,7 @@ near_is test bs n (Some index) within e =
     let near = take n bs in
     let first : index ≡ position_or_len test near = grind arith in
     let low : position_or_len test near < length near = grind arith in
-    let here : index < n = omega (arith, low, length-take-le n bs within, first) in
-    sym (position_or_len_is test bs index 0 (omega (arith, here, within))
-    (λ k h. sym (ap test (get_or-take n bs k 0 (omega (arith, here, h))))
-    ∙ fails_before_first test near k 0 (omega (arith, h, first)))
-    (λ h. sym (ap test (get_or-take n bs index 0 here)) ∙ ap (λ (i : ℕ). test (get_or near i 0))
-    first ∙ passes_at_first test near 0 low))
+    let here : index < n = omega (arith, length-take-le n bs within) in
+    sym (position_or_len_is test bs index 0 (omega arith)
+    (λ k h. grind (arith, get_or-take n bs k 0, fails_before_first test near k 0))
+    (λ h. grind (arith, get_or-take n bs index 0, passes_at_first test near 0)))

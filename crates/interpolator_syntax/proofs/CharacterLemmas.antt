@@ -16,8 +16,7 @@ chars_of_end bs e = ap chars (nil_from_length bs e) ∙ chars-nil
 
 pub length_of_next : (bs rest : List ℕ) (c : ℕ) → bs ≡ encode_utf8 c ++ rest
     → length bs ≡ len_utf8 c + length rest
-length_of_next bs rest c e = ap length e ∙ length-append (encode_utf8 c) rest
-    ∙ ap (λ n. n + length rest) (length-encode c)
+length_of_next bs rest c e = grind (arith, length-append, length-encode)
 
 pub shorter_after : (bs rest : List ℕ) (c : ℕ) → bs ≡ encode_utf8 c ++ rest
     → length rest < length bs
@@ -28,15 +27,14 @@ nil_of_end bs e = nil_from_length bs e
 
 pub length-encodes : (cs : List ℕ) → length (encode_utf8_all cs) ≡ size cs
 length-encodes [] = refl
-length-encodes (c ∷ cs) = length_of_next (encode_utf8_all (c ∷ cs)) (encode_utf8_all cs) c refl
-    ∙ ap (λ n. len_utf8 c + n) (length-encodes cs)
+length-encodes (c ∷ cs) = grind (arith, length-append, length-encode, length-encodes cs)
 
 -- how many bytes a text has
 pub size-chars : (bs : List ℕ) → IsUtf8 bs → size (chars bs) ≡ length bs
 size-chars bs u = sym (length-encodes (chars bs)) ∙ ap length (encodes-chars bs u)
 
 pub no_text : (bs : List ℕ) → bs ≡ [] → chars bs ≡ []
-no_text bs e = ap chars e ∙ chars-nil
+no_text bs e = grind (arith, chars-nil)
 
 -- the text that is left after the first character
 pub ruleset first_character =

@@ -1,10 +1,10 @@
 -- What `==` of the parts of an argument tests, part by part.
+use Rattle.std.proofs.lemmas.Grind.{common_steps}
 use Rattle.std.proofs.Common.{◌≡◌, rules, arith, Bool, Option, Decides, int_eq, option_map}
-use Rattle.std.proofs.lemmas.Bool.Decides.{Decides-and, Decides-eqb, Decides-int_eq}
+use Rattle.std.proofs.lemmas.Bool.Decides.{Decides-and, Decides-eqb}
 use Rattle.std.proofs.lemmas.Slice.Eq.{bytes_eq-Decides}
 use Rattle.std.specs.Option.{option_eq}
 use denote.Enum.Bare.{same_true, true_same}
-use mathlib.Core.Bool.{beq}
 use Rattle.interpolator_render.specs.contracts.view.Trait.{the_type as traits}
 use Rattle.interpolator_render.specs.declared.view.Spec.{Spec}
 use Rattle.interpolator_render.specs.declared.view.Trait.{Trait}
@@ -33,24 +33,14 @@ module _ {A : Type 0} (test : A → A → Bool) (each : (x y : A) → Decides (t
   same_options : (x y : Option A) → Decides (option_eq test x y) (x ≡ y)
   same_options x y = grind (arith, each)
 
-same_truths : (a b : Bool) → Decides (beq a b) (a ≡ b)
-same_truths a b = grind arith
-
 -- ---- ranges, groups and traits
 
 ranges_decide : (x y : Range) → Decides (range_impl.ghosts.eq x y) (x ≡ y)
-ranges_decide x y =
-    let bounds = same_options int_eq Decides-int_eq in
-    grind (
-      arith,
-      Decides-and _ _ (bounds x.lower y.lower)
-          (Decides-and _ _ (same_truths x.inclusive y.inclusive) (bounds x.upper y.upper)),
-    )
+ranges_decide x y = grind (arith, common_steps, same_options, int_eq)
 
 groups_decide : (x y : code_group.Group)
     → Decides (group_impl.ghosts.eq x y) (group_in_bytes x ≡ group_in_bytes y)
-groups_decide x y =
-    grind (arith, bytes_eq-Decides x.text.now y.text.now, Decides-eqb x.place y.place)
+groups_decide x y = grind (arith, bytes_eq-Decides)
 
 traits_decide : (t u : Trait) → Decides (trait_impl.ghosts.eq t u) (t ≡ u)
 traits_decide t u = (same_true traits (search rules) t u, true_same traits t u)
@@ -62,11 +52,8 @@ pub kinds_decide : (k o : code_kind.Kind)
 kinds_decide (Value t) (Value u) = grind (arith, traits_decide t u)
 kinds_decide (ListKind r i j) (ListKind s k l) =
     let groups = options_decide group_impl.ghosts.eq group_in_bytes groups_decide in
-    grind (
-      arith,
-      Decides-and _ _ (same_options range_impl.ghosts.eq ranges_decide r s)
-          (Decides-and _ _ (groups i k) (groups j l)),
-    )
+    let ranges = same_options range_impl.ghosts.eq ranges_decide r s in
+    grind (arith, Decides-and _ _ ranges (Decides-and _ _ (groups i k) (groups j l)))
 kinds_decide k o = (λ e. absurd (cc), λ e. absurd (cc))
 
 specs_decide : (x y : Spec) → Decides (same_fields x y) (x ≡ y)
@@ -75,9 +62,7 @@ specs_decide x y = (same_from_fields x y, λ e. rw (← e) (fields_from_same x))
 pub arguments_decide : (x y : code_argument.Argument)
     → Decides (argument_impl.ghosts.eq x y) (argument_in_bytes x ≡ argument_in_bytes y)
 arguments_decide x y =
-    grind (
-      arith,
-      Decides-and _ _ (bytes_eq-Decides x.name.now y.name.now)
-          (Decides-and _ _ (Decides-eqb x.name_place y.name_place)
-          (Decides-and _ _ (specs_decide x.spec y.spec) (kinds_decide x.kind y.kind))),
-    )
+    let names = bytes_eq-Decides x.name.now y.name.now in
+    let kinds = Decides-and _ _ (specs_decide x.spec y.spec) (kinds_decide x.kind y.kind) in
+    let places = Decides-and _ _ (Decides-eqb x.name_place y.name_place) kinds in
+    grind (arith, Decides-and _ _ names places)

@@ -1,6 +1,5 @@
 -- An error with the bytes of a missing name, and with its characters: both say the same.
-use Rattle.std.proofs.Common.{◌≡◌, arith, ℕ, List, ap, sym, ◌∙◌, string_bytes, encode_utf8_all}
-use Rattle.std.specs.Str.{chars}
+use Rattle.std.proofs.Common.{◌≡◌, arith, ℕ, List, string_bytes, encode_utf8_all}
 use Rattle.std.proofs.lemmas.Str.{encodes-chars, IsUtf8-string_bytes}
 use Rattle.interpolator_syntax.specs.declared.error.Error.{Error}
 use Rattle.interpolator_syntax.specs.declared.error.Error.TheVariants.{MissingValue}
@@ -16,10 +15,6 @@ with_name : (List ℕ → List ℕ) → Answer → Answer
 with_name change (fault (missing_value name place)) = fault (missing_value (change name) place)
 with_name change answer = answer
 
-answer_of_bytes : (error : Error) → answer_of error ≡ with_name chars (byte_answer_of error)
-unfolding with_name
-answer_of_bytes error = grind arith
-
 bytes_of_answer : (error : Error) →
     byte_answer_of error ≡ with_name encode_utf8_all (answer_of error)
 unfolding with_name
@@ -28,11 +23,9 @@ bytes_of_answer error = grind (arith, encodes-chars, IsUtf8-string_bytes)
 -- answers that are the same in bytes are the same in characters
 pub same_answers : (first second : Error) →
     byte_answer_of first ≡ byte_answer_of second → answer_of first ≡ answer_of second
-same_answers first second same =
-    answer_of_bytes first ∙ ap (with_name chars) same ∙ sym (answer_of_bytes second)
+same_answers first second same = grind arith
 
 -- and the other way round
 pub same_byte_answers : (first second : Error) →
     answer_of first ≡ answer_of second → byte_answer_of first ≡ byte_answer_of second
-same_byte_answers first second same =
-    bytes_of_answer first ∙ ap (with_name encode_utf8_all) same ∙ sym (bytes_of_answer second)
+same_byte_answers first second same = grind (arith, bytes_of_answer)

@@ -1,7 +1,7 @@
 -- What the first byte of a text says about its characters.
-use Rattle.std.proofs.Common.{◌≡◌, ℕ, ◌≤◌, List, [], ◌∷◌, arith, refl, ap, ◌∙◌, sym, Option, Some}
-use Rattle.std.proofs.Common.{None, length, Bool, eqb, MatchOption, MatchBool, slice_get, chars}
-use Rattle.std.proofs.Common.{IsUtf8, encode_utf8_all}
+use Rattle.std.proofs.Common.{◌≡◌, ℕ, ◌≤◌, List, [], ◌∷◌, arith, refl, Option, Some, None, length}
+use Rattle.std.proofs.Common.{Bool, eqb, MatchOption, MatchBool, slice_get, chars, IsUtf8}
+use Rattle.std.proofs.Common.{encode_utf8_all}
 use Rattle.std.proofs.lemmas.Str.{encodes-chars}
 use Rattle.interpolator_syntax.specs.Classes.{front_of, after_of, in_class}
 use Rattle.interpolator_syntax.specs.SpecReads.{FirstByte}
@@ -12,12 +12,7 @@ use Rattle.interpolator_syntax.proofs.CharacterLemmas.{no_text, chars_of_end}
 first_byte_at : (cs bs : List ℕ) (b : ℕ) → encode_utf8_all cs ≡ bs → slice_get bs 0 ≡ Some b
     → FirstByte b cs
 first_byte_at [] bs b e f = absurd (grind (arith, e, f))
-first_byte_at (c ∷ cs) bs b e f = record {
-  char = c;
-  more = cs;
-  split = refl;
-  same = encode_head c (encode_utf8_all cs) b (ap (λ (xs : List ℕ). slice_get xs 0) e ∙ f);
-}
+first_byte_at (c ∷ cs) bs b e f = grind (arith, encode_head, encode_utf8_all)
 
 pub first_byte : (bs : List ℕ) (b : ℕ) → IsUtf8 bs → slice_get bs 0 ≡ Some b
     → FirstByte b (chars bs)
@@ -29,8 +24,7 @@ no_first (b ∷ bs) e = absurd (cc)
 
 pub byte_told : (bs : List ℕ) (o : Option ℕ) → IsUtf8 bs → o ≡ slice_get bs 0
     → MatchOption o (chars bs ≡ []) (λ b. FirstByte b (chars bs))
-byte_told bs None u e = no_text bs (no_first bs e)
-byte_told bs (Some b) u e = first_byte bs b u (sym e)
+byte_told bs o u e = grind (arith, no_text, no_first, first_byte)
 
 no_space_at : (cs : List ℕ) (b : ℕ) → FirstByte b cs → 33 ≤ b → b ≤ 126
     → (front_of (in_class WhiteSpace) cs ≡ []) × (after_of (in_class WhiteSpace) cs ≡ cs)

@@ -1,7 +1,7 @@
 -- The longest front of one class, and the rest after it.
-use Rattle.std.proofs.Common.{◌≡◌, ℕ, ◌-◌, Bool, List, [], ◌∷◌, ◌++◌, length, take, arith, refl, ap}
-use Rattle.std.proofs.Common.{◌∙◌, sym, subst, append_assoc, chars, IsUtf8, IsCharBoundary}
-use Rattle.std.proofs.Common.{encode_utf8, length-append}
+use Rattle.std.proofs.lemmas.Grind.{common_steps}
+use Rattle.std.proofs.Common.{IsCharBoundary, length-append, append_assoc, encode_utf8, length, ◌≡◌}
+use Rattle.std.proofs.Common.{IsUtf8, arith, chars, Bool, List, ◌++◌, take, refl, ◌-◌, ◌∷◌, [], ℕ}
 use Rattle.std.proofs.lemmas.Str.{chars-append, IsCharBoundary-at_seam, IsUtf8-take}
 use Rattle.std.proofs.lemmas.List.{append_cancel_right}
 use Rattle.std.proofs.Math.Seq.{take-append_seam}
@@ -18,34 +18,24 @@ IsRest text rest = (front : List ℕ) × (text ≡ front ++ rest)
 
 pub rest_more : (text rest after : List ℕ) (c : ℕ) → IsRest text rest
     → rest ≡ encode_utf8 c ++ after → IsRest text after
-rest_more text rest after c r e = (
-  r.0 ++ encode_utf8 c,
-  r.1 ∙ ap (λ xs. r.0 ++ xs) e
-      ∙ sym (append_assoc r.0 (encode_utf8 c) after),
-)
+rest_more text rest after c r e = (r.0 ++ encode_utf8 c, rw (append_assoc, ← e) r.1)
 
 pub rest_boundary : (text rest : List ℕ) → IsRest text rest → IsUtf8 rest
     → IsCharBoundary text (length text - length rest)
 rest_boundary text rest r u =
-    let n : length text - length rest ≡ length r.0 =
-    omega (arith, ap length r.1, length-append r.0 rest) in
+    let n : length text - length rest ≡ length r.0 = grind (arith, length-append) in
     rw n (IsCharBoundary-at_seam text r.0 rest r.1 u)
 
 pub cut_at_rest : (text rest : List ℕ) → IsRest text rest
     → take (length text - length rest) text ++ rest ≡ text
-cut_at_rest text rest r =
-    let n : length text - length rest ≡ length r.0 =
-    omega (arith, ap length r.1, length-append r.0 rest) in
-    ap (λ k. take k text ++ rest) n ∙ ap (λ xs. take (length r.0) xs ++ rest) r.1
-    ∙ ap (λ xs. xs ++ rest) (take-append_seam r.0 rest) ∙ sym r.1
+cut_at_rest text rest r = grind (arith, common_steps, length-append, take-append_seam)
 
 pub front_cut :
     (passes : ℕ → Bool) (text front rest : List ℕ) → IsUtf8 front → front ++ rest ≡ text
     → after_of passes (chars text) ≡ chars rest → chars front ≡ front_of passes (chars text)
 front_cut passes text front rest u e b =
-    append_cancel_right (chars front) (front_of passes (chars text)) (chars rest)
-    (sym (chars-append front rest u) ∙ ap chars e ∙ sym (front_after passes (chars text))
-    ∙ ap (λ xs. front_of passes (chars text) ++ xs) b)
+    append_cancel_right _ _ (chars rest)
+    (grind (arith, chars-append front rest u, e, front_after passes (chars text), b))
 
 -- the text up to a rest, in front of which the characters pass and at which they stop
 pub front_at_rest :
@@ -54,5 +44,5 @@ pub front_at_rest :
     → chars front ≡ front_of passes (chars text)
 front_at_rest passes text front rest u v r e b =
     let cut = rest_boundary text rest r v in
-    let is_text = subst IsUtf8 (sym e) (IsUtf8-take text (length text - length rest) u cut) in
-    front_cut passes text front rest is_text (ap (λ xs. xs ++ rest) e ∙ cut_at_rest text rest r) b
+    let is_text = IsUtf8-take text (length text - length rest) u cut in
+    rw e (front_cut passes text _ rest is_text (cut_at_rest text rest r) b)

@@ -1,6 +1,6 @@
 -- An argument is its parts, one after the other, and the reverse.
-use Rattle.std.proofs.Common.{◌≡◌, ℕ, IsFalse, List, [], ◌∷◌, ◌++◌, arith, refl, ap, ◌∙◌, sym}
-use Rattle.std.proofs.Common.{subst, Result, Ok, Err, Option, inl, inr, eqb-true}
+use Rattle.std.proofs.Common.{◌≡◌, ℕ, IsFalse, List, [], ◌∷◌, arith, refl, ◌∙◌, sym, subst, Result}
+use Rattle.std.proofs.Common.{Ok, Err, Option, inl, inr, eqb-true}
 use Rattle.interpolator_syntax.specs.At.{At, after, strip}
 use Rattle.interpolator_syntax.specs.Classes.{front_of, in_class, close_brace, colon}
 use Rattle.interpolator_syntax.specs.Readers.{on, give}
@@ -9,8 +9,8 @@ use Rattle.interpolator_syntax.specs.Arguments.{Argument, argument, asked_by, as
 use Rattle.interpolator_syntax.specs.Faults.{Fault}
 use Rattle.interpolator_syntax.specs.Grammar.{NotFirst}
 use Rattle.interpolator_syntax.specs.GrammarParts.{Lies}
-use Rattle.interpolator_syntax.specs.ArgumentGrammar.{IsNamed, Asks, AsksNothing, request_in, IsArgument}
-use Rattle.interpolator_syntax.specs.ArgumentGrammar.{IsNoArgument}
+use Rattle.interpolator_syntax.specs.ArgumentGrammar.{IsNamed, Asks, AsksNothing, request_in}
+use Rattle.interpolator_syntax.specs.ArgumentGrammar.{IsArgument, IsNoArgument}
 use Rattle.interpolator_syntax.specs.declared.class.Class.TheVariants.{WhiteSpace, Name}
 use Rattle.interpolator_syntax.proofs.FrontLemmas.{front_after}
 use Rattle.interpolator_syntax.proofs.LongestLemmas.{at_same, front_longest, longest_front}
@@ -32,14 +32,9 @@ module _ (a : At) where
 
   named_is : IsNamed a name_read name_from.place name_end
   named_is =
-      let whole = front_after (in_class Name) name_from.text in
-      record {
-        spaces = front_of (in_class WhiteSpace) a.text;
-        white = rw whole (front_longest (in_class WhiteSpace) a.text);
-        named = rw whole (front_longest (in_class Name) name_from.text);
-        name_place = refl;
-        end_place = refl;
-      }
+      let white = front_longest (in_class WhiteSpace) a.text in
+      let named = front_longest (in_class Name) name_from.text in
+      grind (arith, front_after (in_class Name) name_from.text, white, named)
 
 -- the request after a name, with that name
 abbrev named_so : (start : ℕ) → (name : List ℕ) → (p : ℕ) → (b : At) → Result (Argument × At) Fault
@@ -49,10 +44,7 @@ name_found :
     (a : At) (name : List ℕ) (p : ℕ) (b : At) → IsNamed a name p b
     → argument_at a ≡ named_so a.place name p b
 unfolding argument_at
-name_found a name p b h =
-    let white = longest_front (in_class WhiteSpace) a.text h.spaces (name ++ b.text) h.white in
-    let named = longest_front (in_class Name) (name ++ b.text) name b.text h.named in
-    rw (white.0, white.1, named.0, named.1, ← h.name_place, ← h.end_place) refl
+name_found a name p b h = grind (arith, longest_front)
 
 -- ---- after the name
 
@@ -77,16 +69,15 @@ module _ (start : ℕ) (b : At) where
       grind (arith, name_ends b.text stops, (law_spec (still start)).agrees.says)
 
   after_colon : (m : At) → Lies b (colon ∷ []) m → asked_at start b ≡ spec_after start m
-  after_colon m h =
-      rw h.split (ap (spec_after start) (at_same (omega (arith, h.place)) refl))
+  after_colon m h = grind (arith, at_same)
 
   only_told : (o : Result (Request × At) Fault) → Told start b o → asked_at start b ≡ o
   only_told (Ok w) (inl s) = rw s.0.1 (ok_pair (sym s.1) (at_same refl (sym s.0.1) ∙ sym s.2))
   only_told (Ok w) (inr s) =
-      after_colon s.0 s.1 ∙ (law_spec (still start)).agrees.only s.0 w.1 w.0 s.2
+      rw (after_colon s.0 s.1) ((law_spec (still start)).agrees.only s.0 w.1 w.0 s.2)
   only_told (Err f) (inl s) = rw (s.0, s.1) refl
   only_told (Err f) (inr s) =
-      after_colon s.0 s.1 ∙ (law_spec (still start)).agrees.only_not s.0 f s.2
+      rw (after_colon s.0 s.1) ((law_spec (still start)).agrees.only_not s.0 f s.2)
 
 -- ---- the whole argument
 
@@ -115,8 +106,7 @@ module _ (a : At) where
 
   argument_says : ArgumentSays (argument_at a)
   argument_says =
-      subst ArgumentSays
-      (sym (name_found a (name_read a) (name_from a).place (name_end a) (named_is a)))
+      rw (name_found a (name_read a) (name_from a).place (name_end a) (named_is a))
       (told_says (asked_at a.place (name_end a)) what_is_told)
 
 pub argument_is : (a q : At) (x : Argument) → argument_at a ≡ Ok (x, q) → IsArgument a x q
@@ -124,15 +114,13 @@ argument_is a q x e = subst (ArgumentSays a) e (argument_says a)
 
 pub only_argument : (a q : At) (x : Argument) → IsArgument a x q → argument_at a ≡ Ok (x, q)
 only_argument a q x h =
-    name_found a x.name x.name_place h.after h.named
-    ∙ ap (λ (o : Result (Request × At) Fault). on o (λ y. give (argument x.name x.name_place y)))
-    (only_told a.place h.after (Ok (request_in x, q)) h.asks)
+    let told = only_told a.place h.after (Ok (request_in x, q)) h.asks in
+    rw (name_found a x.name x.name_place h.after h.named, told) refl
 
 pub broken_is : (a : At) (f : Fault) → argument_at a ≡ Err f → IsNoArgument a f
 broken_is a f e = subst (ArgumentSays a) e (argument_says a)
 
 pub only_broken : (a : At) (f : Fault) → IsNoArgument a f → argument_at a ≡ Err f
 only_broken a f h =
-    name_found a h.name h.name_place h.after h.named
-    ∙ ap (λ (o : Result (Request × At) Fault). on o (λ y. give (argument h.name h.name_place y)))
-    (only_told a.place h.after (Err f) h.refused)
+    let told = only_told a.place h.after (Err f) h.refused in
+    rw (name_found a h.name h.name_place h.after h.named, told) refl

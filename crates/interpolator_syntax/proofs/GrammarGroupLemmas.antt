@@ -1,7 +1,7 @@
 -- A group is what opens it, its text and what closes it, and only such a text is a group.
 use Rattle.std.proofs.Common.{◌≡◌, ◌≢◌, ℕ, zero, suc, ◌+◌, cond, eqb, List, [], ◌∷◌, ◌++◌, length}
-use Rattle.std.proofs.Common.{arith, refl, ap, ◌∙◌, sym, subst, Ok, Err, Option, Some, None}
-use Rattle.std.proofs.Common.{append_assoc, ne_eqb, append-nil, eqb-true, codes}
+use Rattle.std.proofs.Common.{arith, refl, ap, ◌∙◌, Ok, Err, Option, Some, None, append_assoc}
+use Rattle.std.proofs.Common.{ne_eqb, append-nil, eqb-true}
 use Rattle.std.proofs.lemmas.Bool.{eqb-false, cond_both}
 use Rattle.std.specs.Char.{len_utf8}
 use Rattle.interpolator_syntax.specs.At.{At, size, first_of}
@@ -12,7 +12,7 @@ use Rattle.interpolator_syntax.specs.Groups.{closed_group, bracket_first, group_
 use Rattle.interpolator_syntax.specs.GroupGrammar.{sign_text, open_text, close_text, NoneCloses}
 use Rattle.interpolator_syntax.specs.GroupGrammar.{IsGroup, IsNoGroup, ends, no_bracket, no_end}
 use Rattle.interpolator_syntax.specs.ListGrammar.{group}
-use Rattle.interpolator_syntax.specs.Faults.{Fault, parse, expected}
+use Rattle.interpolator_syntax.specs.Faults.{Fault}
 use Rattle.interpolator_syntax.specs.declared.class.Class.TheVariants.{Hash}
 use Rattle.interpolator_syntax.proofs.FrontLemmas.{front_after}
 use Rattle.interpolator_syntax.proofs.GrammarPartLemmas.{Says, Agrees}
@@ -40,7 +40,7 @@ signs_split (suc k) p (c ∷ cs) q e =
 -- and only those
 pub only_signs : (k p : ℕ) (rest : List ℕ) → after_hashes k p (sign_text k ++ rest)
     ≡ Some (stands (p + k) rest)
-only_signs zero p rest = let same : p ≡ p + 0 = omega arith in ap (λ n. Some (stands n rest)) same
+only_signs zero p rest = grind arith
 only_signs (suc k) p rest = grind (arith, only_signs k (p + 1) rest)
 
 -- ---- the end
@@ -50,7 +50,7 @@ none_closes : (k c : ℕ) (inner after : List ℕ) → ((rest : List ℕ) → c 
     → inner ++ after ≢ sign_text k ++ rest) → NoneCloses k inner after
     → NoneCloses k (c ∷ inner) after
 none_closes k c inner after here later [] more rest e h = grind (arith, here rest)
-none_closes k c inner after here later (d ∷ front) more rest e h = later front more rest (cc) h
+none_closes k c inner after here later (d ∷ front) more rest e h = grind (arith, later front more)
 
 later_closes : (k c : ℕ) (inner after : List ℕ) → NoneCloses k (c ∷ inner) after
     → NoneCloses k inner after
@@ -66,8 +66,7 @@ signs_at k p c cs = cond (eqb c close_bracket) (after_hashes k (p + len_utf8 c) 
 
 not_here : (k p c : ℕ) (cs rest : List ℕ) → signs_at k p c cs ≡ None → c ≡ close_bracket
     → cs ≢ sign_text k ++ rest
-not_here k p c cs rest e same h =
-    none_some {x = stands (p + 1 + k) rest} (sym e ∙ rw (same, h) (only_signs k (p + 1) rest))
+not_here k p c cs rest e same h = grind (arith, only_signs k (p + 1) rest, e)
 
 signs_here : (k p c : ℕ) (cs : List ℕ) (q : At) → signs_at k p c cs ≡ Some q
     → (c ∷ cs ≡ close_text k ++ q.text) × (q.place ≡ p + 1 + k)
@@ -78,7 +77,7 @@ none_here : (k p c : ℕ) (cs : List ℕ) → ((rest : List ℕ) → c ≡ close
 none_here k p c cs h =
     elim (signs_at k p c cs) as (λ o. signs_at k p c cs ≡ o → o ≡ None) [
       | None ↦ λ e. refl
-      | Some q ↦ λ e. let s = signs_here k p c cs q e in absurd (h q.text (cc) (cc))
+      | Some q ↦ λ e. grind (arith, signs_here k p c cs q e, h q.text)
     ] refl
 
 -- the text at p ends in front of q, at the first place where it closes
@@ -96,19 +95,13 @@ Closes k p cs None = NoneCloses k cs []
 later_says :
     (k p c : ℕ) (cs : List ℕ) (o : Option (List ℕ × At)) → signs_at k p c cs ≡ None
     → Closes k (p + len_utf8 c) cs o → Closes k p (c ∷ cs) (here_or_later c None o)
-later_says k p c cs o none there =
-    grind (arith, none_closes k c, not_here k p c cs, append-nil, none)
+later_says k p c cs o none there = grind (arith, none_closes, not_here, append-nil)
 
 pub close_says : (k p : ℕ) (cs : List ℕ) → Closes k p cs (close_from k p cs)
 close_says k p [] = nothing_closes k []
 close_says k p (c ∷ cs) =
-    grind (
-      arith,
-      signs_here k p c cs,
-      nothing_closes k,
-      later_says k p c cs (close_from k (p + len_utf8 c) cs),
-      close_says k (p + len_utf8 c) cs,
-    )
+    let later = later_says k p c cs (close_from k (p + len_utf8 c) cs) in
+    grind (arith, signs_here, nothing_closes k, later, close_says k (p + len_utf8 c) cs)
 
 pub only_close :
     (k p : ℕ) (inner rest : List ℕ) → NoneCloses k inner (close_text k ++ rest)
@@ -116,20 +109,15 @@ pub only_close :
     ≡ Some (inner, stands (p + size inner + 1 + k) rest)
 only_close k p [] rest h = grind (arith, only_signs k (p + 1) rest)
 only_close k p (c ∷ inner) rest h =
-    let more = inner ++ (close_text k ++ rest) in
-    grind (
-      arith,
-      none_here k p c more (λ after d. h [] inner after (ap (λ n. n ∷ inner) d)),
-      only_close k (p + len_utf8 c) inner rest (later_closes k c inner (close_text k ++ rest) h),
-    )
+    let tail = close_text k ++ rest in
+    let none = none_here k p c (inner ++ tail) (λ after d. h [] inner after (cc)) in
+    grind (arith, none, only_close k (p + len_utf8 c) inner rest (later_closes k c inner tail h))
 
 pub only_no_close : (k p : ℕ) (cs : List ℕ) → NoneCloses k cs [] → close_from k p cs ≡ None
 only_no_close k p [] h = refl
 only_no_close k p (c ∷ cs) h =
-    rw (
-      none_here k p c cs (λ more d e. h [] cs more (ap (λ n. n ∷ cs) d) (append-nil cs ∙ e)),
-      only_no_close k (p + len_utf8 c) cs (later_closes k c cs [] h),
-    ) refl
+    let none = none_here k p c cs (λ more d. rw append-nil at (h [] cs more (cc))) in
+    grind (arith, none, only_no_close k (p + len_utf8 c) cs (later_closes k c cs [] h))
 
 -- ---- groups
 
@@ -161,9 +149,7 @@ pub group_of_signs : (start k : ℕ) (a : At) (rest : List ℕ) → a.text ≡ s
     → NoSign rest → group_at start a ≡ bracket_first start k (stands (a.place + k) rest)
     (first_of (a.place + k) rest)
 unfolding group_at
-group_of_signs start k a rest e h =
-    let front = signs_front k rest h in
-    rw (e, front.0, front.1, sign_length k, sign_size k) refl
+group_of_signs start k a rest e h = grind (arith, signs_front k rest h, sign_length, sign_size, e)
 
 opened : (k : ℕ) (rest : List ℕ) → open_text k ++ rest ≡ sign_text k ++ (open_bracket ∷ rest)
 opened k rest = append_assoc (sign_text k) (open_bracket ∷ []) rest
@@ -174,20 +160,13 @@ open_size k = omega (arith, size-append (sign_text k) (open_bracket ∷ []), sig
 pub close_size : (inner : List ℕ) (k : ℕ) → size (inner ++ close_text k) ≡ size inner + 1 + k
 close_size inner k = omega (arith, size-append inner (close_text k), sign_size k)
 
-open_no_hash : open_bracket ≢ hash
-open_no_hash e = cc
-
 only_group : (start : ℕ) (a : At) (g : Group) (q : At) → IsGroup a g q → group_at start a
     ≡ Ok (g, q)
 only_group start a g q h =
     let tail = g.text ++ (close_text h.k ++ q.text) in
-    let p = a.place + h.k + 1 in
-    let here : p ≡ g.place = omega (arith, h.place, open_size h.k) in
-    let there : p + size g.text + 1 + h.k ≡ q.place =
-    omega (arith, h.end_place, close_size g.text h.k, here) in
-    group_of_signs start h.k a (open_bracket ∷ tail) (h.split ∙ opened h.k tail) open_no_hash
-    ∙ ap (closed_group start p) (only_close h.k p g.text q.text h.first)
-    ∙ rw (there, here) refl
+    let signs = group_of_signs start h.k a (open_bracket ∷ tail) in
+    let close = only_close h.k (a.place + h.k + 1) g.text q.text h.first in
+    grind (arith, signs, close, opened h.k tail, open_size h.k, close_size g.text h.k, h)
 
 module _ (start k : ℕ) (a : At) where
   -- what a bracket opens, by where it closes
@@ -195,13 +174,7 @@ module _ (start k : ℕ) (a : At) where
       (p : ℕ) (cs : List ℕ) (o : Option (List ℕ × At)) → p ≡ a.place + k + 1
       → a.text ≡ open_text k ++ cs → Closes k p cs o → Says (group start) a (closed_group start p o)
   opened_says p cs None e split none = no_end k cs split none refl
-  opened_says p cs (Some w) e split close = record {
-    k = k;
-    split = split ∙ ap (λ xs. open_text k ++ xs) close.split;
-    first = close.first;
-    place = omega (arith, e, open_size k);
-    end_place = omega (arith, close.place, close_size w.0 k);
-  }
+  opened_says p cs (Some w) e split close = grind (arith, open_size, close_size)
 
   -- the text after the signs
   bracket_says :
@@ -213,40 +186,31 @@ module _ (start k : ℕ) (a : At) where
       cond_both (eqb c open_bracket) _ _ (Says (group start) a)
       (λ t.
       let first = eqb-true c open_bracket t in
-      let one = ap len_utf8 first in
-      let split = e ∙ ap (λ n. sign_text k ++ (n ∷ cs)) first ∙ sym (opened k cs) in
-      opened_says (a.place + k + len_utf8 c) cs _ (omega (arith, one)) split (close_says k _ cs))
-      (λ t.
-      let place = ap (λ n. parse (expected (codes "(") (a.place + n))) (sym (sign_size k)) in
-      no_bracket k c cs e bare (eqb-false c open_bracket t) place)
+      let split : a.text ≡ open_text k ++ cs = grind (arith, opened k cs) in
+      opened_says (a.place + k + len_utf8 c) cs _ (rw first refl) split (close_says k _ cs))
+      (λ t. no_bracket k c cs e bare (eqb-false c open_bracket t) (rw (sign_size k) refl))
 
 only_no_group : (start : ℕ) (a : At) (f : Fault) → IsNoGroup start a f → group_at start a
     ≡ Err f
-only_no_group start a f (ends k e d) =
-    group_of_signs start k a [] (e ∙ sym (append-nil (sign_text k))) tt ∙ ap Err (sym d)
+only_no_group start a f (ends k e d) = grind (arith, group_of_signs start k a [], append-nil, d)
 only_no_group start a f (no_bracket k c rest e bare other d) =
-    group_of_signs start k a (c ∷ rest) e bare
-    ∙ rw (ne_eqb c open_bracket other, d, sign_size k) refl
+    grind (arith, group_of_signs start k a (c ∷ rest) e bare, ne_eqb, other, d, sign_size k)
 only_no_group start a f (no_end k inner e none d) =
-    group_of_signs start k a (open_bracket ∷ inner) (e ∙ opened k inner) open_no_hash
-    ∙ ap (closed_group start (a.place + k + 1)) (only_no_close k (a.place + k + 1) inner none)
-    ∙ ap Err (sym d)
+    let signs = group_of_signs start k a (open_bracket ∷ inner) in
+    grind (arith, signs, opened k inner, only_no_close k (a.place + k + 1) inner none, d)
 
 pub agrees_group : (start : ℕ) → Agrees (group_at start) (group start)
 agrees_group start = record {
   says = λ a.
       let k = length (front_of (in_class Hash) a.text) in
       let rest = after_of (in_class Hash) a.text in
-      let split =
-      sym (front_after (in_class Hash) a.text) ∙ ap (λ xs. xs ++ rest) (all_signs a.text) in
+      let split : a.text ≡ sign_text k ++ rest = grind (arith, all_signs, front_after) in
       let bare = after_no_sign a.text in
-      subst (Says (group start) a) (sym (group_of_signs start k a rest split bare))
-      (bracket_says start k a rest split bare);
+      rw (group_of_signs start k a rest split bare) (bracket_says start k a rest split bare);
   only = λ a q g. only_group start a g q;
   only_not = only_no_group start;
 }
 
 -- no two groups begin at one place
 pub one_group : (a q r : At) (g h : Group) → IsGroup a g q → IsGroup a h r → (g ≡ h) × (q ≡ r)
-one_group a q r g h is other =
-    grind (arith, only_group 0 a g q is, only_group 0 a h r other)
+one_group a q r g h is other = grind (arith, only_group 0 a g q is, only_group 0 a h r other)

@@ -24,8 +24,8 @@ use Rattle.interpolator_syntax.proofs.LocalLemmas.{local_stay, local_strip, loca
 use Rattle.interpolator_syntax.proofs.LocalLemmas.{local_on, reads_then}
 use Rattle.interpolator_syntax.proofs.LocalityLemmas.{takes_then}
 use Rattle.interpolator_syntax.proofs.LongestLemmas.{at_same}
-use Rattle.interpolator_syntax.proofs.SimpleReaderLemmas.{reads_give, law_flag, Law, law_then}
-use Rattle.interpolator_syntax.proofs.SimpleReaderLemmas.{law_same, law_ends}
+use Rattle.interpolator_syntax.proofs.SimpleReaderLemmas.{law_of, reads_give, law_flag, Law}
+use Rattle.interpolator_syntax.proofs.SimpleReaderLemmas.{law_then, law_same, law_ends}
 use Rattle.interpolator_render.specs.declared.view.Trait.TheVariants as traits
 
 -- ---- points
@@ -48,19 +48,15 @@ module _ (s : Setting) where
 
   -- after a point, one more character is looked at
   law_points : Law s stays read_points read_points points
-  law_points = record {
-    agrees = agrees_points;
-    reads = record {
-      is_local = λ a.
-          let b = elsewhere s a in
-          local_strip s stays point a.place a.text (first_point a) (first_point b)
-          (local_stay s stays a None)
-          (λ rest e t.
-          local_strip_at s stays a point rest.place rest.text (second_point a) (second_point b)
-          (point_settled a.text rest.text e) (local_stay s stays a None)
-          (λ end f u. local_on reads_inclusive a end (takes_then a rest end t u)));
-    };
-  }
+  law_points =
+      law_of agrees_points (λ a.
+      let b = elsewhere s a in
+      local_strip s stays point a.place a.text (first_point a) (first_point b)
+      (local_stay s stays a None)
+      (λ rest e t.
+      local_strip_at s stays a point rest.place rest.text (second_point a) (second_point b)
+      (point_settled a.text rest.text e) (local_stay s stays a None)
+      (λ end f u. local_on reads_inclusive a end (takes_then a rest end t u))))
 
   law_upper :
       (inclusive : Option Bool)

@@ -1,6 +1,8 @@
 -- Parts that may be absent, and numbers: the laws of their readers.
-use Rattle.std.proofs.Common.{◌≡◌, ℕ, ◌+◌, Bool, cond, List, arith, refl, ◌∙◌, sym}
-use Rattle.std.proofs.Common.{Result, Ok, Err, Option, Some, None}
+use Rattle.interpolator_syntax.proofs.LocalLemmas.{nothing_more, Setting, stays, elsewhere, IsLocal}
+use Rattle.interpolator_syntax.proofs.LocalLemmas.{IsSettled, local_stay, local_strip, local_on}
+use Rattle.std.proofs.Common.{◌≡◌, ℕ, ◌+◌, Bool, cond, List, arith, refl, Result, Ok, Err, Option}
+use Rattle.std.proofs.Common.{Some, None}
 use Rattle.std.specs.Char.{is_ascii_digit}
 use Rattle.std.proofs.lemmas.Bool.{cond_both}
 use Rattle.interpolator_syntax.specs.At.{At, first, strip}
@@ -11,8 +13,8 @@ use Rattle.interpolator_syntax.specs.SpecTexts.{number_or, number_at, width_at, 
 use Rattle.interpolator_syntax.specs.SpecTexts.{precision_at}
 use Rattle.interpolator_syntax.specs.Ranges.{bound_or, bound_if}
 use Rattle.interpolator_syntax.specs.NumberGrammar.{Spelling, naturals, integers}
-use Rattle.interpolator_syntax.specs.GrammarParts.{Part, where_first}
-use Rattle.interpolator_syntax.specs.GrammarParts.{where_after, spelling_of, number}
+use Rattle.interpolator_syntax.specs.GrammarParts.{Part, where_first, where_after, spelling_of}
+use Rattle.interpolator_syntax.specs.GrammarParts.{number}
 use Rattle.interpolator_syntax.specs.SpecGrammar.{width, precision}
 use Rattle.interpolator_syntax.specs.ListGrammar.{bound}
 use Rattle.interpolator_syntax.specs.Faults.{Fault, ParseFault, parse, parse_place, range_bound}
@@ -26,11 +28,8 @@ use Rattle.interpolator_syntax.proofs.GrammarNumberLemmas.{integers_decide}
 use Rattle.interpolator_syntax.proofs.GrammarPartLemmas.{ok_pair, Says, Agrees, agrees_then}
 use Rattle.interpolator_syntax.proofs.GrammarPartLemmas.{agrees_same, agrees_placed, agrees_run}
 use Rattle.interpolator_syntax.proofs.GrammarPartLemmas.{stripped, strip_lies, strip_not}
-use Rattle.interpolator_syntax.proofs.LocalLemmas.{Setting, stays, elsewhere, IsSettled, IsLocal}
-use Rattle.interpolator_syntax.proofs.LocalLemmas.{local_stay, local_through, local_either}
-use Rattle.interpolator_syntax.proofs.LocalLemmas.{local_first, local_strip, local_on}
 use Rattle.interpolator_syntax.proofs.LocalityLemmas.{Takes, takes_none}
-use Rattle.interpolator_syntax.proofs.SimpleReaderLemmas.{reads_run, Law, law_same}
+use Rattle.interpolator_syntax.proofs.SimpleReaderLemmas.{law_of, reads_run, Law, law_same}
 
 -- ---- a part that is there if a character that passes comes first
 
@@ -52,19 +51,9 @@ pub law_where :
     → Law s move read other part
     → Law s move (λ a. if_passes passes read a (first a)) (λ a. if_passes passes other a (first a))
     (where_first passes part)
-law_where {s} {A} {move} passes {read} {other} {part} none law = record {
-  agrees = agrees_where_first passes read part law.agrees;
-  reads = record {
-    is_local = λ a.
-        let b = elsewhere s a in
-        let absent : IsLocal s move a (Ok (None, a)) (Ok (None, b)) =
-        (takes_none a, λ settled. ok_pair (sym none) refl) in
-        local_first s move a.place a.text (if_passes passes read a) (if_passes passes other b)
-        absent
-        (λ c rest t.
-        local_either s move a (passes c) (read a) (other b) _ _ (law.reads.is_local a) absent);
-  };
-}
+law_where {s} passes {part = part} none law =
+    let agrees = agrees_where_first passes _ part law.agrees in
+    grind (arith, agrees, law.reads.is_local, takes_none, nothing_more s)
 
 -- ---- after a point
 
@@ -79,13 +68,6 @@ abbrev told_or : {A : Type 0} → (NumberError → ℕ → ParseFault) → (p : 
     → Reader (Option A)
 told_or wrong p (Ok n) = λ a. Ok (Some n, a)
 told_or wrong p (Err kind) = λ a. Err (parse (wrong kind p))
-
--- the place of a number's fault is the one that it is made with
-record TellsPlace (wrong : NumberError → ℕ → ParseFault) : Type 0 where
-  is : (kind : NumberError) (p : ℕ) → parse_place (wrong kind p) ≡ p
-  moves :
-      (by : ℕ) (kind : NumberError) (p : ℕ)
-      → wrong kind (p + by) ≡ moved_parse_fault by (wrong kind p)
 
 module _
     {A : Type 0} (wrong : NumberError → ℕ → ParseFault) (read : List ℕ → Result A NumberError)
@@ -103,41 +85,40 @@ module _
     only_not = λ a f t. rw (h.only cs (Err t.0) t.1, t.2) refl;
   }
 
-  module _ (s : Setting) (tells : TellsPlace wrong) where
-    -- the number of what was read at a up to b, where l is the result elsewhere
-    local_told :
-        (a b : At) (l : Result (Option A × At) Fault) (o : Result A NumberError) → Takes a b
-        → (IsSettled s b.text → l ≡ told_or wrong (a.place + s.by) o (elsewhere s b))
-        → IsLocal s stays a (told_or wrong a.place o b) l
-    local_told a b l o t e = grind arith
+  -- the place of a number's fault is the one that it is made with
+  module _
+      (s : Setting) (place : (kind : NumberError) (p : ℕ) → parse_place (wrong kind p) ≡ p)
+      (moves : (by : ℕ) (kind : NumberError) (p : ℕ)
+      → wrong kind (p + by) ≡ moved_parse_fault by (wrong kind p))
+    where
+      -- the number of what was read at a up to b, where l is the result elsewhere
+      local_told :
+          (a b : At) (l : Result (Option A × At) Fault) (o : Result A NumberError) → Takes a b
+          → (IsSettled s b.text → l ≡ told_or wrong (a.place + s.by) o (elsewhere s b))
+          → IsLocal s stays a (told_or wrong a.place o b) l
+      local_told a b l o t e = grind (arith, place, moves)
 
-    module _
-        (tell : ℕ → Result A NumberError → Reader (Option A))
-        (same : (p : ℕ) (o : Result A NumberError) (a : At) → tell p o a ≡ told_or wrong p o a)
-      where
-        abbrev number_from : (start : ℕ) → Reader (Option A)
-        number_from start =
-            λ a. (read_run (in_class Number) start >>> λ cs. tell a.place (read cs)) a
+      module _
+          (tell : ℕ → Result A NumberError → Reader (Option A))
+          (same : (p : ℕ) (o : Result A NumberError) (a : At) → tell p o a ≡ told_or wrong p o a)
+        where
+          abbrev number_from : (start : ℕ) → Reader (Option A)
+          number_from start =
+              λ a. (read_run (in_class Number) start >>> λ cs. tell a.place (read cs)) a
 
-        -- a run of digits and `-`, and what it spells, with its place
-        law_number :
-            Law s stays (number_from s.start) (number_from (s.start + s.by))
-            (number spelling wrong s.start)
-        law_number = record {
-          agrees =
-              agrees_placed (λ p.
-              agrees_then (agrees_run Number s.start) (λ cs.
-              agrees_same (same p (read cs)) (agrees_spelled p cs)));
-          reads = record {
-            is_local = λ a.
+          -- a run of digits and `-`, and what it spells, with its place
+          law_number :
+              Law s stays (number_from s.start) (number_from (s.start + s.by))
+              (number spelling wrong s.start)
+          law_number = record {
+            agrees =
+                agrees_placed (λ p.
+                agrees_then (agrees_run Number s.start) (λ cs.
+                agrees_same (same p (read cs)) (agrees_spelled p cs)));
+            reads =
                 let digits = reads_run s (in_class Number) in
-                local_through s stays stays a _ _ (λ cs. tell a.place (read cs))
-                (λ cs. tell (a.place + s.by) (read cs)) (digits.is_local a)
-                (λ cs b l t e. rw (same a.place (read cs) b)
-                (local_told a b l (read cs) t
-                (λ settled. e settled ∙ same (a.place + s.by) (read cs) (elsewhere s b))));
-          };
-        }
+                grind (arith, digits, same, local_told);
+          }
 
 -- ---- widths, precisions and bounds
 
@@ -146,32 +127,23 @@ module _ (s : Setting) where
   law_width =
       law_same (λ a. grind arith) (λ a. grind arith)
       (law_where is_ascii_digit refl
-      (law_number invalid_width natural naturals naturals_decide s
-      (record { is = λ kind p. refl; moves = λ by kind p. refl })
-      (number_or invalid_width) (λ p o a. grind arith)))
+      (law_number invalid_width natural naturals naturals_decide s (λ kind p. refl)
+      (λ by kind p. refl) (number_or invalid_width) (λ p o a. grind arith)))
 
   pub law_bound : Law s stays (bound_if s.start) (bound_if (s.start + s.by)) (bound s.start)
   law_bound =
       law_same (λ a. grind arith) (λ a. grind arith)
       (law_where (in_class Number) refl
-      (law_number range_bound integer integers integers_decide s
-      (record { is = λ kind p. refl; moves = λ by kind p. refl })
-      bound_or (λ p o a. grind arith)))
+      (law_number range_bound integer integers integers_decide s (λ kind p. refl)
+      (λ by kind p. refl) bound_or (λ p o a. grind arith)))
 
   pub law_precision :
       Law s stays (precision_at s.start) (precision_at (s.start + s.by)) (precision s.start)
   law_precision =
       let number =
-      law_number invalid_precision natural naturals naturals_decide s
-      (record { is = λ kind p. refl; moves = λ by kind p. refl })
-      (number_or invalid_precision) (λ p o a. grind arith) in
-      record {
-        agrees = agrees_if_point _ _ number.agrees;
-        reads = record {
-          is_local = λ a.
-              local_strip s stays point a.place a.text
-              (if_point (number_at invalid_precision s.start) a)
-              (if_point (number_at invalid_precision (s.start + s.by)) (elsewhere s a))
-              (local_stay s stays a None) (λ rest e t. local_on number.reads a rest t);
-        };
-      }
+      law_number invalid_precision natural naturals naturals_decide s (λ kind p. refl)
+      (λ by kind p. refl) (number_or invalid_precision) (λ p o a. grind arith) in
+      law_of (agrees_if_point _ _ number.agrees) (λ a.
+      local_strip s stays point a.place a.text (if_point (number_at invalid_precision s.start) a)
+      (if_point (number_at invalid_precision (s.start + s.by)) (elsewhere s a))
+      (local_stay s stays a None) (λ rest e t. local_on number.reads a rest t))

@@ -1,8 +1,8 @@
 -- Readers that agree with parts of a text, and how they are chained.
-use Rattle.std.proofs.Common.{◌≡◌, ◌≢◌, ℕ, ◌+◌, List, [], ◌∷◌, arith, refl, ap, ◌∙◌, sym, subst}
-use Rattle.std.proofs.Common.{Result, Ok, Err, Option, Some, None, eqb-true}
+use Rattle.std.proofs.Common.{◌≡◌, ℕ, ◌+◌, List, [], ◌∷◌, arith, refl, sym, subst, Result, Ok, Err}
+use Rattle.std.proofs.Common.{Option, Some, None, eqb-true}
 use Rattle.std.specs.Char.{len_utf8}
-use Rattle.interpolator_syntax.specs.At.{At, size, first, first_of, strip, strip_of, after}
+use Rattle.interpolator_syntax.specs.At.{At, size, first, strip, after}
 use Rattle.interpolator_syntax.specs.Classes.{front_of, in_class}
 use Rattle.interpolator_syntax.specs.Readers.{Reader, ◌>>=◌ as ◌>>>◌, give, letter as read_letter}
 use Rattle.interpolator_syntax.specs.Readers.{flag as read_flag, run_before, run as read_run}
@@ -68,8 +68,7 @@ lies_here p c cs = record { split = refl; place = omega arith }
 pub lies_cons :
     (p c : ℕ) (cs ds : List ℕ) (q : At) → Lies (from_place (p + len_utf8 c) cs) ds q
     → Lies (from_place p (c ∷ cs)) (c ∷ ds) q
-lies_cons p c cs ds q h =
-    record { split = ap (λ xs. c ∷ xs) h.split; place = omega (arith, h.place) }
+lies_cons p c cs ds q h = grind (arith, h)
 
 -- the text after characters at a
 pub lies_end : (a : At) (cs : List ℕ) (q : At) → Lies a cs q
@@ -81,18 +80,15 @@ past_end : (a : At) (c : ℕ) (q : At) → Lies a (c ∷ []) q
 past_end a c q h = at_same (omega (arith, h.place)) refl
 
 pub first_lies : (a : At) (c : ℕ) (q : At) → Lies a (c ∷ []) q → first a ≡ Some (c, q)
-first_lies a c q h = ap (first_of a.place) h.split ∙ ap (λ (b : At). Some (c, b)) (past_end a c q h)
+first_lies a c q h = grind (arith, h.split, past_end a c q h)
 
 -- what `strip` returns
 abbrev pub Stripped : (c : ℕ) (a : At) → Option At → Type 0
 Stripped c a (Some q) = Lies a (c ∷ []) q
 Stripped c a None = NotFirst c a.text
 
-stripped_at : (c p : ℕ) (cs : List ℕ) → Stripped c (from_place p cs) (strip_of c p cs)
-stripped_at c p cs = grind (arith, eqb-true)
-
 pub stripped : (c : ℕ) (a : At) → Stripped c a (strip c a)
-stripped c a = stripped_at c a.place a.text
+stripped c a = grind (arith, eqb-true)
 
 pub strip_lies : (c : ℕ) (a q : At) → Lies a (c ∷ []) q → strip c a ≡ Some q
 strip_lies c a q h = grind (arith, h.split, past_end a c q h)
@@ -120,15 +116,9 @@ run_says :
     (class : Class) (start : ℕ) (a : At) (cs : List ℕ) (p : ℕ) (ds : List ℕ)
     → IsRun class a cs (from_place p ds)
     → Says (run class start) a (run_before start cs (from_place p ds) ds)
-run_says class start a cs p [] h = (cs, from_place p [], h, refl, refl)
-run_says class start a cs p (d ∷ ds) h = (h, λ e. cc)
-
-more_after :
-    (start : ℕ) (cs : List ℕ) (p : ℕ) (ds : List ℕ) → ds ≢ []
-    → run_before start cs (from_place p ds) ds ≡ Ok (cs, from_place p ds)
-more_after start cs p ds h = grind (arith, h)
+run_says class start a cs p ds h = grind arith
 
 pub agrees_run : (class : Class) (start : ℕ)
     → Agrees (read_run (in_class class) start) (run class start)
 agrees_run class start =
-    grind (arith, run_says class start, run_is class, longest_front (in_class class), more_after start)
+    grind (arith, run_says class start, run_is class, longest_front (in_class class))

@@ -1,7 +1,7 @@
 -- The pieces that the reader finds are each of the first kind that its place allows.
 use Rattle.std.proofs.Common.{rules, ◌≡◌, ◌≢◌, ℕ, zero, suc, ◌+◌, ◌≤◌, List, [], ◌∷◌, ◌++◌, length}
-use Rattle.std.proofs.Common.{arith, refl, ap, ◌∙◌, sym, subst, Result, Ok, Option, Some, None}
-use Rattle.std.proofs.Common.{append_assoc, append-nil, eqb-true}
+use Rattle.std.proofs.Common.{arith, refl, ap, sym, Result, Ok, Option, Some, None, append_assoc}
+use Rattle.std.proofs.Common.{append-nil, eqb-true}
 use Rattle.std.proofs.lemmas.Bool.{eqb-false, cond_both}
 use Rattle.interpolator_syntax.specs.At.{At, size, strip, strip_of}
 use Rattle.interpolator_syntax.specs.Classes.{open_brace, close_brace}
@@ -20,8 +20,7 @@ use Rattle.interpolator_syntax.proofs.ReaderLemmas.{argument_takes}
 
 -- stripping a text that begins with the character c
 strip_none : (c p : ℕ) (cs : List ℕ) → strip_of c p cs ≡ None → NotFirst c cs
-strip_none c p [] e ds h = cc
-strip_none c p (d ∷ more) e ds h = grind (arith, eqb-false)
+strip_none c p cs e ds h = grind (arith, eqb-false)
 
 -- a step returns the first piece, and the text after it
 abbrev IsFirstStep : (p c : ℕ) → List ℕ → Step → Type 0
@@ -53,8 +52,7 @@ NotClosed b = (x : Argument) (end : ℕ) (more : List ℕ)
 ends_elsewhere :
     (b : At) (x : Argument) (q : At) → argument_at b ≡ Ok (x, q) → NotFirst close_brace q.text
     → NotClosed b
-ends_elsewhere b x q reads no_close y end more h =
-    no_close more (ap (λ (a : At). a.text) (same_ok (sym reads ∙ h)).1)
+ends_elsewhere b x q reads no_close y end more h = grind (arith, no_close more, same_ok, reads, h)
 
 -- what is not closed takes all the rest
 unclosed_first :
@@ -77,9 +75,8 @@ argument_step_first :
     → strip close_brace q ≡ o
     → IsFirstStep p open_brace cs (argument_step p (from_place (p + 1) cs) x q o)
 argument_step_first p cs x q None no_more reads e =
-    let b = from_place (p + 1) cs in
     let none = strip_none close_brace q.place q.text e in
-    let first = unclosed_first p cs no_more (ends_elsewhere b x q reads none) in (
+    let elsewhere = ends_elsewhere (from_place (p + 1) cs) x q reads none in (
       refl,
       sym (append-nil (open_brace ∷ cs)),
       record {
@@ -91,7 +88,7 @@ argument_step_first p cs x q None no_more reads e =
         reads = reads;
         not_closed = none;
       },
-      first,
+      unclosed_first p cs no_more elsewhere,
       omega arith,
     )
 argument_step_first p cs x q (Some rest) no_more reads e =
@@ -100,13 +97,9 @@ argument_step_first p cs x q (Some rest) no_more reads e =
     let close = strip_after close_brace q.place q.text rest e in
     let inner = front.front in
     let whole : cs ≡ inner ++ (close_brace ∷ rest.text) = rw (← close.0) front.split in
-    let text = closed_text b rest inner whole in
-    let closed_inner = inner ++ (close_brace ∷ []) in
-    let parts : cs ≡ closed_inner ++ rest.text =
-    whole ∙ sym (append_assoc inner (close_brace ∷ []) rest.text) in
-    let ends = size-append inner (close_brace ∷ []) in (
+    let text = closed_text b rest inner whole in (
       refl,
-      rw text (ap (λ xs. open_brace ∷ xs) parts),
+      rw (text, append_assoc) (ap (λ xs. open_brace ∷ xs) whole),
       record {
         inner = inner;
         in_braces = text;
@@ -114,7 +107,7 @@ argument_step_first p cs x q (Some rest) no_more reads e =
         reads = rw (← whole, ← close.0) reads;
       },
       closed_first p cs no_more,
-      omega (arith, ap size text, ends, close.1, front.place),
+      omega (arith, ap size text, size-append inner (close_brace ∷ []), close.1, front.place),
     )
 
 argument_first :
@@ -137,23 +130,13 @@ step_first p c cs =
 are_pieces :
     (most p : ℕ) (cs : List ℕ) → length cs ≤ most
     → IsPieces (from_place p cs) (pieces (from_place p cs))
-are_pieces most p [] h = subst (IsPieces (from_place p [])) (sym (pieces_none p)) refl
+are_pieces most p [] h = rw (pieces_none p) refl
 are_pieces zero p (c ∷ cs) h = absurd (omega arith)
 are_pieces (suc most) p (c ∷ cs) h =
     let s = piece_from p c (past p c cs) in
-    let first = step_first p c cs in
     let shorter = piece_within p c (past p c cs) in
-    let more = are_pieces most s.rest.place s.rest.text (omega arith) in
-    let there =
-    subst (λ q. IsPieces (from_place q s.rest.text) (pieces s.rest)) first.4 more in
-    subst (IsPieces (from_place p (c ∷ cs))) (sym (pieces_next p c cs)) (
-      s.rest.text,
-      record {
-        stands = record { place = first.0; split = first.1; fits = first.2 };
-        first = λ y r k. first.3 y.kind r (stands_shown p c cs y r k);
-      },
-      there,
-    )
+    let more = are_pieces most s.rest.place s.rest.text in
+    grind (arith, pieces_next p c cs, step_first p c cs, stands_shown p c cs, shorter, more)
 
 -- the pieces that the reader finds are pieces of the text
 pub pieces_are : (a : At) → IsPieces a (pieces a)

@@ -1,11 +1,10 @@
 -- The text of a spec is its parts, one after the other, and the reverse; and what its readers keep.
 use Rattle.std.proofs.Common.{◌≡◌, ℕ, ◌+◌, true, eqb, eqb-true, List, [], ◌∷◌, ◌++◌, arith, refl}
-use Rattle.std.proofs.Common.{ap, ◌∙◌, sym, Result, Ok, Option, None, inl, inr, ◌||◌, ne_eqb}
+use Rattle.std.proofs.Common.{◌∙◌, sym, Result, Ok, Option, None, inl, inr, ◌||◌, ne_eqb}
 use Rattle.std.specs.Char.{len_utf8}
 use Rattle.interpolator_render.specs.declared.view.Alignment.{Alignment}
 use Rattle.interpolator_syntax.specs.At.{At}
-use Rattle.interpolator_syntax.specs.Classes.{is_alignment, hash, zero_digit, open_brace}
-use Rattle.interpolator_syntax.specs.Classes.{close_brace}
+use Rattle.interpolator_syntax.specs.Classes.{is_alignment, hash, zero_digit, close_brace}
 use Rattle.interpolator_syntax.specs.SpecTexts.{Request, plain_display, alignment_letter}
 use Rattle.interpolator_syntax.specs.SpecTexts.{sign_letter, spec_from_sign, spec_from_alignment}
 use Rattle.interpolator_syntax.specs.SpecTexts.{fill_or_fault, fill_of, fill_at, spec_parts}
@@ -21,13 +20,13 @@ use Rattle.interpolator_syntax.proofs.GrammarOptionLemmas.{law_width, law_precis
 use Rattle.interpolator_syntax.proofs.GrammarPartLemmas.{ok_pair, Says, Agrees, agrees_then}
 use Rattle.interpolator_syntax.proofs.GrammarPartLemmas.{lies_here}
 use Rattle.interpolator_syntax.proofs.GrammarTraitLemmas.{law_trait}
-use Rattle.interpolator_syntax.proofs.LocalLemmas.{Setting, still, step_moved, stays, elsewhere}
-use Rattle.interpolator_syntax.proofs.LocalLemmas.{IsSettled, nothing_more, IsLocal, local_stay}
-use Rattle.interpolator_syntax.proofs.LocalLemmas.{local_either, local_then}
+use Rattle.interpolator_syntax.proofs.LocalLemmas.{Setting, still, stays, elsewhere, IsSettled}
+use Rattle.interpolator_syntax.proofs.LocalLemmas.{nothing_more, IsLocal, local_stay, local_either}
+use Rattle.interpolator_syntax.proofs.LocalLemmas.{local_then}
 use Rattle.interpolator_syntax.proofs.LocalityLemmas.{stands, takes_none, takes_one}
 use Rattle.interpolator_syntax.proofs.LongestLemmas.{at_same}
-use Rattle.interpolator_syntax.proofs.SimpleReaderLemmas.{Law, law_then, law_ends, law_letter}
-use Rattle.interpolator_syntax.proofs.SimpleReaderLemmas.{law_flag}
+use Rattle.interpolator_syntax.proofs.SimpleReaderLemmas.{law_of, Law, law_then, law_ends}
+use Rattle.interpolator_syntax.proofs.SimpleReaderLemmas.{law_letter, law_flag}
 use Rattle.interpolator_render.specs.declared.view.Alignment.TheVariants as alignments
 use Rattle.interpolator_render.specs.declared.view.Sign.TheVariants as signs
 
@@ -63,7 +62,7 @@ module _ (s : Setting) where
 fills_here :
     (p c d : ℕ) (ds : List ℕ) → is_alignment d ≡ true
     → Fills c (from_place p (c ∷ d ∷ ds)) (from_place (p + len_utf8 c) (d ∷ ds))
-fills_here p c d ds t = (lies_here p c (d ∷ ds), (d, (ds, refl), t))
+fills_here p c d ds t = grind (arith, lies_here)
 
 fill_says : (p : ℕ) (cs : List ℕ) → Says fill (from_place p cs) (fill_of (from_place p cs) cs)
 fill_says p [] = inr (λ c d more e. cc, refl, refl)
@@ -72,15 +71,11 @@ fill_says p (c ∷ d ∷ ds) = grind (arith, eqb-true, fills_here p c d ds)
 
 -- in front of an alignment
 fill_read : (a q : At) (c : ℕ) → Fills c a q → fill_at a ≡ fill_or_fault a c q
-fill_read a q c h =
-    ap (fill_of a) (h.0.split ∙ ap (λ cs. c ∷ cs) h.1.1.1)
-    ∙ rw h.1.2 (ap (fill_or_fault a c) (at_same (omega (arith, h.0.place)) (sym h.1.1.1)))
+fill_read a q c h = grind (arith, h.0.split, h.1.1.1, h.0.place, at_same)
 
 none_read : (p : ℕ) (cs : List ℕ) → NoneFills cs
     → fill_of (from_place p cs) cs ≡ Ok (None, from_place p cs)
-none_read p [] h = refl
-none_read p (c ∷ []) h = refl
-none_read p (c ∷ d ∷ ds) h = rw (h c d ds refl) refl
+none_read p cs h = grind (arith, h)
 
 agrees_fill : Agrees fill_at fill
 agrees_fill = grind (arith, fill_says, fill_read, none_read, ok_pair, ne_eqb)
@@ -97,22 +92,13 @@ module _ (start : ℕ) where
   Specs a o = Says (spec start) a o
 
   spec_says : (p : ℕ) (cs : List ℕ) → Specs (from_place p cs) (spec_of start (from_place p cs) cs)
-  spec_says p [] = inl (inl (omega arith), refl, refl)
-  spec_says p (c ∷ []) = inl (inl (omega arith), refl, refl)
-  spec_says p (c ∷ d ∷ ds) =
-      grind (arith, eqb-true, agrees_parts.says (from_place p (c ∷ d ∷ ds)))
+  spec_says p cs = grind (arith, eqb-true, agrees_parts.says (from_place p cs))
 
   unread : (a : At) (cs : List ℕ) → IsUnread cs → spec_of start a cs ≡ Ok (plain_display, a)
-  unread a [] h = refl
-  unread a (c ∷ []) h = refl
-  unread a (c ∷ d ∷ ds) h = grind (arith, h)
+  unread a cs h = grind arith
 
   parts_read : (a : At) (cs : List ℕ) → ¬ IsUnread cs → spec_of start a cs ≡ spec_parts start a
-  parts_read a [] h = absurd (h (inl (omega arith)))
-  parts_read a (c ∷ []) h = absurd (h (inl (omega arith)))
-  parts_read a (c ∷ d ∷ ds) h =
-      let no_close = ne_eqb c close_brace (λ e. h (inr (d ∷ ds, ap (λ n. n ∷ d ∷ ds) e))) in
-      rw no_close refl
+  parts_read a cs h = grind (arith, eqb-true, h)
 
   agrees_spec : Agrees (spec_after start) (spec start)
   unfolding spec_after
@@ -133,15 +119,7 @@ module _ (s : Setting) where
       (p c d : ℕ) (ds : List ℕ)
       → IsLocal s stays (stands p (c ∷ d ∷ ds)) (fill_at (stands p (c ∷ d ∷ ds)))
       (fill_at (elsewhere s (stands p (c ∷ d ∷ ds))))
-  local_fill p c d ds =
-      let a = stands p (c ∷ d ∷ ds) in
-      local_either s stays a (is_alignment d) _ _ _ _
-      (local_either s stays a (eqb c open_brace) _ _ _ _
-      (tt, λ from. omega arith, λ from. omega arith, λ none. refl) (
-        takes_one p c (d ∷ ds),
-        λ t. ok_pair refl (at_same (step_moved p s.by (len_utf8 c)) refl),
-      ))
-      (local_stay s stays a None)
+  local_fill p c d ds = grind (arith, takes_one p c (d ∷ ds), local_stay, at_same, ok_pair)
 
   -- a closing brace that is not passed is the first character, or the second one
   one_left :
@@ -153,24 +131,17 @@ module _ (s : Setting) where
       (p : ℕ) (cs : List ℕ)
       → IsLocal s (moved_request s.by) (stands p cs) (spec_of s.start (stands p cs) cs)
       (spec_of (s.start + s.by) (elsewhere s (stands p cs)) (cs ++ s.more))
-  local_spec p [] =
-      let b = elsewhere s (stands p []) in
-      (takes_none (stands p []), λ t. ap (spec_of (s.start + s.by) b) (nothing_more s t))
-  local_spec p (c ∷ []) =
-      let a = stands p (c ∷ []) in (takes_none a, one_left c (elsewhere s a))
+  local_spec p [] = grind (arith, takes_none, nothing_more s)
+  local_spec p (c ∷ []) = grind (arith, takes_none, one_left c)
   local_spec p (c ∷ d ∷ ds) =
       let a = stands p (c ∷ d ∷ ds) in
-      local_either s (moved_request s.by) a (eqb c close_brace) _ _ _ _
-      (local_stay s (moved_request s.by) a plain_display)
-      (local_then s stays (moved_request s.by) a _ _ (spec_from_alignment s.start)
-      (spec_from_alignment (s.start + s.by)) (local_fill p c d ds)
+      let move = moved_request s.by in
+      local_either s move a (eqb c close_brace) _ _ _ _ (local_stay s move a plain_display)
+      (local_then s stays move a _ _ _ (spec_from_alignment (s.start + s.by)) (local_fill p c d ds)
       (λ filled b t.
       let law = law_from_alignment s filled in law.reads.is_local b))
 
   pub law_spec :
       Law s (moved_request s.by) (spec_after s.start) (spec_after (s.start + s.by)) (spec s.start)
   unfolding spec_after
-  law_spec = record {
-    agrees = agrees_spec s.start;
-    reads = record { is_local = λ a. local_spec a.place a.text };
-  }
+  law_spec = law_of (agrees_spec s.start) (λ a. local_spec a.place a.text)

@@ -1,7 +1,7 @@
 -- A trait is its text, and the reverse; why a text begins none; and its reader is local.
 use Rattle.std.proofs.Common.{◌≡◌, ◌≢◌, ℕ, ◌+◌, Bool, true, false, eqb, All, List, [], ◌∷◌, arith}
-use Rattle.std.proofs.Common.{refl, ap, ◌∙◌, sym, Result, Ok, Err, Option, Some, inl, inr, eqb-true}
-use Rattle.std.proofs.Common.{get_or, ltb, cond, codes, ne_eqb, ltb-true}
+use Rattle.std.proofs.Common.{refl, Result, Ok, Err, Option, Some, eqb-true, get_or, ltb, cond}
+use Rattle.std.proofs.Common.{codes, ne_eqb, ltb-true}
 use Rattle.std.proofs.lemmas.Grind.{common_steps}
 use Rattle.std.specs.Char.{len_utf8}
 use Rattle.std.proofs.lemmas.Bool.{eqb-false, cond_both}
@@ -20,10 +20,9 @@ use Rattle.interpolator_syntax.proofs.GrammarPartLemmas.{ok_pair, Says, Agrees, 
 use Rattle.interpolator_syntax.proofs.GrammarPartLemmas.{lies_cons, Stripped, stripped, strip_not}
 use Rattle.interpolator_syntax.proofs.CaseLemmas.{none_some, some_same}
 use Rattle.interpolator_syntax.proofs.LocalLemmas.{Setting, stays, elsewhere, IsLocal, local_stay}
-use Rattle.interpolator_syntax.proofs.LocalLemmas.{local_past, local_either, local_first}
-use Rattle.interpolator_syntax.proofs.LocalLemmas.{local_strip}
+use Rattle.interpolator_syntax.proofs.LocalLemmas.{local_past, local_first, local_strip}
 use Rattle.interpolator_syntax.proofs.LocalityLemmas.{Takes}
-use Rattle.interpolator_syntax.proofs.SimpleReaderLemmas.{Law}
+use Rattle.interpolator_syntax.proofs.SimpleReaderLemmas.{law_of, Law}
 use Rattle.interpolator_render.specs.declared.view.Trait.TheVariants as traits
 use Rattle.interpolator_render.specs.declared.view.HexDebug.TheVariants as hex_debugs
 
@@ -73,8 +72,8 @@ module _ (start : ℕ) (flagged : Bool) where
     no_trait_begins :
         None_of (codes "}?oxXbeEip") → trait_from here c past ≡ Err (parse (expected (codes "}") p))
     no_trait_begins h =
-        rw (apart 0 refl, apart 3 refl, apart 4 refl, apart 1 refl, apart 2 refl, apart 5 refl)
-        (rw (apart 6 refl, apart 7 refl, apart 8 refl, apart 9 refl) refl)
+        rw (apart 0 refl, apart 3 refl, apart 4 refl, apart 1 refl, apart 2 refl)
+        (rw (apart 5 refl, apart 6 refl, apart 7 refl, apart 8 refl, apart 9 refl) refl)
       where
         apart : (i : ℕ) → ltb i 10 ≡ true → eqb c (get_or (codes "}?oxXbeEip") i 0) ≡ false
         apart i k =
@@ -100,16 +99,8 @@ module _ (start : ℕ) (flagged : Bool) where
   agrees_trait : Agrees (trait_at start flagged) (trait_part start flagged)
   agrees_trait = record {
     says = λ a. trait_shows a.place a.text;
-    only = λ a q x t. elim t [
-      | inl s ↦ display_read a s.0 ∙ ok_pair (sym s.1) (sym s.2)
-      | inr s ↦ named_read a x s.0 q s.1 s.2 s.3
-    ];
-    only_not = λ a f t. elim t [
-      | inl s ↦ rw (s.0, s.1, s.2) refl
-      | inr (inl s) ↦ rw (s.0.1, s.1) refl
-      | inr (inr s) ↦
-          ap (reads a.place) s.1.1 ∙ no_trait_begins a.place s.0 s.1.0 s.2 ∙ ap Err (sym s.3)
-    ];
+    only = λ a q x t. grind (arith, display_read a, named_read a x);
+    only_not = λ a f t. grind (arith, no_trait_begins a.place);
   }
 
 -- ---- its reader is local
@@ -136,22 +127,9 @@ module _ (s : Setting) where
       (flagged : Bool)
       → Law s stays (trait_at s.start flagged) (trait_at (s.start + s.by) flagged)
       (trait_part s.start flagged)
-  law_trait flagged = record {
-    agrees = agrees_trait s.start flagged;
-    reads = record {
-      is_local = λ a.
-          let display = trait_alone traits.Display in
-          local_first s stays a.place a.text (trait_first s.start flagged a)
-          (trait_first (s.start + s.by) flagged (elsewhere s a))
-          (local_either s stays a flagged _ _ _ _
-          (tt, λ from. omega arith, λ from. omega arith, λ none. refl)
-          (local_stay s stays a display))
-          (λ c rest t.
-          local_either s stays a (eqb c close_brace) _ _ _ _ (local_stay s stays a display)
-          (local_either s stays a (eqb c lower_x) _ _ _ _
-          (local_hexadecimal a rest t traits.LowerHex hex_debugs.Lower)
-          (local_either s stays a (eqb c upper_x) _ _ _ _
-          (local_hexadecimal a rest t traits.UpperHex hex_debugs.Upper)
-          (local_lettered a rest t c (trait_letter c)))));
-    };
-  }
+  law_trait flagged =
+      law_of (agrees_trait s.start flagged) (λ a.
+      let display = local_stay s stays a (trait_alone traits.Display) in
+      local_first s stays a.place a.text (trait_first s.start flagged a)
+      (trait_first (s.start + s.by) flagged (elsewhere s a)) (grind (arith, display))
+      (λ c rest t. grind (arith, display, local_hexadecimal a rest t, local_lettered a rest t c)))

@@ -1,15 +1,13 @@
 -- Where a group closes.
 use Rattle.std.proofs.Common.{◌≡◌, ℕ, suc, ◌+◌, ◌-◌, ◌<◌, ◌≤◌, List, [], ◌∷◌, ◌++◌, length, take}
-use Rattle.std.proofs.Common.{arith, refl, ap, ◌∙◌, sym, subst, Option, Some, None, append_assoc}
-use Rattle.std.proofs.Common.{append-nil, length-append, eqb-true, option_map, chars, IsUtf8}
-use Rattle.std.proofs.Common.{encode_utf8_all}
+use Rattle.std.proofs.Common.{arith, refl, ◌∙◌, Option, Some, None, append_assoc, append-nil}
+use Rattle.std.proofs.Common.{length-append, eqb-true, option_map, chars, IsUtf8}
 use Rattle.std.proofs.lemmas.List.{append_cancel_right}
 use Rattle.std.proofs.lemmas.Str.{encodes-chars, encodes-append, IsUtf8-take, chars-append}
 use Rattle.std.specs.Char.{len_utf8}
-use Rattle.interpolator_syntax.specs.At.{At, size, strip, strip_of, after}
+use Rattle.interpolator_syntax.specs.At.{At, size, strip_of, after}
 use Rattle.interpolator_syntax.specs.Classes.{front_of, after_of, in_class, hash, close_bracket}
-use Rattle.interpolator_syntax.specs.Groups.{after_hashes, here_or_later, close_from, with_after}
-use Rattle.interpolator_syntax.specs.Groups.{next_close}
+use Rattle.interpolator_syntax.specs.Groups.{after_hashes, here_or_later, close_from, next_close}
 use Rattle.interpolator_syntax.specs.declared.class.Class.TheVariants.{Hash, Enclosed}
 use Rattle.interpolator_syntax.proofs.CharacterLemmas.{size-chars}
 use Rattle.interpolator_syntax.proofs.FrontLemmas.{IsRest, front_after, rest_boundary, cut_at_rest}
@@ -69,36 +67,22 @@ none_after k p q cs rest h e = grind arith
 
 pub close_none : (k : ℕ) (a : At) → next_close a ≡ None → close_from k a.place a.text ≡ None
 close_none k a e =
-    close_past k a.place a.text
-    ∙ ap (after_front (enclosed a.text))
-    (none_after k (a.place + size (enclosed a.text)) (a.place + size (enclosed a.text)) a.text
-    (after_of (in_class Enclosed) a.text) (front_longest (in_class Enclosed) a.text)
-    (no_pair (after (in_class Enclosed) a) (strip close_bracket (after (in_class Enclosed) a)) e))
-  where
-    no_pair : (b : At) (o : Option At) → with_after b o ≡ None → o ≡ None
-    no_pair b o h = grind arith
+    let longest = front_longest (in_class Enclosed) a.text in
+    grind (arith, close_past k a.place a.text, none_after, longest)
 
--- a bracket at b, followed by r
-pub record Bracket (b r : At) : Type 0 where
+-- the next bracket in the text at h is at b, followed by r
+pub record Next (h b r : At) : Type 0 where
+  pub is : b ≡ after (in_class Enclosed) h
   pub text : b.text ≡ close_bracket ∷ r.text
   pub closes : (k : ℕ) → close_from k b.place b.text
       ≡ here_or_later close_bracket (after_hashes k r.place r.text) (close_from k r.place r.text)
-
--- the next bracket in the text at h
-pub record Next (h b r : At) : Type 0 where
-  pub is : b ≡ after (in_class Enclosed) h
-  pub bracket : Bracket b r
 
 pub next_is : (h b r : At) → next_close h ≡ Some (b, r) → Next h b r
 next_is h b r e = grind (arith, none_some, eqb-true, some_same)
 
 -- the text after it is shorter
 pub next_shorter : (h b r : At) → next_close h ≡ Some (b, r) → length r.text < length h.text
-next_shorter h b r e =
-    let n = next_is h b r e in
-    let whole = ap length (front_after (in_class Enclosed) h.text) in
-    let there = ap (λ (x : At). length x.text) n.is in
-    omega (arith, whole, there, ap length n.bracket.text, length-append {A = ℕ})
+next_shorter h b r e = grind (arith, next_is, front_after (in_class Enclosed) h.text, length-append)
 
 -- ---- the search for it
 
@@ -117,28 +101,17 @@ reached_end k a h g e = grind (arith, close_none)
 pub reached_bracket : (k : ℕ) (a h b r : At) → Reached k a h → next_close h ≡ Some (b, r)
     → Reached k a b
 reached_bracket k a h b r g e =
-    let n = next_is h b r e in
-    let past = after (in_class Enclosed) h in
-    subst (Reached k a) (sym n.is) (record {
+    let n = next_is h b r e in rw n.is record {
       front = g.front ++ enclosed h.text;
       split = rw (append_assoc, front_after (in_class Enclosed) h.text) g.split;
-      closes =
-          sym (front_then g.front (enclosed h.text) (close_from k past.place past.text))
-          ∙ ap (after_front g.front) (sym (close_past k h.place h.text)) ∙ g.closes;
-    })
+      closes = grind (arith, front_then, close_past k h.place h.text, g.closes);
+    }
 
 -- and passed, if too few signs follow it
 pub reached_past : (k : ℕ) (a h b r : At) → Reached k a h → next_close h ≡ Some (b, r)
     → after_hashes k r.place r.text ≡ None → Reached k a r
 reached_past k a h b r g e none =
-    let n = next_is h b r e in
-    let there = reached_bracket k a h b r g e in record {
-      front = there.front ++ (close_bracket ∷ []);
-      split = rw (append_assoc, ← n.bracket.text) there.split;
-      closes =
-          sym (one_more there.front close_bracket (close_from k r.place r.text))
-          ∙ (rw (n.bracket.closes k, none) at there.closes);
-    }
+    grind (arith, next_is h b r e, reached_bracket k a h b r g e, append_assoc, one_more)
 
 -- the text closes there, if the signs are there
 pub reached_close :
@@ -148,20 +121,16 @@ pub reached_close :
 reached_close k a h b r q inner g e signs cut =
     let n = next_is h b r e in
     let there = reached_bracket k a h b r g e in
-    ap (λ xs. Some (xs, q)) (append_cancel_right inner there.front b.text (cut ∙ there.split)
-    ∙ sym (append-nil there.front))
-    ∙ (rw (n.bracket.closes k, signs) at there.closes)
+    let same = append_cancel_right inner there.front b.text (cut ∙ there.split) in
+    grind (arith, same, there.closes, n.closes k, signs, append-nil there.front)
 
 -- ---- a text in front of a rest of it
 
 -- a rest by its characters is a rest by its bytes
 pub rest_of_chars : (text rest front : List ℕ) → IsUtf8 text → IsUtf8 rest → chars text
     ≡ front ++ chars rest → IsRest text rest
-rest_of_chars text rest front u v e = (
-  encode_utf8_all front,
-  sym (encodes-chars text u) ∙ ap encode_utf8_all e ∙ encodes-append front (chars rest)
-      ∙ ap (λ xs. encode_utf8_all front ++ xs) (encodes-chars rest v),
-)
+rest_of_chars text rest front u v e =
+    grind (arith, encodes-chars, encodes-append front (chars rest))
 
 pub rest_short : (text rest : List ℕ) → IsRest text rest → length rest ≤ length text
 rest_short text rest r = grind (arith, length-append)
@@ -170,8 +139,5 @@ pub chars_of_cut :
     (text rest front : List ℕ) → IsUtf8 text → IsUtf8 rest → IsRest text rest
     → front ≡ take (length text - length rest) text → chars front ++ chars rest ≡ chars text
 chars_of_cut text rest front u v r e =
-    let is_text =
-    subst IsUtf8 (sym e) (IsUtf8-take text (length text - length rest) u
-    (rest_boundary text rest r v)) in
-    sym (chars-append front rest is_text) ∙ ap chars (ap (λ xs. xs ++ rest) e
-    ∙ cut_at_rest text rest r)
+    let is_text = IsUtf8-take text (length text - length rest) u (rest_boundary text rest r v) in
+    rw (e, ← chars-append _ rest is_text, cut_at_rest text rest r) refl

@@ -1,8 +1,8 @@
 -- The reader of a group is local.
-use Rattle.std.proofs.Common.{◌≡◌, ℕ, zero, suc, ◌+◌, eqb, List, [], ◌∷◌, ◌++◌, length, arith}
-use Rattle.std.proofs.Common.{refl, ap, ◌∙◌, sym, Some, None, append_assoc, Option, append-nil}
-use Rattle.interpolator_syntax.specs.At.{At, size}
-use Rattle.interpolator_syntax.specs.Classes.{hash, open_bracket, close_bracket}
+use Rattle.std.proofs.Common.{◌≡◌, ℕ, zero, suc, ◌+◌, eqb, List, [], ◌∷◌, ◌++◌, length, arith, refl}
+use Rattle.std.proofs.Common.{Some, append_assoc, Option, append-nil}
+use Rattle.interpolator_syntax.specs.At.{At}
+use Rattle.interpolator_syntax.specs.Classes.{open_bracket, close_bracket}
 use Rattle.interpolator_syntax.specs.Groups.{close_from, closed_group, bracket_first, bracket_at}
 use Rattle.interpolator_syntax.specs.Groups.{group_at}
 use Rattle.interpolator_syntax.specs.GroupGrammar.{sign_text, close_text, NoneCloses}
@@ -12,7 +12,7 @@ use Rattle.interpolator_syntax.proofs.GrammarGroupLemmas.{IsClose, Closes, close
 use Rattle.interpolator_syntax.proofs.GrammarGroupLemmas.{only_no_close, close_size}
 use Rattle.interpolator_syntax.proofs.LocalLemmas.{Setting, elsewhere, IsLocal, Reads, local_past}
 use Rattle.interpolator_syntax.proofs.LocalLemmas.{local_either, local_first, reads_then}
-use Rattle.interpolator_syntax.proofs.LocalityLemmas.{Takes, stands}
+use Rattle.interpolator_syntax.proofs.LocalityLemmas.{Takes}
 use Rattle.interpolator_syntax.proofs.SimpleReaderLemmas.{reads_span}
 
 -- signs in front of a bracket are the same whatever comes after the bracket
@@ -22,10 +22,7 @@ signs_before :
 signs_before zero cs after more rest e = (cs ++ (close_bracket ∷ more), refl)
 signs_before (suc k) [] after more rest e = absurd (grind (arith, e))
 signs_before (suc k) (c ∷ cs) after more rest e =
-    let first : c ≡ hash = cc in
-    let others : cs ++ (close_bracket ∷ after) ≡ sign_text k ++ rest = cc in
-    let s = signs_before k cs after more rest others in
-    (s.0, ap (λ n. n ∷ (cs ++ (close_bracket ∷ more))) first ∙ ap (λ xs. hash ∷ xs) s.1)
+    let s = signs_before k cs after more rest (cc) in (s.0, grind (arith, e, s.1))
 
 -- if no bracket of a text closes, none does whatever comes after the bracket that closes the text
 none_closes_with :
@@ -39,21 +36,16 @@ close_elsewhere :
     (s : Setting) (k p : ℕ) (cs : List ℕ) (w : List ℕ × At) → IsClose k p cs w.0 w.1
     → close_from k (p + s.by) (cs ++ s.more) ≡ Some (w.0, elsewhere s w.1)
 close_elsewhere s k p cs w h =
-    let q = w.1 in
-    let signs = sign_text k in
-    let whole : cs ++ s.more ≡ w.0 ++ (close_text k ++ (q.text ++ s.more)) =
-    rw h.split (simp append_assoc) in
-    let none = none_closes_with k w.0 (signs ++ q.text) (signs ++ (q.text ++ s.more)) h.first in
-    let there : (p + s.by) + size w.0 + 1 + k ≡ q.place + s.by = omega (arith, h.place) in
-    rw whole (only_close k (p + s.by) w.0 (q.text ++ s.more) none
-    ∙ ap (λ n. Some (w.0, stands n (q.text ++ s.more))) there)
+    let rest = sign_text k ++ (w.1.text ++ s.more) in
+    let none = none_closes_with k w.0 (sign_text k ++ w.1.text) rest h.first in
+    grind (arith, append_assoc, only_close k (p + s.by) w.0 (w.1.text ++ s.more) none, h)
 
 -- the text up to where it closes is a front of the text
 close_takes :
     (k : ℕ) (a : At) (inner : List ℕ) (q : At) → IsClose k a.place a.text inner q → Takes a q
 close_takes k a inner q h = record {
   front = inner ++ close_text k;
-  split = h.split ∙ sym (append_assoc inner (close_text k) q.text);
+  split = rw append_assoc h.split;
   place = omega (arith, h.place, close_size inner k);
 }
 
@@ -63,18 +55,7 @@ module _ (s : Setting) where
       → IsLocal s (moved_group s.by) a (closed_group s.start a.place o)
       (closed_group (s.start + s.by) (a.place + s.by)
       (close_from k (a.place + s.by) (a.text ++ s.more)))
-  local_close k a None none = (
-    tt,
-    λ from. omega arith,
-    λ from. omega arith,
-    λ no_more. rw (no_more, append-nil a.text, only_no_close k (a.place + s.by) a.text none) refl,
-  )
-  local_close k a (Some w) is = (
-    close_takes k a w.0 w.1 is,
-    λ t.
-        ap (closed_group (s.start + s.by) (a.place + s.by))
-        (close_elsewhere s k a.place a.text w is),
-  )
+  local_close k a o is = grind (arith, close_takes, close_elsewhere s, only_no_close, append-nil)
 
   reads_bracket :
       (k : ℕ) → Reads s (moved_group s.by) (bracket_at s.start k) (bracket_at (s.start + s.by) k)
@@ -82,13 +63,11 @@ module _ (s : Setting) where
     is_local = λ a.
         let move = moved_group s.by in
         local_first s move a.place a.text (bracket_first s.start k a)
-        (bracket_first (s.start + s.by) k (elsewhere s a))
-        (tt, λ from. omega arith, λ from. omega arith, λ none. refl)
+        (bracket_first (s.start + s.by) k (elsewhere s a)) (grind arith)
         (λ c rest t.
         local_either s move a (eqb c open_bracket) _ _ _ _
         (local_past s move a rest _ _ _ t (λ settled. refl)
-        (local_close k rest _ (close_says k rest.place rest.text)))
-        (tt, λ from. omega arith, λ from. omega arith, λ none. refl));
+        (local_close k rest _ (close_says k rest.place rest.text))) (grind arith));
   }
 
   pub reads_group : Reads s (moved_group s.by) (group_at s.start) (group_at (s.start + s.by))

@@ -1,8 +1,7 @@
 -- Where the groups of an argument begin: in the text, after a `:` and the letter of a list.
-use Rattle.std.proofs.Common.{◌≡◌, ℕ, ◌+◌, ◌≤◌, List, ◌∷◌, [], ◌++◌, length, arith, ap, Bool, ◌||◌}
-use Rattle.std.proofs.Common.{subst, sym, ◌∙◌, Ok, Option, Some, None, inl, inr, append_assoc}
+use Rattle.std.proofs.Common.{◌≡◌, ℕ, ◌+◌, ◌≤◌, List, ◌∷◌, [], ◌++◌, length, arith, Bool, ◌||◌}
+use Rattle.std.proofs.Common.{length-append, subst, Ok, Option, Some, None, inl, inr, append_assoc}
 use Rattle.std.specs.Prelude.{⊤}
-use Rattle.std.proofs.lemmas.List.{length-append}
 use Rattle.interpolator_render.specs.declared.view.Trait.{Trait}
 use Rattle.interpolator_render.specs.declared.view.Trait.TheVariants as traits
 use Rattle.interpolator_render.specs.declared.view.Alignment.{Alignment}
@@ -19,8 +18,8 @@ use Rattle.interpolator_syntax.specs.GrammarParts.{Part, ◌>>=◌, Lies}
 use Rattle.interpolator_syntax.specs.ListGrammar.{group_there, IsList}
 use Rattle.interpolator_syntax.specs.Lists.{ListRequest}
 use Rattle.interpolator_syntax.specs.Readers.{Reader}
-use Rattle.interpolator_syntax.specs.SpecGrammar.{kind, from_sign, fill, parts, trait_part, trait_text}
-use Rattle.interpolator_syntax.specs.SpecGrammar.{IsSpec}
+use Rattle.interpolator_syntax.specs.SpecGrammar.{kind, from_sign, fill, parts, trait_part}
+use Rattle.interpolator_syntax.specs.SpecGrammar.{trait_text, IsSpec}
 use Rattle.interpolator_syntax.specs.SpecTexts.{Kind, of_value, of_list, Request, Wanted}
 use Rattle.interpolator_syntax.specs.SpecTexts.{alignment_letter, sign_letter}
 use Rattle.interpolator_syntax.proofs.GrammarArgumentLemmas.{argument_is}
@@ -58,17 +57,10 @@ no_longer n a b t = omega (arith, takes_shorter a b t)
 module _ (m n : ℕ) (a b : At) (t : Takes a b) (far : n + length b.text ≤ m + length a.text) where
   group_grows : (o : Option Group) → GroupAfter m o b → GroupAfter n o a
   group_grows None h = tt
-  group_grows (Some g) h = record {
-    opens = h.opens;
-    closed = h.closed;
-    is = h.is;
-    takes = takes_then a b h.opens t h.takes;
-    far = omega (arith, h.far, far);
-  }
+  group_grows (Some g) h = grind (arith, takes_then)
 
   pub kind_grows : (k : Kind) → KindAfter m k b → KindAfter n k a
-  kind_grows (of_value t) h = tt
-  kind_grows (of_list l) h = (group_grows l.item h.0, group_grows l.join h.1)
+  kind_grows k h = grind (arith, group_grows)
 
 -- at least n characters come before each group of what is read as this part
 record Begins {A : Type 0} (n : ℕ) (kind_of : A → Kind) (part : Part A) : Type 0 where
@@ -79,15 +71,11 @@ begins_then :
     {s : Setting} {A B : Type 0} {n : ℕ} {kind_of : B → Kind} {move : A → A}
     {read other : Reader A} {part : Part A} {next : A → Part B} → Law s move read other part
     → ((x : A) → Begins n kind_of (next x)) → Begins n kind_of (part >>= next)
-begins_then {n = n} {kind_of = kind_of} law k = record {
-  after = λ a y q h.
-      let t = law_takes law a h.0 h.1 h.2 in
-      kind_grows n n a h.1 t (no_longer n a h.1 t) (kind_of y)
-      ((k h.0).after h.1 y q h.3);
-}
+begins_then {n = n} {kind_of = kind_of} law k =
+    grind (arith, law_takes law, no_longer n, kind_grows n n, k)
 
 lies_takes : (a : At) (cs : List ℕ) (q : At) → Lies a cs q → Takes a q
-lies_takes a cs q h = record { front = cs; split = h.split; place = h.place }
+lies_takes a cs q h = grind (arith, h)
 
 -- ---- lists
 
@@ -97,31 +85,19 @@ module _ (start : ℕ) where
 
   group_after : (a : At) (o : Option Group) (q : At) → (group_there start).is a o q
       → Takes a q × GroupAfter 0 o a
-  group_after a o q (inl h) =
-      let is = h.1.2 in
-      rw (h.1.3.0, h.1.3.1) (
-        law_takes (law_group s) a h.1.0 h.1.1 is,
-        record {
-          opens = a;
-          closed = h.1.1;
-          is = is;
-          takes = takes_none a;
-          far = omega arith;
-        },
-      )
-  group_after a o q (inr h) = rw (h.1, h.2) (takes_none a, tt)
+  group_after a o q (inl h) = grind (arith, law_takes (law_group s) a h.1.0 h.1.1 h.1.2, takes_none)
+  group_after a o q (inr h) = grind (arith, takes_none)
 
   list_after : (a : At) (l : ListRequest) (q : At) → IsList start a l q → KindAfter 0 (of_list l) a
   list_after a l q h =
       let item = h.3 in
-      let join = item.3 in
       let t = law_takes (law_range s) a h.0 h.1 h.2 in
       let first = group_after h.1 item.0 item.1 item.2 in
-      let second = group_after item.1 join.0 join.1 join.2 in
       let u = takes_then a h.1 item.1 t first.0 in
-      rw join.3.0 (
+      let second = group_after item.1 item.3.0 item.3.1 item.3.2 in
+      rw item.3.3.0 (
         group_grows 0 0 a h.1 t (no_longer 0 a h.1 t) item.0 first.1,
-        group_grows 0 0 a item.1 u (no_longer 0 a item.1 u) join.0 second.1,
+        group_grows 0 0 a item.1 u (no_longer 0 a item.1 u) item.3.0 second.1,
       )
 
   -- ---- specs
@@ -138,12 +114,9 @@ module _ (start : ℕ) where
 
   lettered_after : (slot : Trait) (hex : HexDebug) (a b : At) (cs : List ℕ) (k : Kind) (q : At)
       → trait_text slot hex ≡ Some cs → Lies a cs b → (kind start slot).is b k q → KindAfter 1 k a
-  lettered_after traits.Iter hex a b cs k q e l h =
-      let t = lies_takes a cs b l in
-      let one = list_letter hex cs e in
-      kind_grows 0 1 a b t (omega (arith, one, ap length l.split, length-append cs b.text)) k
-      (kind_after traits.Iter b k q h)
-  lettered_after slot hex a b cs k q e l h = rw h.0 tt
+  lettered_after slot hex a b cs k q e l h =
+      let grows = kind_grows 0 1 a b (lies_takes a cs b l) in
+      grind (arith, list_letter, grows, l.split, length-append, kind_after)
 
   shown_after : (flagged : Bool) (a : At) (x : Wanted) (b : At) (k : Kind) (q : At)
       → (trait_part start flagged).is a x b → (kind start x.slot).is b k q → KindAfter 1 k a
@@ -161,8 +134,7 @@ module _ (start : ℕ) where
       begins_then (law_width s) (λ width.
       begins_then (law_precision s) (λ precision. record {
         after = λ a x q h.
-            let request_in = h.3 in
-            rw request_in.3.0 (shown_after (alternate || zero) a h.0 h.1 request_in.0 request_in.1 h.2 request_in.2);
+            rw h.3.3.0 (shown_after (alternate || zero) a h.0 h.1 h.3.0 h.3.1 h.2 h.3.2);
       })))))
 
   fill_takes : (a : At) (x : Option ℕ) (q : At) → fill.is a x q → Takes a q
@@ -185,20 +157,17 @@ module _ (start : ℕ) where
   asks_after a x q (inl h) = rw h.1 tt
   asks_after a x q (inr h) =
       let t = lies_takes a (colon ∷ []) h.0 h.1 in
-      kind_grows 1 2 a h.0 t (omega (arith, ap length h.1.split)) x.kind (spec_after h.0 x q h.2)
+      grind (arith, kind_grows 1 2 a h.0 t, spec_after h.0 x q h.2)
 
 -- the groups of an argument begin after at least two characters
 pub argument_after : (a : At) (x : Argument) (q : At) → argument_at a ≡ Ok (x, q)
     → KindAfter 2 x.kind a
 argument_after a x q e =
     let h = argument_is a q x e in
-    let front = h.named.spaces ++ x.name in
     let t : Takes a h.after = record {
-      front = front;
-      split =
-          h.named.white.split ∙ sym (append_assoc h.named.spaces x.name h.after.text);
-      place =
-          omega (arith, h.named.name_place, h.named.end_place, size-append h.named.spaces x.name);
+      front = h.named.spaces ++ x.name;
+      split = rw append_assoc h.named.white.split;
+      place = omega (arith, h.named.name_place, h.named.end_place, size-append);
     } in
     kind_grows 2 2 a h.after t (no_longer 2 a h.after t) x.kind
     (asks_after a.place h.after (request_in x) q h.asks)

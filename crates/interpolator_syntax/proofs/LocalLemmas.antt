@@ -1,7 +1,7 @@
 -- A reader is local: it takes a front of its text, its faults lie there, and elsewhere it returns
 -- the same; and so are readers that are put together of local ones.
-use Rattle.std.proofs.Common.{◌≡◌, ℕ, ◌+◌, ◌≤◌, Bool, cond, List, [], ◌∷◌, ◌++◌, arith, refl, ap}
-use Rattle.std.proofs.Common.{◌∙◌, Result, Ok, Err, Option, Some, None, inl, inr, ◌⊎◌, eqb-true}
+use Rattle.std.proofs.Common.{◌≡◌, ℕ, ◌+◌, ◌≤◌, Bool, cond, List, [], ◌∷◌, ◌++◌, arith, refl, ◌∙◌}
+use Rattle.std.proofs.Common.{Result, Ok, Err, Option, Some, None, inl, inr, ◌⊎◌, eqb-true}
 use Rattle.std.specs.Char.{len_utf8}
 use Rattle.interpolator_syntax.specs.At.{At, size, first, first_of, strip_of}
 use Rattle.interpolator_syntax.specs.ArgumentFaults.{IsArgumentFault}
@@ -86,12 +86,7 @@ module _ (s : Setting) where
         → IsLocal move b o k → IsLocal move a o l
     local_past b (Ok w) k l h e r =
         (takes_then a b w.1 h r.0, λ t. e (settled_before b w.1 r.0 t) ∙ r.1 t)
-    local_past b (Err d) k l h e r = (
-      r.0,
-      λ from. r.1 (omega (arith, h.place)),
-      λ from. omega (arith, r.2 (omega (arith, h.place)), takes_reaches _ a b h refl),
-      λ none. e (inr none) ∙ r.3 none,
-    )
+    local_past b (Err d) k l h e r = let ends = takes_reaches _ a b h refl in grind (arith, e, ends)
 
     -- a test decides
     pub local_either :
@@ -127,12 +122,10 @@ module _ (s : Setting) where
         → IsLocal move (stands p cs) (f (Some (c, b))) (g (Some (c, elsewhere b))))
         → IsLocal move (stands p cs) (f (first_of p cs)) (g (first_of (p + s.by) (cs ++ s.more)))
     local_first p [] f g none some =
-        let a = stands p [] in
-        local_past move a a (f None) (g None) _ (takes_none a)
-        (λ t. ap (λ cs. g (first_of (p + s.by) cs)) (nothing_more t)) none
+        local_past move (stands p []) (stands p []) (f None) (g None) _ (takes_none _)
+        (λ t. rw (nothing_more t) refl) none
     local_first p (c ∷ cs) f g none some =
-        rw (step_moved p s.by (len_utf8 c))
-        (some c (stands (p + len_utf8 c) cs) (takes_one p c cs))
+        rw (step_moved p s.by (len_utf8 c)) (some c (stands (p + len_utf8 c) cs) (takes_one p c cs))
 
     -- a result at a by whether c begins the text cs, which ends where the text at a does
     pub local_strip_at :
@@ -143,11 +136,10 @@ module _ (s : Setting) where
         → IsLocal move a (f (Some b)) (g (Some (elsewhere b))))
         → IsLocal move a (f (strip_of c p cs)) (g (strip_of c (p + s.by) (cs ++ s.more)))
     local_strip_at a c p [] f g settled none some =
-        local_past move a a (f None) (g None) _ (takes_none a)
-        (λ t. ap (λ cs. g (strip_of c (p + s.by) cs)) (nothing_more (settled t))) none
+        let still = local_past move a a (f None) (g None) in
+        grind (arith, still, takes_none a, nothing_more, settled, none)
     local_strip_at a c p (d ∷ ds) f g settled none some =
-        rw (step_moved p s.by (len_utf8 d))
-        (grind (arith, eqb-true d c, none, some, takes_one p d ds))
+        rw (step_moved p s.by (len_utf8 d)) (grind (arith, eqb-true, none, some, takes_one p d ds))
 
     -- a result by whether the first character is c
     pub local_strip :
@@ -185,8 +177,5 @@ pub reads_then :
     {s : Setting} {A B : Type 0} {move : A → A} {next : B → B} {read other : Reader A}
     {g : A → Reader B} (h : A → Reader B) → Reads s move read other
     → ((x : A) → Reads s next (g x) (h (move x))) → Reads s next (read >>= g) (other >>= h)
-reads_then {s} {A} {B} {move} {next} {read} {other} {g} h first then = record {
-  is_local = λ a.
-      local_then s move next a (read a) (other (elsewhere s a)) g h (first.is_local a)
-      (λ x b t. (then x).is_local b);
-}
+reads_then {s} {next = next} h first then =
+    grind (arith, first.is_local, then, local_then s)

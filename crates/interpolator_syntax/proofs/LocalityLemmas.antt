@@ -1,9 +1,9 @@
 -- Fronts of a text, and the text after them.
 use Rattle.std.proofs.Common.{◌≡◌, ℕ, ◌+◌, ◌≤◌, Bool, List, [], ◌∷◌, ◌++◌, length, arith, refl, ap}
-use Rattle.std.proofs.Common.{◌∙◌, sym, subst, inr, ◌⊎◌, append_assoc, length-append}
+use Rattle.std.proofs.Common.{sym, subst, inr, ◌⊎◌, append_assoc, length-append}
 use Rattle.std.specs.Char.{len_utf8}
 use Rattle.interpolator_syntax.specs.At.{At, size, after}
-use Rattle.interpolator_syntax.specs.Classes.{front_of, close_brace}
+use Rattle.interpolator_syntax.specs.Classes.{close_brace}
 use Rattle.interpolator_syntax.proofs.FrontLemmas.{front_after}
 
 -- ---- what is taken
@@ -31,19 +31,11 @@ takes_one p c cs = record { front = c ∷ []; split = refl; place = omega arith 
 
 -- one front after the other
 pub takes_then : (a b c : At) → Takes a b → Takes b c → Takes a c
-takes_then a b c h k = record {
-  front = h.front ++ k.front;
-  split = h.split ∙ ap (λ xs. h.front ++ xs) k.split ∙ sym (append_assoc h.front k.front c.text);
-  place = omega (arith, h.place, k.place, size-append h.front k.front);
-}
+takes_then a b c h k = grind (arith, append_assoc, size-append h.front k.front)
 
 -- the longest front of characters that pass
 pub takes_after : (passes : ℕ → Bool) (a : At) → Takes a (after passes a)
-takes_after passes a = record {
-  front = front_of passes a.text;
-  split = sym (front_after passes a.text);
-  place = refl;
-}
+takes_after passes a = grind (arith, front_after)
 
 -- the text after a front is no longer
 pub takes_shorter : (a q : At) → Takes a q → length q.text ≤ length a.text
@@ -52,8 +44,7 @@ takes_shorter a q h = omega (arith, ap length h.split, length-append h.front q.t
 -- and ends where the text ends
 pub takes_reaches :
     (n : ℕ) (a q : At) → Takes a q → a.place + size a.text ≡ n → q.place + size q.text ≡ n
-takes_reaches n a q h e =
-    omega (arith, e, h.place, ap size h.split, size-append h.front q.text)
+takes_reaches n a q h e = grind (arith, size-append)
 
 -- there is a closing brace somewhere
 abbrev pub Guarded : List ℕ → Type 0

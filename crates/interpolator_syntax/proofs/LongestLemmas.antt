@@ -1,7 +1,7 @@
 -- The longest front of a text whose characters pass: that defined by recursion is one, and there is
 -- no other.
-use Rattle.std.proofs.Common.{◌≡◌, ℕ, Bool, false, IsTrue, IsFalse, All, List, []}
-use Rattle.std.proofs.Common.{◌∷◌, ◌++◌, refl, sym, arith}
+use Rattle.std.proofs.Common.{◌≡◌, ℕ, Bool, false, IsTrue, IsFalse, All, List, [], ◌∷◌, ◌++◌, refl}
+use Rattle.std.proofs.Common.{arith}
 use Rattle.std.proofs.lemmas.List.Elements.{All-nil, All-head, All-tail}
 use Rattle.interpolator_syntax.specs.Classes.{front_of, after_of}
 use Rattle.interpolator_syntax.specs.Grammar.{from_place, IsLongest}
@@ -22,12 +22,7 @@ module _ (passes : ℕ → Bool) where
 
   -- the front and what follows it are the longest front and its rest
   pub front_longest : (cs : List ℕ) → IsLongest passes cs (front_of passes cs) (after_of passes cs)
-  front_longest cs =
-      record {
-        split = sym (front_after passes cs);
-        pass = front_passes cs;
-        stops = after_stops cs;
-      }
+  front_longest cs = grind (arith, front_after passes, front_passes, after_stops)
 
   abbrev Stops : List ℕ → Type 0
   Stops rest = (c : ℕ) (more : List ℕ) → rest ≡ c ∷ more → IsFalse (passes c)

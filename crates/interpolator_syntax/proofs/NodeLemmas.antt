@@ -1,19 +1,16 @@
 -- The pieces of a text: the first, and then those of the text after it.
 use Rattle.std.proofs.Common.{◌≡◌, ℕ, zero, suc, ◌<◌, ◌≤◌, List, [], ◌∷◌, length, arith, refl, ap}
-use Rattle.std.proofs.Common.{◌∙◌, sym, Option, Some, None, Result, Ok, Err}
-use Rattle.interpolator_syntax.specs.At.{At, strip}
-use Rattle.interpolator_syntax.specs.Arguments.{Argument, argument_at}
-use Rattle.interpolator_syntax.specs.Classes.{close_brace}
+use Rattle.std.proofs.Common.{◌∙◌, sym, Option, Some, None}
+use Rattle.interpolator_syntax.specs.At.{At}
+use Rattle.interpolator_syntax.specs.Arguments.{Argument}
 use Rattle.interpolator_syntax.specs.Faults.{Fault}
-use Rattle.interpolator_syntax.specs.Groups.{Group, inside}
 use Rattle.interpolator_syntax.specs.Pieces.{PieceKind, closed, unclosed, broken, argument_from}
-use Rattle.interpolator_syntax.specs.Pieces.{argument_or_broken, argument_step}
-use Rattle.interpolator_syntax.specs.SpecTexts.{Kind, of_value, of_list}
+use Rattle.interpolator_syntax.specs.SpecTexts.{Kind}
 use Rattle.interpolator_syntax.specs.Tokens.{Token, first_token, past_token, argument}
-use Rattle.interpolator_syntax.specs.Nodes.{Node, as_branch, group_branch, argument_node, nodes}
-use Rattle.interpolator_syntax.specs.Nodes.{piece_node, token_node, leading_nodes, nodes_within}
+use Rattle.interpolator_syntax.specs.Nodes.{Node, argument_node, nodes, piece_node, token_node}
+use Rattle.interpolator_syntax.specs.Nodes.{leading_nodes, nodes_within}
 use Rattle.interpolator_syntax.proofs.TokenLemmas.{token_shorter, scan_shorter}
-use Rattle.interpolator_syntax.proofs.SizeLemmas.{GroupIfIn, KindIn, argument_in}
+use Rattle.interpolator_syntax.proofs.SizeLemmas.{KindIn, argument_in}
 use Rattle.interpolator_syntax.specs.declared.piece_kind.PieceKind as told
 
 -- ---- induction by length
@@ -33,63 +30,35 @@ by_length P step a = below P step (suc (length a.text)) a (omega arith)
 -- the kind is that of an argument whose groups lie in its text, or of a broken one
 abbrev pub ArgumentKind : (PieceKind → Type 0) → At → Type 0
 ArgumentKind P b =
-    ((start : ℕ) (x : Argument) (q : ℕ) → KindIn x.kind b → P (closed start x q) × P (unclosed start x q))
-    × ((f : Fault) → P (broken f))
+    ((start : ℕ) (x : Argument) (q : ℕ) → KindIn x.kind b
+    → P (closed start x q) × P (unclosed start x q)) × ((f : Fault) → P (broken f))
 
 -- a property of each such kind is one of the kind of the argument that begins at b
 pub argument_kind : (P : PieceKind → Type 0) (b : At) → ArgumentKind P b
     → P (argument_from b.place b).piece.kind
 unfolding argument_from
-argument_kind P b h = by_answer (argument_at b) refl
-  where
-    by_strip : (x : Argument) (q : At) (o : Option At) → KindIn x.kind b
-        → P (argument_step b.place b x q o).piece.kind
-    by_strip x q None k = (h.0 b.place x q.place k).1
-    by_strip x q (Some rest) k = (h.0 b.place x q.place k).0
-
-    by_answer : (r : Result (Argument × At) Fault) → argument_at b ≡ r
-        → P (argument_or_broken b.place b r).piece.kind
-    by_answer (Ok w) e = by_strip w.0 w.1 (strip close_brace w.1) (argument_in b w.0 w.1 e)
-    by_answer (Err f) e = h.1 f
+argument_kind P b h = grind (arith, argument_in)
 
 -- ---- the pieces do not depend on how many characters are allowed
 
 module _ (a : At) (run other : At → List Node)
     (same : (b : At) → length b.text < length a.text → run b ≡ other b) where
-  group_same : (b : At) (o : Option Group) → length b.text < length a.text → GroupIfIn o b
-      → group_branch run o ≡ group_branch other o
-  group_same b None l h = refl
-  group_same b (Some g) l h =
-      ap (λ xs. as_branch (Some xs)) (same (inside g) (omega (arith, l, h.shorter)))
-
   argument_same : (b : At) (p end : ℕ) (kind : told.PieceKind) (start : ℕ) (x : Argument) (q : ℕ)
       → length b.text < length a.text → (k : Kind) → x.kind ≡ k → KindIn k b
       → argument_node run p end kind start x q ≡ argument_node other p end kind start x q
-  argument_same b p end kind start x q l (of_value t) e h = rw e refl
-  argument_same b p end kind start x q l (of_list asked) e h =
-      rw (e, group_same b asked.item l h.item, group_same b asked.join l h.join) refl
+  argument_same b p end kind start x q l k e h = grind arith
 
   token_same : (p : ℕ) (t : Token) (b : At) → length b.text < length a.text
       → token_node run p t b ≡ token_node other p t b
   token_same p argument b l =
       let end = (argument_from b.place b).rest.place in
-      argument_kind (λ k. piece_node run p end k ≡ piece_node other p end k) b (
-        λ start x q h. (
-          argument_same b p end _ start x q l x.kind refl h,
-          argument_same b p end _ start x q l x.kind refl h,
-        ),
-        λ f. refl,
-      )
+      argument_kind (λ k. piece_node run p end k ≡ piece_node other p end k) b
+      (λ start x q h. grind (arith, argument_same b p end, h, l), λ f. refl)
   token_same p t b l = refl
 
   leading_same : (o : Option (Token × At)) → first_token a ≡ o
       → leading_nodes run a.place o ≡ leading_nodes other a.place o
-  leading_same None e = refl
-  leading_same (Some w) e =
-      rw (
-        token_same a.place w.0 w.1 (token_shorter a w e),
-        same (past_token w.0 w.1) (scan_shorter a _ w e refl),
-      ) refl
+  leading_same o e = grind (arith, token_same, token_shorter a, same, scan_shorter a)
 
 -- a text without characters has no pieces
 empty_leads : (a : At) (run : At → List Node) (o : Option (Token × At)) → first_token a ≡ o
@@ -103,8 +72,7 @@ enough zero zero a h k = refl
 enough zero (suc m) a h k = sym (empty_leads a (nodes_within m) (first_token a) refl h)
 enough (suc n) zero a h k = empty_leads a (nodes_within n) (first_token a) refl k
 enough (suc n) (suc m) a h k =
-    leading_same a (nodes_within n) (nodes_within m)
-    (λ b l. enough n m b (omega (arith, h, l)) (omega (arith, k, l))) (first_token a) refl
+    leading_same a _ _ (λ b l. enough n m b (omega arith) (omega arith)) (first_token a) refl
 
 -- the pieces of a text are the first one, and those of the text after it
 pub nodes_lead : (a : At) → nodes a ≡ leading_nodes nodes a.place (first_token a)

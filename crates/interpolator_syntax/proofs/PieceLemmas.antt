@@ -1,7 +1,6 @@
 -- The pieces of a text, one after the other.
-use Rattle.std.proofs.Common.{◌≡◌, ℕ, zero, suc, ◌≤◌, Bool, false, List, [], ◌∷◌}
-use Rattle.std.proofs.Common.{length, arith, refl, ap, Ok, Some, ◌+◌, eqb-true}
-use Rattle.std.proofs.Common.{Result, Err, ◌++◌, ◌∙◌, sym, append_assoc}
+use Rattle.std.proofs.Common.{◌≡◌, ℕ, zero, suc, ◌≤◌, Bool, false, List, [], ◌∷◌, length, arith, ap}
+use Rattle.std.proofs.Common.{refl, Ok, Some, ◌+◌, eqb-true, Result, Err, ◌++◌, ◌∙◌, append_assoc}
 use Rattle.std.proofs.lemmas.List.{append_cancel_right}
 use Rattle.interpolator_syntax.specs.At.{At, at, strip, strip_of}
 use Rattle.interpolator_syntax.specs.Classes.{after_of, open_brace, close_brace, is_brace}
@@ -13,7 +12,6 @@ use Rattle.interpolator_syntax.specs.Pieces.{pieces, step, literal, argument_or_
 use Rattle.interpolator_syntax.proofs.FrontLemmas.{cut_at_rest}
 use Rattle.interpolator_syntax.proofs.LocalityLemmas.{takes_shorter}
 use Rattle.interpolator_syntax.proofs.ReaderLemmas.{argument_takes}
-use Rattle.interpolator_syntax.proofs.CaseLemmas.{none_some}
 use Rattle.std.specs.Char.{len_utf8}
 use Rattle.interpolator_syntax.specs.Faults.{Fault}
 
@@ -25,21 +23,19 @@ after_shorter passes (c ∷ cs) =
 -- the text after a character that is there
 pub strip_after : (c p : ℕ) (cs : List ℕ) (r : At) → strip_of c p cs ≡ Some r
     → (cs ≡ c ∷ r.text) × (r.place ≡ p + len_utf8 c)
-strip_after c p [] r e = absurd (none_some e)
-strip_after c p (d ∷ ds) r e = grind (arith, eqb-true)
+strip_after c p cs r e = grind (arith, eqb-true)
 
 -- a character that is no brace is a literal
 pub literal_step : (p c : ℕ) (b : At) → is_brace c ≡ false
     → piece_from p c b ≡ step p (c ∷ []) (literal c) b
-literal_step p c b h =
-    grind (arith, h)
+literal_step p c b h = grind arith
 
 argument_or_broken_within :
     (p : ℕ) (b : At) (r : Result (Argument × At) Fault) → argument_at b ≡ r
     → length (argument_or_broken p b r).rest.text ≤ length b.text
-argument_or_broken_within p b (Ok x) e =
-    let shorter = takes_shorter b x.1 (argument_takes b x.0 x.1 e) in grind (arith, shorter)
 argument_or_broken_within p b (Err f) e = omega arith
+argument_or_broken_within p b (Ok x) e =
+    grind (arith, takes_shorter b x.1 (argument_takes b x.0 x.1 e))
 
 pub argument_from_within : (p : ℕ) (b : At) → length (argument_from p b).rest.text ≤ length b.text
 unfolding argument_from
@@ -64,8 +60,7 @@ enough zero m p (c ∷ cs) h k = absurd (omega arith)
 enough (suc n) zero p (c ∷ cs) h k = absurd (omega arith)
 enough (suc n) (suc m) p (c ∷ cs) h k =
     let s = piece_from p c (past p c cs) in
-    let l = piece_within p c (past p c cs) in
-    ap (λ xs. s.piece ∷ xs) (enough n m s.rest.place s.rest.text (omega arith) (omega arith))
+    grind (arith, piece_within p c (past p c cs), enough n m s.rest.place s.rest.text)
 
 pub pieces_none : (p : ℕ) → pieces (record { place = p; text = [] }) ≡ []
 unfolding pieces
@@ -78,8 +73,8 @@ pub pieces_next : (p c : ℕ) (cs : List ℕ)
 unfolding pieces
 pieces_next p c cs =
     let s = piece_from p c (past p c cs) in
-    ap (λ xs. s.piece ∷ xs) (enough (length cs) (length s.rest.text) s.rest.place s.rest.text
-    (piece_within p c (past p c cs)) (omega arith))
+    let same = enough (length cs) (length s.rest.text) s.rest.place s.rest.text in
+    grind (arith, piece_within p c (past p c cs), same)
 
 -- the text of a closed argument
 pub closed_text :
@@ -88,7 +83,7 @@ pub closed_text :
 closed_text b r front e =
     let inner = front ++ (close_brace ∷ []) in
     let whole : open_brace ∷ b.text ≡ (open_brace ∷ inner) ++ r.text =
-    ap (λ cs. open_brace ∷ cs) (e ∙ sym (append_assoc front (close_brace ∷ []) r.text)) in
+    rw append_assoc (ap (λ cs. open_brace ∷ cs) e) in
     append_cancel_right (text_up_to b r) (open_brace ∷ inner) r.text
     (cut_at_rest (open_brace ∷ b.text) r.text (open_brace ∷ inner, whole) ∙ whole)
 
@@ -96,4 +91,4 @@ closed_text b r front e =
 pub read_alone : (a : At) (n : ArgumentName) (r : At)
     → argument_at a ≡ argument_after a.place (plain_argument n) (at n.end)
     → strip close_brace (at n.end) ≡ Some r → argument_at a ≡ Ok (plain_argument n, at n.end)
-read_alone a n r named closed = named ∙ rw closed refl
+read_alone a n r named closed = grind (arith, named, closed)

@@ -1,7 +1,7 @@
 -- The reader of an argument is local: what it takes, where its faults lie, and what it returns
 -- elsewhere.
-use Rattle.std.proofs.Common.{◌≡◌, ℕ, ◌+◌, ◌≤◌, List, [], arith, refl, ap, ◌∙◌, sym, Result, Ok}
-use Rattle.std.proofs.Common.{Err, None, inl, inr, append-nil}
+use Rattle.std.proofs.Common.{◌≡◌, ℕ, ◌+◌, ◌≤◌, List, [], arith, refl, Result, Ok, Err, None}
+use Rattle.std.proofs.Common.{append-nil}
 use Rattle.interpolator_syntax.specs.At.{At, size, strip}
 use Rattle.interpolator_syntax.specs.Classes.{close_brace, colon}
 use Rattle.interpolator_syntax.specs.Readers.{Reader, ◌>>=◌, give, here, span}
@@ -12,8 +12,6 @@ use Rattle.interpolator_syntax.specs.ArgumentFaults.{IsArgumentFault}
 use Rattle.interpolator_syntax.specs.Faults.{Fault, fault_place}
 use Rattle.interpolator_syntax.specs.Moved.{moved_at, moved_fault, moved_argument}
 use Rattle.interpolator_syntax.specs.declared.class.Class.TheVariants.{WhiteSpace, Name}
-use Rattle.interpolator_syntax.proofs.GrammarLemmas.{same_ok}
-use Rattle.interpolator_syntax.proofs.GrammarPartLemmas.{ok_pair}
 use Rattle.interpolator_syntax.proofs.GrammarSpecLemmas.{moved_request, law_spec}
 use Rattle.interpolator_syntax.proofs.LocalLemmas.{Setting, elsewhere, IsLocalValue, IsLocalFault}
 use Rattle.interpolator_syntax.proofs.LocalLemmas.{Reads, local_stay, local_strip, local_on}
@@ -50,12 +48,10 @@ module _ (s : Setting) where
       Reads s (moved_argument s.by) (argument_parts s.start) (argument_parts (s.start + s.by))
   reads_argument =
       let start = s.start + s.by in
-      reads_then {g = λ spaces. here >>= names s.start} (λ spaces. here >>= names start)
-      (reads_span s WhiteSpace) (λ spaces.
-      reads_then {g = names s.start} (names start) (reads_here s) (λ p.
-      reads_then {g = asks s.start p} (asks start (p + s.by)) (reads_span s Name) (λ name.
-      reads_then {g = λ asked. give (argument name p asked)}
-      (λ asked. give (argument name (p + s.by) asked)) reads_asked
+      reads_then (λ spaces. here >>= names start) (reads_span s WhiteSpace) (λ spaces.
+      reads_then (names start) (reads_here s) (λ p.
+      reads_then (asks start (p + s.by)) (reads_span s Name) (λ name.
+      reads_then (λ asked. give (argument name (p + s.by) asked)) reads_asked
       (λ asked. reads_give s (moved_argument s.by) (argument name p asked)))))
 
 -- ---- an argument is local
@@ -101,21 +97,14 @@ moved_alone by a = at_same refl (append-nil a.text)
 -- an argument at another base is the same, moved
 pub moves_argument : (by : ℕ) (a : At) → argument_at (moved_at by a) ≡ moved_read by (argument_at a)
 moves_argument by a =
-    ap argument_at (sym (moved_alone by a))
-    ∙ elim (argument_at a) as (λ o. argument_at a ≡ o
+    rw (← moved_alone by a) (elim (argument_at a) as (λ o. argument_at a ≡ o
     → argument_at (elsewhere (setting by [] a) a) ≡ moved_read by o) [
-      | Ok w ↦ λ e.
-          (read_argument by [] a w.0 w.1 e).1 (inr refl)
-          ∙ ok_pair refl (at_same refl (append-nil w.1.text))
-      | Err f ↦ λ e. (refused_argument by [] a f e).3 refl
-    ] refl
+      | Ok w ↦ λ e. grind (arith, read_argument by [] a w.0 w.1 e, append-nil w.1.text)
+      | Err f ↦ λ e. grind (arith, refused_argument by [] a f e)
+    ] refl)
 
 -- an argument in front of a closing brace is the same whatever comes after the text
 pub argument_same :
     (a : At) (more : List ℕ) (x : Argument) (q : At) → argument_at a ≡ Ok (x, q) → Guarded q.text
     → argument_at (with_more a more) ≡ Ok (x, with_more q more)
-argument_same a more x q e guard =
-    let here = at_same {p = a.place} {q = a.place + 0} {cs = a.text} (omega arith) refl in
-    let alike = sym e ∙ ap argument_at here ∙ moves_argument 0 a ∙ ap (moved_read 0) e in
-    ap argument_at (at_same (omega arith) refl) ∙ (read_argument 0 more a x q e).1 (inl guard)
-    ∙ ok_pair (sym (same_ok alike).0) (at_same (omega arith) refl)
+argument_same a more x q e guard = grind (arith, moves_argument 0 a, read_argument 0 more a x q e)

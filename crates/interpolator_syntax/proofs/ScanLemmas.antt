@@ -1,13 +1,13 @@
 -- The pieces of the first token, and then those of the text after it.
-use Rattle.std.proofs.Common.{◌≡◌, ℕ, ◌+◌, Bool, true, false, List, [], ◌∷◌, ◌++◌, arith, refl, ap}
-use Rattle.std.proofs.Common.{◌∙◌, subst, Option, Some, None, eqb-true}
+use Rattle.std.proofs.Common.{◌≡◌, ℕ, ◌+◌, Bool, List, [], ◌∷◌, ◌++◌, arith, refl, subst, Option}
+use Rattle.std.proofs.Common.{Some, None, eqb-true}
 use Rattle.std.specs.Char.{len_utf8}
 use Rattle.interpolator_syntax.specs.At.{At, size}
 use Rattle.interpolator_syntax.specs.Classes.{front_of, after_of, in_class, is_brace, open_brace}
 use Rattle.interpolator_syntax.specs.Classes.{close_brace}
 use Rattle.interpolator_syntax.specs.PieceGrammar.{literal_pieces, token_pieces}
-use Rattle.interpolator_syntax.specs.Pieces.{Piece, literal, Step, argument_from, open_step}
-use Rattle.interpolator_syntax.specs.Pieces.{close_step, past, pieces}
+use Rattle.interpolator_syntax.specs.Pieces.{Piece, Step, argument_from, open_step, close_step}
+use Rattle.interpolator_syntax.specs.Pieces.{past, pieces}
 use Rattle.interpolator_syntax.specs.Tokens.{Token, open_scan, close_scan, first_token, past_token}
 use Rattle.interpolator_syntax.specs.declared.class.Class.TheVariants.{Literal}
 use Rattle.interpolator_syntax.proofs.LocalityLemmas.{stands}
@@ -47,21 +47,11 @@ IsRun p cs =
     ++ pieces (stands (p + size (front_of (in_class Literal) cs)) (after_of (in_class Literal) cs))
 
 at_end : (p : ℕ) (cs : List ℕ) → pieces (stands p cs) ≡ pieces (stands (p + 0) cs)
-at_end p cs = ap pieces (at_same (omega arith) refl)
+at_end p cs = grind arith
 
 run_of : (p c : ℕ) (cs : List ℕ) (t : Bool) → is_brace c ≡ t → IsRun (p + len_utf8 c) cs
     → IsRun p (c ∷ cs)
-run_of p c cs true h k = rw h (at_end p (c ∷ cs))
-run_of p c cs false h k =
-    let front = front_of (in_class Literal) cs in
-    let rest = after_of (in_class Literal) cs in
-    let one : Piece = record { place = p; text = c ∷ []; kind = literal c } in
-    let first = pieces_next p c cs ∙ ap of_step (literal_step p c (past p c cs) h) in
-    let there : stands (p + len_utf8 c + size front) rest
-    ≡ stands (p + (len_utf8 c + size front)) rest =
-    at_same (omega arith) refl in
-    rw h (first ∙ ap (λ xs. one ∷ xs) (k
-    ∙ ap (λ b. literal_pieces (p + len_utf8 c) front ++ pieces b) there))
+run_of p c cs t h k = grind (arith, literal_step, at_end, pieces_next, at_same)
 
 run_is : (p : ℕ) (cs : List ℕ) → IsRun p cs
 run_is p [] = at_end p []
@@ -74,9 +64,7 @@ Hands a o = pieces a ≡ of_scan a.place o
 
 hands_at : (p : ℕ) (cs : List ℕ) → Hands (stands p cs) (first_token (stands p cs))
 unfolding first_token
-hands_at p [] = pieces_none p
-hands_at p (c ∷ cs) =
-    grind (arith, eqb-true, pieces_next p c cs, scans_open p cs, scans_close p cs, run_is p (c ∷ cs))
+hands_at p cs = grind (arith, pieces_none, eqb-true, pieces_next, scans_open, scans_close, run_is)
 
 pub hands_on : (a : At) (x : Token) (b : At) → first_token a ≡ Some (x, b)
     → pieces a ≡ token_pieces a.place x b ++ pieces (past_token x b)

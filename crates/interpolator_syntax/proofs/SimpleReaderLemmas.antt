@@ -1,7 +1,7 @@
 -- The law of a reader: it agrees with its part, and is local; and the readers
 -- that the parts of an argument are made of.
-use Rattle.std.proofs.Common.{◌≡◌, ℕ, ◌+◌, Bool, false, List, [], ◌∷◌, ◌++◌, arith, refl}
-use Rattle.std.proofs.Common.{Option, inl, inr, append-nil}
+use Rattle.std.proofs.Common.{◌≡◌, ℕ, ◌+◌, Bool, false, List, [], ◌∷◌, ◌++◌, arith, refl, Option}
+use Rattle.std.proofs.Common.{inl, inr, append-nil}
 use Rattle.interpolator_syntax.specs.At.{At, after}
 use Rattle.interpolator_syntax.specs.Classes.{front_of, after_of}
 use Rattle.interpolator_syntax.specs.Readers.{Reader, ◌>>=◌ as ◌>>>◌, give, here, span}
@@ -11,9 +11,9 @@ use Rattle.interpolator_syntax.specs.GrammarParts.{Part, ◌>>=◌, ends, letter
 use Rattle.interpolator_syntax.specs.declared.class.Class.{Class}
 use Rattle.interpolator_syntax.proofs.GrammarPartLemmas.{ok_pair, Agrees, agrees_then, agrees_ends}
 use Rattle.interpolator_syntax.proofs.GrammarPartLemmas.{agrees_same, agrees_letter, agrees_flag}
-use Rattle.interpolator_syntax.proofs.LocalLemmas.{Setting, stays, elsewhere, IsSettled}
-use Rattle.interpolator_syntax.proofs.LocalLemmas.{IsLocal, Reads, local_stay, local_first}
-use Rattle.interpolator_syntax.proofs.LocalLemmas.{local_strip, value_local, reads_then}
+use Rattle.interpolator_syntax.proofs.LocalLemmas.{Setting, stays, elsewhere, IsSettled, IsLocal}
+use Rattle.interpolator_syntax.proofs.LocalLemmas.{Reads, local_stay, local_first, local_strip}
+use Rattle.interpolator_syntax.proofs.LocalLemmas.{value_local, reads_then}
 use Rattle.interpolator_syntax.proofs.LocalityLemmas.{Takes, takes_after}
 
 module _ (s : Setting) where
@@ -60,6 +60,13 @@ pub record Law (s : Setting) {A : Type 0} (move : A → A) (read other : Reader 
   pub agrees : Agrees read part
   pub reads : Reads s move read other
 
+-- by what each of its results is
+pub law_of :
+    {s : Setting} {A : Type 0} {move : A → A} {read other : Reader A} {part : Part A}
+    → Agrees read part → ((a : At) → IsLocal s move a (read a) (other (elsewhere s a)))
+    → Law s move read other part
+law_of agrees is_local = record { agrees = agrees; reads = record { is_local = is_local } }
+
 -- one reader, and after it the next
 pub law_then :
     {s : Setting} {A B : Type 0} {move : A → A} {next : B → B} {read other : Reader A}
@@ -96,22 +103,14 @@ module _ (s : Setting) where
 
     pub law_letter :
         Law s stays (read_letter table absent) (read_letter table absent) (letter table absent)
-    law_letter = record {
-      agrees = agrees_letter table absent;
-      reads = record {
-        is_local = λ a.
-            local_first s stays a.place a.text (letter_first table absent a)
-            (letter_first table absent (elsewhere s a)) (local_stay s stays a absent)
-            (λ c rest t. local_letter a rest t (table c));
-      };
-    }
+    law_letter =
+        law_of (agrees_letter table absent) (λ a.
+        local_first s stays a.place a.text (letter_first table absent a)
+        (letter_first table absent (elsewhere s a)) (local_stay s stays a absent)
+        (λ c rest t. local_letter a rest t (table c)))
 
   pub law_flag : (c : ℕ) → Law s stays (read_flag c) (read_flag c) (flag c)
-  law_flag c = record {
-    agrees = agrees_flag c;
-    reads = record {
-      is_local = λ a.
-          local_strip s stays c a.place a.text (was_there a) (was_there (elsewhere s a))
-          (local_stay s stays a false) (λ rest e t. (t, λ settled. refl));
-    };
-  }
+  law_flag c =
+      law_of (agrees_flag c) (λ a.
+      local_strip s stays c a.place a.text (was_there a) (was_there (elsewhere s a))
+      (local_stay s stays a false) (λ rest e t. (t, λ settled. refl)))

@@ -1,8 +1,7 @@
 -- The pieces of a text, and the groups of its arguments, lie in it; the groups are shorter.
 use Rattle.std.proofs.Common.{◌≡◌, ℕ, ◌+◌, ◌<◌, ◌≤◌, List, [], ◌∷◌, ◌++◌, length, arith, refl, ap}
-use Rattle.std.proofs.Common.{append_assoc, Ok, Option, Some, None, sym, ◌∙◌}
+use Rattle.std.proofs.Common.{append-nil, length-append, append_assoc, Ok, Option, Some, None}
 use Rattle.std.specs.Prelude.{⊤}
-use Rattle.std.proofs.lemmas.List.{append-nil, length-append}
 use Rattle.interpolator_syntax.specs.At.{At, size}
 use Rattle.interpolator_syntax.specs.Classes.{close_brace, open_brace}
 use Rattle.interpolator_syntax.specs.Groups.{Group}
@@ -51,18 +50,12 @@ group_in : (n : ℕ) (o : Option Group) (a : At) → GroupAfter n o a → GroupI
 group_in n None a h = tt
 group_in n (Some g) a h =
     let is = h.is in
-    let t = h.takes in
-    let front = t.front ++ open_text is.k in
-    let back = close_text is.k ++ h.closed.text in
-    record {
-      front = front;
-      back = back;
-      split =
-          t.split ∙ ap (λ xs. t.front ++ xs) is.split
-          ∙ sym (append_assoc t.front (open_text is.k) (g.text ++ back));
+    let t = h.takes in record {
+      front = t.front ++ open_text is.k;
+      back = close_text is.k ++ h.closed.text;
+      split = rw (append_assoc, ← is.split) t.split;
       place = omega (arith, is.place, t.place, size-append t.front (open_text is.k));
-      shorter =
-          omega (arith, ap length is.split, length-append {A = ℕ}, takes_shorter a h.opens t);
+      shorter = omega (arith, ap length is.split, length-append {A = ℕ}, takes_shorter a h.opens t);
       lies =
           omega (arith, is.place, ap size is.split, size-append, takes_reaches _ a h.opens t refl);
     }
@@ -97,14 +90,10 @@ PiecesIn (x ∷ xs) a = PieceIn x.kind a × (x.place ≤ a.place + size a.text) 
 argument_lies : (a b : At) (x : Argument) (q : At) → Takes a b → argument_at b ≡ Ok (x, q)
     → ArgumentIn b.place x q.place a
 argument_lies a b x q t e =
+    let kind = kind_grows 2 2 a b t (no_longer 2 a b t) x.kind (argument_after b x q e) in
     let there = takes_reaches _ a b t refl in
-    record {
-      starts = omega (arith, there);
-      ends = omega (arith, there, takes_reaches _ b q (argument_takes b x q e) refl);
-      kind =
-          kind_in 2 x.kind a
-          (kind_grows 2 2 a b t (no_longer 2 a b t) x.kind (argument_after b x q e));
-    }
+    let ends = takes_reaches _ b q (argument_takes b x q e) refl in
+    grind (arith, there, ends, kind_in 2 x.kind a kind)
 
 module _ (a b : At) (t : Takes a b) where
   -- the text after a brace
@@ -124,17 +113,15 @@ module _ (a b : At) (t : Takes a b) where
       by_kind : (k : PieceKind) → Fits b.place k x.text rest → PieceIn k a
       by_kind (closed start y end) f =
           let inner = f.inner ++ (close_brace ∷ rest) in
-          let split : b.text ≡ open_brace ∷ inner =
-          grind (arith, append_assoc, s.split, f.in_braces) in
+          let split : b.text ≡ open_brace ∷ inner = grind (arith, append_assoc, s.split) in
           argument_lies a (stands start inner) y _ (after_brace start inner split f.begins) f.reads
       by_kind (unclosed start y end) f =
-          argument_lies a (stands start f.inner) y _
-          (after_brace start f.inner (to_end f.inner f.in_front f.takes_all) f.begins) f.reads
+          let there = after_brace start f.inner (to_end f.inner f.in_front f.takes_all) f.begins in
+          argument_lies a (stands start f.inner) y _ there f.reads
       by_kind (broken g) f =
-          let c = stands (b.place + 1) f.inner in
           let split = to_end f.inner f.in_front f.takes_all in
-          let there = takes_reaches _ a c (after_brace c.place f.inner split refl) refl in
-          omega (arith, there, argument_refuses c g f.reads)
+          let there = after_brace (b.place + 1) f.inner split refl in
+          grind (arith, takes_reaches _ a _ there refl, argument_refuses _ g f.reads)
       by_kind k f = tt
 
 these_in : (xs : List Piece) (a b : At) → Takes a b → IsPieces b xs → PiecesIn xs a

@@ -1,28 +1,25 @@
 -- The tree of a text beside its pieces.
 use Rattle.std.proofs.Common.{◌≡◌, ℕ, ◌+◌, Bool, true, false, List, [], ◌∷◌, ◌++◌, length, map}
-use Rattle.std.proofs.Common.{arith, refl, ap, ◌∙◌, sym, Option, Some, None, ◌<◌}
-use Rattle.std.specs.Prelude.{flat_map, ◌&&◌}
+use Rattle.std.proofs.Common.{flat_map, ◌&&◌, arith, refl, ap, sym, Option, Some, None, ◌<◌}
 use Rattle.std.specs.Char.{len_utf8}
 use Rattle.std.proofs.lemmas.List.{map-append}
 use Rattle.interpolator_syntax.specs.At.{At, size}
 use Rattle.interpolator_syntax.specs.PieceGrammar.{literal_pieces, token_pieces}
-use Rattle.interpolator_syntax.specs.Classes.{front_of, after_of, in_class, close_brace}
+use Rattle.interpolator_syntax.specs.Classes.{front_of, after_of, in_class}
 use Rattle.interpolator_syntax.specs.Pieces.{Piece, pieces, argument_from}
-use Rattle.interpolator_syntax.specs.Tokens.{Token, literals, doubled, lone_close, argument}
-use Rattle.interpolator_syntax.specs.Tokens.{first_token, past_token}
-use Rattle.interpolator_syntax.specs.Nodes.{Node, text_node}
-use Rattle.interpolator_syntax.specs.Nodes.{piece_node, token_node, leading_nodes, nodes}
-use Rattle.interpolator_syntax.specs.Splits.{node_alone, nodes_alone, with_literals, with_node}
-use Rattle.interpolator_syntax.specs.Splits.{join_literals, literal_nodes, split_node, split_again}
-use Rattle.interpolator_syntax.specs.Splits.{is_literal, begins_literal, NoTwoLiterals}
+use Rattle.interpolator_syntax.specs.Tokens.{Token, literals, argument, first_token, past_token}
+use Rattle.interpolator_syntax.specs.Nodes.{Node, text_node, piece_node, token_node, nodes}
+use Rattle.interpolator_syntax.specs.Splits.{node_alone, nodes_alone, with_node, join_literals}
+use Rattle.interpolator_syntax.specs.Splits.{literal_nodes, split_node, split_again, is_literal}
+use Rattle.interpolator_syntax.specs.Splits.{begins_literal, NoTwoLiterals}
 use Rattle.interpolator_syntax.specs.declared.class.Class.TheVariants as classes
-use Rattle.interpolator_syntax.specs.declared.piece_kind.PieceKind.TheVariants.{Literal, Doubled, LoneClose}
+use Rattle.interpolator_syntax.specs.declared.piece_kind.PieceKind.TheVariants.{Literal}
 use Rattle.interpolator_syntax.proofs.GrammarLemmas.{pieces_joined}
 use Rattle.interpolator_syntax.proofs.GrammarPieceLemmas.{pieces_are}
 use Rattle.interpolator_syntax.proofs.LocalityLemmas.{stands, size-append, takes_reaches}
 use Rattle.interpolator_syntax.proofs.ScanLemmas.{hands_on, hands_nothing}
-use Rattle.interpolator_syntax.proofs.NodeLemmas.{by_token, argument_kind, nodes_lead}
-use Rattle.interpolator_syntax.proofs.NodeLemmas.{nodes_first, nodes_none}
+use Rattle.interpolator_syntax.proofs.NodeLemmas.{by_token, argument_kind, nodes_lead, nodes_first}
+use Rattle.interpolator_syntax.proofs.NodeLemmas.{nodes_none}
 use Rattle.interpolator_syntax.proofs.TokenTextLemmas.{takes_token, scan_taken}
 
 -- ---- nodes that are not of literals
@@ -33,11 +30,6 @@ with_other x xs h = grind (arith, h)
 
 split_other : (x : Node) → is_literal x ≡ false → split_node x ≡ x ∷ []
 split_other x h = grind (arith, h)
-
--- literals in front of nodes, the first of which is not of literals
-before_other : (p end : ℕ) (cs : List ℕ) (xs : List Node) → begins_literal xs ≡ false
-    → with_literals p end cs xs ≡ text_node p end Literal cs ∷ xs
-before_other p end cs xs h = grind (arith, h)
 
 -- the node of an argument, or of a broken one, is not of literals
 argument_other : (p end : ℕ) (b : At)
@@ -69,8 +61,8 @@ after_run p (c ∷ cs) = grind (arith, after_run p cs)
 run_at : (p : ℕ) (text cs : List ℕ) (b : At) → first_token (stands p text) ≡ Some (literals cs, b)
     → (0 < length cs) × (begins_run (first_token b) ≡ false)
 unfolding first_token
-run_at p [] cs b h = absurd (cc)
-run_at p (c ∷ text) cs b h = grind (arith, h, after_run (p + size (front_of (in_class classes.Literal) (c ∷ text))) (c ∷ text))
+run_at p text cs b h =
+    grind (arith, h, after_run (p + size (front_of (in_class classes.Literal) text)) text)
 
 -- ---- neighbours
 
@@ -78,22 +70,17 @@ token_other : (p : ℕ) (t : Token) (b : At) → is_run t ≡ false
     → is_literal (token_node nodes p t b) ≡ false
 token_other p t b h = grind (arith, argument_other, h)
 
-leads_other : (p : ℕ) (o : Option (Token × At)) → begins_run o ≡ false
-    → begins_literal (leading_nodes nodes p o) ≡ false
-leads_other p o h = grind (arith, token_other p)
-
 next_other : (b : At) → begins_run (first_token b) ≡ false → begins_literal (nodes b) ≡ false
-next_other b h = rw (nodes_lead b) (leads_other b.place (first_token b) h)
+next_other b h = grind (arith, nodes_lead, token_other)
 
 neighbour_other : (a b : At) (t : Token) → first_token a ≡ Some (t, b)
     → (is_literal (token_node nodes a.place t b) && begins_literal (nodes (past_token t b))) ≡ false
-neighbour_other a b (literals cs) h = next_other b (run_at a.place a.text cs b h).1
-neighbour_other a b t h =
-    ap (λ l. l && begins_literal (nodes (past_token t b))) (token_other a.place t b refl)
+neighbour_other a b (literals cs) h = grind (arith, next_other b, run_at a.place a.text cs b h)
+neighbour_other a b t h = grind (arith, token_other a.place t b refl)
 
 pub no_two_literals : (a : At) → NoTwoLiterals (nodes a)
 no_two_literals =
-    by_token (λ a. NoTwoLiterals (nodes a)) (λ a e. rw (nodes_none a e) tt)
+    by_token _ (λ a e. rw (nodes_none a e) tt)
     (λ a b t e more. rw (nodes_first a b t e) (neighbour_other a b t e, more))
 
 -- ---- the texts of pieces
@@ -106,9 +93,7 @@ texts a = pieces_joined (pieces a) a (pieces_are a)
 -- characters that are literals, each by itself
 literals_alone : (p : ℕ) (cs : List ℕ) → map node_alone (literal_pieces p cs) ≡ literal_nodes p cs
 literals_alone p [] = refl
-literals_alone p (c ∷ cs) =
-    let n : p + (len_utf8 c + 0) ≡ p + len_utf8 c = omega arith in
-    rw (n, literals_alone (p + len_utf8 c) cs) refl
+literals_alone p (c ∷ cs) = grind (arith, literals_alone (p + len_utf8 c) cs)
 
 module _ (a b : At) (t : Token) (h : first_token a ≡ Some (t, b)) where
   -- the one piece of a token ends where the others begin
@@ -118,7 +103,7 @@ module _ (a b : At) (t : Token) (h : first_token a ≡ Some (t, b)) where
       let rest = past_token t b in
       let whole : x.text ++ rest.text ≡ a.text =
       grind (arith, texts rest, texts a, hands_on a t b h, e) in
-      omega (arith, takes_reaches _ a rest (scan_taken a (t, b) h) refl, ap size whole, size-append x.text rest.text)
+      omega (arith, takes_reaches _ a rest (scan_taken a (t, b) h) refl, ap size whole, size-append)
 
   -- the first pieces, and those of the text after them
   alone_first :
@@ -133,19 +118,17 @@ unfolding argument_from
 any_brace q p b = grind arith
 
 argument_alone : (p : ℕ) (b : At) (end : ℕ) → p + size (argument_from p b).piece.text ≡ end
-    → node_alone (argument_from p b).piece ≡ piece_node nodes p end (argument_from b.place b).piece.kind
-argument_alone p b end e = let same = any_brace b.place p b in rw (same.0, e, same.1) refl
+    → node_alone (argument_from p b).piece
+    ≡ piece_node nodes p end (argument_from b.place b).piece.kind
+argument_alone p b end e = grind (arith, any_brace b.place p b, e)
 
 -- a token that is no run of literals
 token_alone : (a b : At) (t : Token) → first_token a ≡ Some (t, b) → is_run t ≡ false
     → map node_alone (token_pieces a.place t b) ≡ token_node nodes a.place t b ∷ []
 token_alone a b (literals cs) h k = absurd (cc)
-token_alone a b (doubled c) h k =
-    ap (λ q. text_node a.place q Doubled (c ∷ []) ∷ []) (piece_ends a b (doubled c) h _ refl)
-token_alone a b lone_close h k =
-    ap (λ q. text_node a.place q LoneClose (close_brace ∷ []) ∷ []) (piece_ends a b lone_close h _ refl)
 token_alone a b argument h k =
-    ap (λ y. y ∷ []) (argument_alone a.place b _ (piece_ends a b argument h _ refl))
+    grind (arith, argument_alone a.place b _ (piece_ends a b argument h _ refl))
+token_alone a b t h k = grind (arith, piece_ends a b t h _ refl)
 
 -- ---- literals as one
 
@@ -153,59 +136,38 @@ token_alone a b argument h k =
 run_merged : (p c : ℕ) (cs : List ℕ) (xs : List Node) → begins_literal (join_literals xs) ≡ false
     → join_literals (literal_nodes p (c ∷ cs) ++ xs)
     ≡ text_node p (p + size (c ∷ cs)) Literal (c ∷ cs) ∷ join_literals xs
-run_merged p c [] xs h =
-    let n : p + (len_utf8 c + 0) ≡ p + len_utf8 c = omega arith in
-    rw n (before_other p (p + len_utf8 c) (c ∷ []) (join_literals xs) h)
-run_merged p c (d ∷ ds) xs h =
-    let n : p + size (c ∷ d ∷ ds) ≡ p + len_utf8 c + size (d ∷ ds) = omega arith in
-    rw (n, run_merged (p + len_utf8 c) d ds xs h) refl
+run_merged p c [] xs h = grind arith
+run_merged p c (d ∷ ds) xs h = grind (arith, run_merged (p + len_utf8 c) d ds xs h)
 
 module _ (a b : At) where
   run_one : (cs : List ℕ) → first_token a ≡ Some (literals cs, b)
       → join_literals (nodes_alone b) ≡ nodes b
       → join_literals (map node_alone (literal_pieces a.place cs) ++ nodes_alone b)
       ≡ text_node a.place b.place Literal cs ∷ nodes b
-  run_one [] h more = absurd (omega (arith, (run_at a.place a.text [] b h).0))
+  run_one [] h more = grind (arith, run_at a.place a.text [] b h)
   run_one (c ∷ cs) h more =
       let next = next_other b (run_at a.place a.text (c ∷ cs) b h).1 in
-      ap (λ xs. join_literals (xs ++ nodes_alone b)) (literals_alone a.place (c ∷ cs))
-      ∙ run_merged a.place c cs (nodes_alone b) (ap begins_literal more ∙ next)
-      ∙ rw (more, ← (takes_token a (literals (c ∷ cs), b) h).size) refl
-
-  other_one : (t : Token) → first_token a ≡ Some (t, b) → is_run t ≡ false
-      → join_literals (nodes_alone (past_token t b)) ≡ nodes (past_token t b)
-      → join_literals (map node_alone (token_pieces a.place t b) ++ nodes_alone (past_token t b))
-      ≡ token_node nodes a.place t b ∷ nodes (past_token t b)
-  other_one t h k more =
-      rw (token_alone a b t h k, more)
-      (with_other (token_node nodes a.place t b) _ (token_other a.place t b k))
-
-  token_one : (t : Token) → first_token a ≡ Some (t, b)
-      → join_literals (nodes_alone (past_token t b)) ≡ nodes (past_token t b)
-      → join_literals (map node_alone (token_pieces a.place t b) ++ nodes_alone (past_token t b))
-      ≡ token_node nodes a.place t b ∷ nodes (past_token t b)
-  token_one (literals cs) h more = run_one cs h more
-  token_one t h more = other_one t h refl more
+      let alone = literals_alone a.place (c ∷ cs) in
+      let merged = run_merged a.place c cs (nodes_alone b) in
+      let token = takes_token a (literals (c ∷ cs), b) h in
+      grind (arith, next, alone, merged, more, token.size)
 
 pub literals_as_one : (a : At) → join_literals (nodes_alone a) ≡ nodes a
 literals_as_one =
-    by_token (λ a. join_literals (nodes_alone a) ≡ nodes a)
-    (λ a e. rw (hands_nothing a e, nodes_none a e) refl)
-    (λ a b t e more. rw (alone_first a b t e, nodes_first a b t e) (token_one a b t e more))
+    by_token _ (λ a e. rw (hands_nothing a e, nodes_none a e) refl)
+    (λ a b t e more.
+    rw (alone_first a b t e, nodes_first a b t e)
+    (grind (arith, run_one a b, token_alone a b t e, with_other, token_other, more)))
 
 -- ---- and by themselves again
 
 token_splits : (a b : At) (t : Token) → first_token a ≡ Some (t, b)
     → split_node (token_node nodes a.place t b) ≡ map node_alone (token_pieces a.place t b)
-token_splits a b (literals cs) h = sym (literals_alone a.place cs)
-token_splits a b t h =
-    split_other (token_node nodes a.place t b) (token_other a.place t b refl)
-    ∙ sym (token_alone a b t h refl)
+token_splits a b t h = grind (arith, literals_alone, split_other, token_other, token_alone a b t h)
 
 pub pieces_again : (a : At) → split_again (nodes a) ≡ nodes_alone a
 pieces_again =
-    by_token (λ a. split_again (nodes a) ≡ nodes_alone a)
-    (λ a e. rw (hands_nothing a e, nodes_none a e) refl)
+    by_token _ (λ a e. rw (hands_nothing a e, nodes_none a e) refl)
     (λ a b t e more.
     rw (alone_first a b t e, nodes_first a b t e, sym (token_splits a b t e), sym more) refl)
 
@@ -219,20 +181,10 @@ module _ {M : Type 0} (all : List Node → M)
   after_all [] xs ys h = h
   after_all (z ∷ zs) xs ys h = next z (zs ++ xs) (zs ++ ys) (after_all zs xs ys h)
 
-  token_gathers : (a b : At) (t : Token) → first_token a ≡ Some (t, b)
-      → all (nodes (past_token t b)) ≡ all (nodes_alone (past_token t b))
-      → all (token_node nodes a.place t b ∷ nodes (past_token t b))
-      ≡ all (map node_alone (token_pieces a.place t b) ++ nodes_alone (past_token t b))
-  token_gathers a b (literals cs) h more =
-      rw (literals_alone a.place cs)
-      (run a.place b.place cs (nodes b) ∙ after_all (literal_nodes a.place cs) _ _ more)
-  token_gathers a b t h more =
-      next (token_node nodes a.place t b) _ _ more
-      ∙ ap (λ xs. all (xs ++ nodes_alone (past_token t b))) (sym (token_alone a b t h refl))
-
   -- what is gathered from the nodes of a text is what is gathered from its pieces
   pub gathered_alone : (a : At) → all (nodes a) ≡ all (nodes_alone a)
   gathered_alone =
-      by_token (λ a. all (nodes a) ≡ all (nodes_alone a))
-      (λ a e. rw (hands_nothing a e, nodes_none a e) refl)
-      (λ a b t e more. rw (alone_first a b t e, nodes_first a b t e) (token_gathers a b t e more))
+      by_token _ (λ a e. rw (hands_nothing a e, nodes_none a e) refl)
+      (λ a b t e more.
+      rw (alone_first a b t e, nodes_first a b t e)
+      (grind (arith, literals_alone, after_all, token_alone a b t e, more)))

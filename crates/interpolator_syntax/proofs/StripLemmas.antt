@@ -1,7 +1,6 @@
 -- An ASCII character at the beginning of a text, by its byte.
-use Rattle.std.proofs.Common.{◌≡◌, ℕ, ◌+◌, ◌<◌, List, [], ◌∷◌, length, get_or, arith}
-use Rattle.std.proofs.Common.{refl, ap, ◌∙◌, sym, Some, None, chars, IsUtf8, IsCharBoundary}
-use Rattle.std.proofs.Common.{encode_utf8_all, slice_get, eqb-true}
+use Rattle.std.proofs.Common.{◌≡◌, ℕ, ◌+◌, ◌<◌, List, [], ◌∷◌, length, get_or, arith, Some, None}
+use Rattle.std.proofs.Common.{chars, IsUtf8, IsCharBoundary, encode_utf8_all, slice_get, eqb-true}
 use Rattle.std.proofs.lemmas.Str.{chars_past_char, chars-nil, encodes-chars, encode_ascii}
 use Rattle.std.proofs.lemmas.Str.{len_utf8_ascii, IsCharBoundary-after_ascii}
 use Rattle.interpolator_syntax.specs.At.{At, strip, strip_of, after}
@@ -13,15 +12,11 @@ use Rattle.interpolator_syntax.specs.Grammar.{NotFirst}
 pub strip_here : (wanted p : ℕ) (bs rest : List ℕ) → wanted < 128 → IsUtf8 bs → bs ≡ wanted ∷ rest
     → strip_of wanted p (chars bs) ≡ Some (record { place = p + 1; text = chars rest })
 strip_here wanted p bs rest low u e =
-    let whole : chars bs ≡ wanted ∷ chars rest =
-    chars_past_char bs rest wanted u (rw (encode_ascii wanted low) e) in
-    grind (arith, whole, len_utf8_ascii wanted low)
+    grind (arith, chars_past_char bs rest wanted u, encode_ascii wanted low, len_utf8_ascii)
 
 strip_other_at : (wanted p : ℕ) (bs cs : List ℕ) → wanted < 128 → NotFirst wanted bs
     → encode_utf8_all cs ≡ bs → strip_of wanted p cs ≡ None
-strip_other_at wanted p bs [] low h e = refl
-strip_other_at wanted p bs (c ∷ cs) low h e =
-    grind (arith, encode_ascii wanted low, eqb-true c wanted, h (encode_utf8_all cs), e)
+strip_other_at wanted p bs cs low h e = grind (arith, encode_ascii, eqb-true)
 
 pub strip_other : (wanted p : ℕ) (bs : List ℕ) → wanted < 128 → IsUtf8 bs → NotFirst wanted bs
     → strip_of wanted p (chars bs) ≡ None
@@ -41,13 +36,11 @@ pub literals_scanned : (p : ℕ) (bs cs : List ℕ) (r : At) → 0 < length bs �
     → r ≡ after (in_class Literal) (record { place = p; text = chars bs })
     → Some (literals cs, r) ≡ first_token (record { place = p; text = chars bs })
 unfolding first_token
-literals_scanned p bs cs r n u h k f b =
-    grind (arith, n, h, k, f, b, encodes-chars bs u)
+literals_scanned p bs cs r n u h k f b = grind (arith, encodes-chars bs u)
 
 -- a text of one byte
 pub one_char : (bs cs : List ℕ) → cs ≡ bs → length cs ≡ 1 → get_or cs 0 0 < 128 → IsUtf8 bs
     → chars bs ≡ get_or cs 0 0 ∷ []
 one_char bs [] s n low u = absurd (omega arith)
-one_char bs (b ∷ []) s n low u = chars_past_char bs [] b u (rw (encode_ascii b low) (sym s))
-    ∙ ap (λ xs. b ∷ xs) chars-nil
+one_char bs (b ∷ []) s n low u = grind (arith, chars_past_char bs [] b u, encode_ascii, chars-nil)
 one_char bs (b ∷ d ∷ ds) s n low u = absurd (omega arith)

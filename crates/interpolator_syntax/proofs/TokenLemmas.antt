@@ -1,8 +1,8 @@
 -- The text after a token is shorter than the text.
-use Rattle.std.proofs.Common.{◌≡◌, ℕ, ◌<◌, ◌≤◌, List, [], ◌∷◌, length, arith, Some}
+use Rattle.std.proofs.Common.{◌≡◌, ℕ, ◌<◌, List, length, arith, Some}
 use Rattle.interpolator_syntax.specs.At.{At}
 use Rattle.interpolator_syntax.specs.Classes.{in_class}
-use Rattle.interpolator_syntax.specs.Tokens.{Token, first_token, past_token, argument}
+use Rattle.interpolator_syntax.specs.Tokens.{Token, first_token, past_token}
 use Rattle.interpolator_syntax.specs.declared.class.Class.TheVariants.{Literal}
 use Rattle.interpolator_syntax.proofs.LocalityLemmas.{stands}
 use Rattle.interpolator_syntax.proofs.PieceLemmas.{after_shorter, argument_from_within}
@@ -11,19 +11,12 @@ use Rattle.interpolator_syntax.proofs.PieceLemmas.{after_shorter, argument_from_
 shorter_at : (p : ℕ) (cs : List ℕ) (x : Token × At) → first_token (stands p cs) ≡ Some x
     → length x.1.text < length cs
 unfolding first_token
-shorter_at p [] x h = absurd (cc)
-shorter_at p (c ∷ []) x h = grind (arith, h)
-shorter_at p (c ∷ d ∷ cs) x h = grind (arith, h, after_shorter (in_class Literal) (d ∷ cs))
+shorter_at p cs x h = grind (arith, h, after_shorter (in_class Literal))
 
 pub token_shorter : (a : At) (x : Token × At) → first_token a ≡ Some x
     → length x.1.text < length a.text
 token_shorter a x h = shorter_at a.place a.text x h
 
--- the text after its argument has no more
-past_within : (x : Token) (b : At) → length (past_token x b).text ≤ length b.text
-past_within argument b = argument_from_within b.place b
-past_within x b = omega arith
-
 pub scan_shorter : (a rest : At) (x : Token × At) → first_token a ≡ Some x
     → rest ≡ past_token x.0 x.1 → length rest.text < length a.text
-scan_shorter a rest x h r = rw r (omega (arith, token_shorter a x h, past_within x.0 x.1))
+scan_shorter a rest x h r = grind (arith, token_shorter, argument_from_within)

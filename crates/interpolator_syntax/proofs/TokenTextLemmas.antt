@@ -3,7 +3,7 @@ use Rattle.std.proofs.Common.{◌≡◌, ℕ, ◌+◌, List, [], ◌∷◌, ◌+
 use Rattle.std.proofs.Common.{Some, None, Result, Ok, Err, append-nil}
 use Rattle.std.specs.Char.{len_utf8}
 use Rattle.interpolator_syntax.specs.At.{At, size, strip, all_after}
-use Rattle.interpolator_syntax.specs.Classes.{after_of, in_class, open_brace, close_brace}
+use Rattle.interpolator_syntax.specs.Classes.{in_class, open_brace, close_brace}
 use Rattle.interpolator_syntax.specs.Arguments.{Argument, argument_at}
 use Rattle.interpolator_syntax.specs.Faults.{Fault}
 use Rattle.interpolator_syntax.specs.Pieces.{argument_from, argument_or_broken, argument_step}
@@ -18,8 +18,7 @@ use Rattle.interpolator_syntax.proofs.ReaderLemmas.{argument_takes}
 
 -- the end of the text
 takes_all_after : (a : At) → Takes a (all_after a)
-takes_all_after a =
-    record { front = a.text; split = sym (append-nil a.text); place = refl }
+takes_all_after a = record { front = a.text; split = sym (append-nil a.text); place = refl }
 
 -- ---- tokens
 
@@ -57,12 +56,7 @@ module _ (a b : At) where
   takes_doubled :
       (c : ℕ) (r : At) → len_utf8 c ≡ 1 → a.text ≡ c ∷ b.text → b.place ≡ a.place + len_utf8 c
       → b.text ≡ c ∷ r.text → r.place ≡ b.place + len_utf8 c → TakesToken a (doubled c) r
-  takes_doubled c r one e p f q = record {
-    takes = takes_then a b r (one_taken a c b e p) (one_taken b c r f q);
-    more = b.text;
-    begins = e;
-    size = (one, omega (arith, p, q, one));
-  }
+  takes_doubled c r one e p f q = grind (arith, takes_then a b r, one_taken)
 
   takes_open :
       a.text ≡ open_brace ∷ b.text → b.place ≡ a.place + 1 → (o : Option At)
@@ -70,8 +64,7 @@ module _ (a b : At) where
   takes_open e p None k =
       record { takes = one_taken a open_brace b e p; more = b.text; begins = e; size = p }
   takes_open e p (Some r) k =
-      let s = strip_after open_brace b.place b.text r k in
-      takes_doubled open_brace r refl e p s.0 s.1
+      grind (arith, takes_doubled, strip_after open_brace b.place b.text r k)
 
   takes_close :
       a.text ≡ close_brace ∷ b.text → b.place ≡ a.place + 1 → (o : Option At)
@@ -79,26 +72,18 @@ module _ (a b : At) where
   takes_close e p None k =
       record { takes = one_taken a close_brace b e p; more = b.text; begins = e; size = p }
   takes_close e p (Some r) k =
-      let s = strip_after close_brace b.place b.text r k in
-      takes_doubled close_brace r refl e p s.0 s.1
+      grind (arith, takes_doubled, strip_after close_brace b.place b.text r k)
 
 takes_literals : (a : At) (cs : List ℕ) → MayTakeToken a (literal_scan a cs)
-takes_literals a [] = tt
-takes_literals a (c ∷ cs) = record {
-  takes = takes_after (in_class Literal) a;
-  more = after_of (in_class Literal) a.text;
-  begins = sym (front_after (in_class Literal) a.text);
-  size = refl;
-}
+takes_literals a cs =
+    grind (arith, takes_after (in_class Literal) a, front_after (in_class Literal) a.text)
 
 takes_no_open : (a : At) (o : Option At) → strip close_brace a ≡ o
     → MayTakeToken a (no_open_scan a o)
-takes_no_open a o e =
-    grind (arith, takes_literals a a.text, strip_after close_brace a.place a.text, takes_close a)
+takes_no_open a o e = grind (arith, takes_literals, strip_after, takes_close)
 
 takes_scan : (a : At) (o : Option At) → strip open_brace a ≡ o → MayTakeToken a (scan_by a o)
-takes_scan a o e =
-    grind (arith, takes_no_open a _ refl, strip_after open_brace a.place a.text, takes_open a)
+takes_scan a o e = grind (arith, takes_no_open, strip_after, takes_open)
 
 pub takes_token : (a : At) (w : Token × At) → first_token a ≡ Some w → TakesToken a w.0 w.1
 unfolding first_token
@@ -109,8 +94,7 @@ takes_token a w e = subst (MayTakeToken a) e (takes_scan a (strip open_brace a) 
 step_taken :
     (p : ℕ) (a : At) (x : Argument) (q : At) (o : Option At) → Takes a q → strip close_brace q ≡ o
     → Takes a (argument_step p a x q o).rest
-step_taken p a x q o t e =
-    grind (arith, takes_all_after a, strip_after close_brace q.place q.text, takes_then a q, one_taken q close_brace)
+step_taken p a x q o t e = grind (arith, takes_all_after, strip_after, takes_then, one_taken)
 
 or_broken_taken :
     (p : ℕ) (a : At) (o : Result (Argument × At) Fault) → argument_at a ≡ o
@@ -123,8 +107,7 @@ unfolding argument_from
 argument_taken p a = or_broken_taken p a (argument_at a) refl
 
 past_taken : (x : Token) (b : At) → Takes b (past_token x b)
-past_taken argument b = argument_taken b.place b
-past_taken x b = takes_none b
+past_taken x b = grind (arith, argument_taken, takes_none)
 
 -- the text after a token, and after its argument
 pub scan_taken : (a : At) (w : Token × At) → first_token a ≡ Some w → Takes a (past_token w.0 w.1)

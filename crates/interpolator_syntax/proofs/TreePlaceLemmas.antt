@@ -1,11 +1,10 @@
 -- The places that the tree of a text keeps lie in the text, and its faults are those of arguments.
 use Rattle.std.proofs.Common.{◌≡◌, ℕ, ◌+◌, ◌<◌, ◌≤◌, length, arith, refl, Option, Some, None}
-use Rattle.std.proofs.Common.{Result, Ok, Err}
+use Rattle.std.proofs.Common.{Result, Ok}
 use Rattle.std.specs.Prelude.{⊤}
 use Rattle.interpolator_syntax.specs.ArgumentFaults.{IsArgumentFault}
 use Rattle.interpolator_syntax.specs.Arguments.{Argument, argument_at}
-use Rattle.interpolator_syntax.specs.At.{At, size, strip}
-use Rattle.interpolator_syntax.specs.Classes.{close_brace}
+use Rattle.interpolator_syntax.specs.At.{At, size}
 use Rattle.interpolator_syntax.specs.Faults.{Fault, fault_place}
 use Rattle.interpolator_syntax.specs.Groups.{Group, inside}
 use Rattle.interpolator_syntax.specs.Nodes.{Node, node, Branch, no_branch, branch, Forest, no_nodes}
@@ -13,9 +12,8 @@ use Rattle.interpolator_syntax.specs.Nodes.{nodes_and, as_forest, nodes, Content
 use Rattle.interpolator_syntax.specs.Nodes.{argument_content, fault_content, group_branch}
 use Rattle.interpolator_syntax.specs.Nodes.{item_branch, join_branch, piece_node, token_node}
 use Rattle.interpolator_syntax.specs.Pieces.{argument_from, argument_or_broken, argument_step}
-use Rattle.interpolator_syntax.specs.SpecTexts.{Kind, of_value, of_list}
-use Rattle.interpolator_syntax.specs.Tokens.{Token, literals, doubled, lone_close, argument}
-use Rattle.interpolator_syntax.specs.Tokens.{first_token, past_token}
+use Rattle.interpolator_syntax.specs.SpecTexts.{Kind}
+use Rattle.interpolator_syntax.specs.Tokens.{Token, argument, first_token, past_token}
 use Rattle.interpolator_syntax.proofs.ArgumentFaultLemmas.{fault_of_argument}
 use Rattle.interpolator_syntax.proofs.GrammarArgumentLemmas.{broken_is}
 use Rattle.interpolator_syntax.proofs.TokenTextLemmas.{WrittenSize, takes_token, scan_taken}
@@ -58,8 +56,7 @@ module _ (b : At) (n : ℕ) (more : (c : At) → length c.text < length b.text �
 
   kind_lies : (k : Kind) → KindIn k b
       → BranchLies n (item_branch nodes k) × BranchLies n (join_branch nodes k)
-  kind_lies (of_value t) h = (tt, tt)
-  kind_lies (of_list asked) h = (group_lies asked.item h.item, group_lies asked.join h.join)
+  kind_lies k h = grind (arith, group_lies)
 
   begins : b.place ≤ n
   begins = omega (arith, reach)
@@ -69,31 +66,24 @@ module _ (b : At) (n : ℕ) (more : (c : At) → length c.text < length b.text �
       × BranchLies n (item_branch nodes x.kind) × BranchLies n (join_branch nodes x.kind)
   argument_lies x q e =
       let ends = takes_reaches _ b q (argument_takes b x q e) refl in
-      let groups = kind_lies x.kind (argument_in b x q e) in
-      (begins, omega (arith, reach, ends), groups.0, groups.1)
+      grind (arith, reach, ends, kind_lies x.kind (argument_in b x q e))
 
   step_lies : (p : ℕ) (x : Argument) (q : At) (o : Option At) → argument_at b ≡ Ok (x, q)
       → (let s = argument_step b.place b x q o in
       NodeLies n (piece_node nodes p s.rest.place s.piece.kind))
-  step_lies p x q None e = let h = argument_lies x q e in ((h.0, h.1), h.2, h.3)
-  step_lies p x q (Some rest) e = let h = argument_lies x q e in ((h.0, h.1), h.2, h.3)
+  step_lies p x q o e = grind (arith, argument_lies x q e)
 
   answer_lies : (p : ℕ) (r : Result (Argument × At) Fault) → argument_at b ≡ r
       → (let s = argument_or_broken b.place b r in
       NodeLies n (piece_node nodes p s.rest.place s.piece.kind))
-  answer_lies p (Ok w) e = step_lies p w.0 w.1 (strip close_brace w.1) e
-  answer_lies p (Err f) e = (
-    (omega (arith, reach, argument_refuses b f e), fault_of_argument b f (broken_is b f e)),
-    tt,
-    tt,
-  )
+  answer_lies p r e =
+      let kind = λ (f : Fault). fault_of_argument b f in
+      grind (arith, step_lies p, reach, argument_refuses b, kind, broken_is b)
 
   token_lies : (p : ℕ) (t : Token) → WrittenSize p t b → NodeLies n (token_node nodes p t b)
   unfolding argument_from
   token_lies p argument w = answer_lies p (argument_at b) refl
-  token_lies p (literals cs) w = (omega (arith, w, begins), tt, tt)
-  token_lies p (doubled c) w = (omega (arith, w.0, w.1, begins), tt, tt)
-  token_lies p lone_close w = (omega (arith, w, begins), tt, tt)
+  token_lies p t w = grind (arith, reach)
 
 lie_by : (a : At) → ((b : At) → length b.text < length a.text → Lies b) → (o : Option (Token × At))
     → first_token a ≡ o → Lies a
@@ -102,9 +92,8 @@ lie_by a shorter (Some w) e n reach =
     let rest = past_token w.0 w.1 in
     let first_reaches = takes_reaches _ a w.1 (takes_token a w e).takes refl in
     let rest_reaches = takes_reaches _ a rest (scan_taken a w e) refl in
-    let first_shorter = token_shorter a w e in
     rw (nodes_first a w.1 w.0 e) (
-      token_lies w.1 n (λ c l. shorter c (omega (arith, l, first_shorter)))
+      token_lies w.1 n (λ c l. shorter c (omega (arith, l, token_shorter a w e)))
           (omega (arith, reach, first_reaches)) a.place w.0 (takes_token a w e).size,
       shorter rest (scan_shorter a _ w e refl) n (omega (arith, reach, rest_reaches)),
     )

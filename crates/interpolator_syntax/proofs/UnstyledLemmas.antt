@@ -1,10 +1,7 @@
 -- What is written through a writer on top of a formatter is written to the formatter.
-use Rattle.std.proofs.Common.{◌≡◌, refl, sym, subst, ◌∙◌, List, [], ◌∷◌, ℕ}
-use Rattle.std.proofs.lemmas.Bool.{false≢true}
-use Rattle.std.specs.Prelude.{Option, Some, None, Result, OnOk, Ok, Err}
+use Rattle.std.proofs.Common.{arith, ◌≡◌, List, [], ◌∷◌, ℕ, Option, Result, OnOk}
 use Rattle.std.specs.List.{FoldsTo, concat}
-use Rattle.std.specs.Fmt.{IsDefaultSpec, IsFlush, HasWrittenStyled, WritesText}
-use Rattle.std.specs.Fmt.{DisplaysOnOk, DisplaysStyledOnOk}
+use Rattle.std.specs.Fmt.{IsFlush, HasWrittenStyled, WritesText, DisplaysOnOk, DisplaysStyledOnOk}
 use Rattle.std.specs.declared.fmt.Formatter.{Formatter}
 use Rattle.std.specs.declared.fmt.Error.{Error}
 use Rattle.std.proofs.Output.{has_written_styled_nil, has_written_styled_append}
@@ -14,15 +11,7 @@ module _ {W : Type 0} (took : W → List ℕ → W → Type 0) where
   pub displays_plainly : (f g : Formatter W) (result : Result (Unit {0}) Error)
       (text : Option (List ℕ)) → DisplaysStyledOnOk took f result text g
       → DisplaysOnOk took f result text g
-  displays_plainly f g result None shown = tt
-  displays_plainly f g result (Some bytes) shown = λ plain ok.
-      let written = shown plain.flush ok in record {
-        wrote = written.wrote;
-        plain = record {
-          bare = subst IsDefaultSpec (sym written.spec) plain.bare;
-          flush = written.flush;
-        };
-      }
+  displays_plainly f g result text shown = grind arith
 
   module _ {S N : Type 0} (name : S → N) (below : S → Formatter W) where
     -- a call is passed on to the formatter below
@@ -32,25 +21,13 @@ module _ {W : Type 0} (took : W → List ℕ → W → Type 0) where
 
     calls_through : (old : S) (parts : List (List ℕ)) (new : S) → FoldsTo Through old parts new
         → Through old (concat parts) new
-    calls_through old [] new same =
-        subst (Through old []) same
-        (refl, λ flush. has_written_styled_nil took (below old) flush)
+    calls_through old [] new same = grind (arith, has_written_styled_nil)
     calls_through old (part ∷ parts) new calls =
-        let rest = calls_through calls.0 parts new calls.2 in (
-          rest.0 ∙ calls.1.0,
-          λ flush. let first = calls.1.1 flush in
-              has_written_styled_append took _ _ _ _ _ first (rest.1 first.flush),
-        )
+        grind (arith, has_written_styled_append, calls_through calls.0 parts new calls.2)
 
     -- calls that are each passed on to the formatter are passed on together
     pub displays_through : (old new : S) (g : Formatter W) (result : Result (Unit {0}) Error)
         (text : Option (List ℕ)) → (name new ≡ name old → g ≡ below new)
         → OnOk result (WritesText Through old text new)
         → DisplaysStyledOnOk took (below old) result text g
-    displays_through old new g result None back written = tt
-    displays_through old new g (Err error) (Some bytes) back written =
-        λ flush ok. absurd (false≢true ok)
-    displays_through old new g (Ok _) (Some bytes) back written = λ flush ok.
-        let all = calls_through old written.parts new written.calls in
-        subst (λ text. HasWrittenStyled took (below old) text g) written.whole
-        (subst (HasWrittenStyled took (below old) _) (sym (back all.0)) (all.1 flush))
+    displays_through old new g result text back written = grind (arith, calls_through)

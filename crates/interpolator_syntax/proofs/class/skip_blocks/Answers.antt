@@ -1,17 +1,15 @@
-use Rattle.std.proofs.Common.{ℕ, ◌||◌, eqb}
+use Rattle.std.proofs.Common.{arith, ◌||◌, eqb}
 use Rattle.interpolator_syntax.proofs.ByteLemmas.{one_block_less}
 use Rattle.interpolator_syntax.proofs.class.skip_blocks.Goals as goal
 
 pub returns-in-Some-clause-first : goal.returns-in-Some-clause-first
 returns-in-Some-clause-first c =
-    let test = λ (b : ℕ). eqb b c.args.first || eqb b c.args.second in
-    let same =
-    one_block_less test c.args.bytes.now c.loop-rest.rest.now c.split_at.result.1.now 16
-    c.in-Some.index c.loop-rest.invariant c.in-Some.ensures c.split_at.ensures.back in
-    same.1
+    let less =
+    one_block_less (λ b. eqb b c.args.first || eqb b c.args.second) c.args.bytes.now
+    c.loop-rest.rest.now c.split_at.result.1.now 16 c.in-Some.index in
+    grind (arith, less)
 
 pub loop-rest-preserved : goal.loop-rest-preserved
 loop-rest-preserved c =
-    let test = λ (b : ℕ). eqb b c.args.first || eqb b c.args.second in
-    one_block_less test c.args.bytes.now c.loop-rest.rest.now c.split_at-in-loop-rest.result.1.now
+    one_block_less _ c.args.bytes.now c.loop-rest.rest.now c.split_at-in-loop-rest.result.1.now
     16 16 c.loop-rest.invariant c.in_default.ensures c.split_at-in-loop-rest.ensures.back

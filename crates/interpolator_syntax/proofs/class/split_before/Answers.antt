@@ -1,21 +1,19 @@
-use Rattle.std.proofs.Common.{◌∙◌, ap, chars}
+use Rattle.std.proofs.Common.{arith}
+use Rattle.std.proofs.lemmas.Grind.{common_steps}
 use Rattle.interpolator_syntax.proofs.ByteLemmas.{cut_boundary, chars_front, chars_after}
 use Rattle.interpolator_syntax.proofs.class.split_before.Goals as goal
 
 pub split_at-requires : goal.split_at-requires
 split_at-requires c =
-    rw c.bytes_before.ensures (rw c.as_bytes.ensures.value
-    (cut_boundary c.args.first c.args.second c.requires.first c.requires.second
-    c.args.text.now))
+    let cut = cut_boundary c.args.first c.args.second c.requires.first c.requires.second in
+    grind (arith, common_steps, cut)
 
 pub returns-clause-front : goal.returns-clause-front
-returns-clause-front c = ap chars c.split_at.ensures.front
-    ∙ rw (c.bytes_before.ensures, c.as_bytes.ensures.value)
-    (chars_front c.args.first c.args.second c.requires.first c.requires.second c.args.text.now
-    c.utf8.text)
+returns-clause-front c =
+    let front = chars_front c.args.first c.args.second c.requires.first c.requires.second in
+    grind (arith, common_steps, front)
 
 pub returns-clause-after : goal.returns-clause-after
-returns-clause-after c = ap chars c.split_at.ensures.back
-    ∙ rw (c.bytes_before.ensures, c.as_bytes.ensures.value)
-    (chars_after c.args.first c.args.second c.requires.first c.requires.second c.args.text.now
-    c.utf8.text)
+returns-clause-after c =
+    let after = chars_after c.args.first c.args.second c.requires.first c.requires.second in
+    grind (arith, common_steps, after)

@@ -1,8 +1,7 @@
-use Rattle.std.proofs.Common.{rules, IsUtf8}
+use Rattle.std.proofs.Common.{arith}
+use Rattle.std.proofs.lemmas.Grind.{common_steps}
 use Rattle.interpolator_syntax.proofs.FirstByteLemmas.{ends_told}
 use Rattle.interpolator_syntax.proofs.cursor.Cursor.is_at_end.Goals as goal
 
 pub returns : goal.returns
-returns c =
-    let utf8 : IsUtf8 c.args.self.rest.now = search rules in
-    ends_told c.args.self.rest.now c.is_empty.result utf8 c.is_empty.ensures
+returns c = grind (arith, common_steps, ends_told)

@@ -1,8 +1,7 @@
-use Rattle.std.proofs.Common.{◌∙◌, sym}
+use Rattle.std.proofs.Common.{arith}
+use Rattle.std.proofs.lemmas.Grind.{common_steps}
 use Rattle.interpolator_syntax.proofs.EqualityLemmas.{arguments_decide}
 use Rattle.interpolator_syntax.proofs.laws.equality.is_same_argument.Goals as goal
 
 pub returns : goal.returns
-returns c =
-    let same = arguments_decide c.args.argument.now c.args.other.now in
-    (λ t. same.0 (sym c.eq.ensures ∙ t), λ e. c.eq.ensures ∙ same.1 e)
+returns c = grind (arith, common_steps, arguments_decide)
