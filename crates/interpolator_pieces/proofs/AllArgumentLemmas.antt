@@ -1,6 +1,6 @@
 -- The arguments of a text: those of its pieces, those of what the scan hands on, and their names.
 use Rattle.std.proofs.Common.{◌≡◌, ℕ, zero, suc, ◌+◌, ◌<◌, ◌≤◌, List, [], ◌∷◌, ◌++◌, length, arith}
-use Rattle.std.proofs.Common.{refl, ap, sym, ◌∙◌, append_assoc, Option, Some, None, map, Ok}
+use Rattle.std.proofs.Common.{refl, append_assoc, Option, Some, None, map, Ok}
 use Rattle.std.proofs.lemmas.List.{append-nil, map-append}
 use Rattle.std.specs.Char.{len_utf8}
 use Rattle.std.specs.Prelude.{option_map}
@@ -43,18 +43,17 @@ module _ (a : At) (run other : At → List Argument)
 -- any sufficient limit of depth gives the same
 deep_same : (n m : ℕ) (a : At) → length a.text < n → length a.text < m
     → arguments_within n a ≡ arguments_within m a
-deep_same zero m a h k = absurd (omega (arith, h))
-deep_same (suc n) zero a h k = absurd (omega (arith, k))
+deep_same zero m a h k = absurd (omega arith)
+deep_same (suc n) zero a h k = absurd (omega arith)
 deep_same (suc n) (suc m) a h k =
     pieces_alike a (arguments_within n) (arguments_within m)
-    (λ b l. deep_same n m b (omega (arith, h, l)) (omega (arith, k, l))) (pieces a) (pieces_in a)
+    (λ b l. deep_same n m b (omega arith) (omega arith)) (pieces a) (pieces_in a)
 
 pub arguments_pieces : (a : At) → arguments_of a ≡ pieces_arguments arguments_of (pieces a)
 unfolding arguments_of
 arguments_pieces a =
-    let n = length a.text in
-    pieces_alike a (arguments_within n) (λ b. arguments_within (suc (length b.text)) b)
-    (λ b l. deep_same n (suc (length b.text)) b l (omega arith)) (pieces a) (pieces_in a)
+    pieces_alike a (arguments_within (length a.text)) (λ b. arguments_within (suc (length b.text)) b)
+    (λ b l. deep_same (length a.text) (suc (length b.text)) b l (omega arith)) (pieces a) (pieces_in a)
 
 -- ---- they are those of what the scan hands on, and of what follows it
 
@@ -77,9 +76,8 @@ arguments_first : (a b : At) (t : Token) → first_token a ≡ Some (t, b)
     → arguments_of a ≡ token_arguments t b ++ arguments_of (past_token t b)
 arguments_first a b t h =
     let rest = past_token t b in
-    arguments_pieces a ∙ ap (pieces_arguments arguments_of) (hands_on a t b h)
-    ∙ token_gives a.place t b (pieces rest)
-    ∙ ap (λ xs. token_arguments t b ++ xs) (sym (arguments_pieces rest))
+    rw (arguments_pieces a, hands_on a t b h, token_gives a.place t b (pieces rest))
+    (rw (← arguments_pieces rest) refl)
 
 -- any other token has none, and reading goes on after it
 pub no_argument : (x : code_token.Token) (b : At) → ¬ (x ≡ tokens.Argument)
@@ -103,11 +101,7 @@ module _ (text here : At) (before so_far : List Argument)
       → Gathering text before more rest
   gathers_on x b rest more e r m = record {
     left = omega (arith, gathering.left, scan_shorter here rest (x, b) e r);
-    all =
-        ap (λ xs. xs ++ arguments_of rest) m
-        ∙ append_assoc so_far (token_arguments x b) (arguments_of rest)
-        ∙ ap (λ a. so_far ++ (token_arguments x b ++ arguments_of a)) r
-        ∙ ap (λ xs. so_far ++ xs) (sym (arguments_first here b x e)) ∙ gathering.all;
+    all = grind (arith, append_assoc so_far (token_arguments x b), arguments_first);
   }
 
   -- nothing is left
@@ -175,6 +169,4 @@ pub arguments_name : (a : At)
     → without_empty (names_of (arguments_of a)) ≡ without_empty (asked_names a)
 arguments_name =
     by_length (λ a. Name (arguments_of a) (asked_names a)) (λ a shorter.
-    ap (λ xs. without_empty (names_of xs)) (arguments_pieces a)
-    ∙ pieces_names a shorter (pieces a) (pieces_in a)
-    ∙ sym (ap without_empty (asked_pieces a)))
+    rw (arguments_pieces a, asked_pieces a) (pieces_names a shorter (pieces a) (pieces_in a)))

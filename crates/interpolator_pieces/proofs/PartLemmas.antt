@@ -1,10 +1,9 @@
 -- The text that lies at a place of another is what is cut from the other there.
-use Rattle.std.proofs.Common.{◌≡◌, ℕ, ◌+◌, ◌-◌, ◌<◌, Bool, true, false, ◌&&◌, nat_lt, List, []}
-use Rattle.std.proofs.Common.{◌∷◌, ◌++◌, length, take, drop, arith, refl, ap, ◌∙◌, sym, subst, rules}
-use Rattle.std.proofs.Common.{Some, append_assoc}
-use Rattle.std.specs.Str.{chars, IsUtf8, IsCharBoundary, encode_utf8_all}
+use Rattle.std.proofs.Common.{◌≡◌, ℕ, ◌+◌, ◌-◌, ◌<◌, Bool, true, false, ◌&&◌, nat_lt, List, [], ◌∷◌}
+use Rattle.std.proofs.Common.{◌++◌, length, take, drop, arith, refl, ap, ◌∙◌, sym, subst, rules}
+use Rattle.std.proofs.Common.{Some, append_assoc, chars, IsUtf8, IsCharBoundary, encode_utf8_all}
+use Rattle.std.proofs.Common.{length-append}
 use Rattle.std.specs.Cmp.Derive.{both_true}
-use Rattle.std.proofs.lemmas.List.{length-append}
 use Rattle.std.proofs.lemmas.Str.{IsCharBoundary-at_seam, encodes-chars, encodes-append}
 use Rattle.std.proofs.lemmas.Str.{chars-encodes, scalars-chars}
 use Rattle.std.proofs.Math.Utf8.{scalars}
@@ -58,13 +57,10 @@ part_lies bs p cs to u h t =
     rw at_x (IsCharBoundary-at_seam bs (m ++ x) k (split ∙ sym (append_assoc m x k))
     (h.back, (both.1, refl))) in
     let order : nat_lt to p ≡ false = search (rules, t) in
-    cut_out p to bs order (at_boundary bs p first) (at_boundary bs to last)
-    ∙ ap (λ n. Some (chars (take (to - p) (drop n bs)))) at_m
-    ∙ ap (λ z. Some (chars (take (to - p) (drop (length m) z)))) split
-    ∙ ap (λ z. Some (chars (take (to - p) z))) (drop-append_seam m (x ++ k))
-    ∙ ap (λ n. Some (chars (take n (x ++ k)))) same_size
-    ∙ ap (λ z. Some (chars z)) (take-append_seam x k)
-    ∙ ap Some (chars-encodes cs both.0)
+    let cut = cut_out p to bs order (at_boundary bs p first) (at_boundary bs to last) in
+    let front = drop-append_seam m (x ++ k) in
+    let own = take-append_seam x k in
+    grind (arith, cut, chars-encodes cs both.0, front, own)
 
 -- the characters of a name that begins after the byte `place`
 pub name_lies :

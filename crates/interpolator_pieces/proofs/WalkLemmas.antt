@@ -1,5 +1,5 @@
 -- The walk over stored pieces: its visits, one piece and one group at a time.
-use Rattle.std.proofs.Common.{◌≡◌, refl, sym, subst, arith, ℕ, ◌+◌, ◌^◌, ◌<◌, ◌≤◌, true, List, []}
+use Rattle.std.proofs.Common.{◌≡◌, refl, arith, ℕ, ◌+◌, ◌^◌, ◌<◌, ◌≤◌, true, List, []}
 use Rattle.std.specs.Prelude.{max}
 use Rattle.std.proofs.Common.{◌∷◌, ◌++◌, length, get_or, inl, inr, Result, Ok, Err, Option, Some}
 use Rattle.std.specs.Global.{Vec}
@@ -116,9 +116,8 @@ piece_depth bs x = grind (arith, node_of_out)
 pub piece_within : (bs : List ℕ) (xs : List Piece) (i : ℕ) (x : Piece) → i < length xs
     → x ≡ get_or xs i x → node_depth (node_of bs x) ≤ forest_depth (as_forest (nodes_of bs xs))
 piece_within bs xs i x l is =
-    subst (λ y. node_depth (node_of bs y) ≤ forest_depth (as_forest (nodes_of bs xs))) (sym is)
-    (max_bounds (λ ys. forest_depth (as_forest (nodes_of bs ys))) (λ y. node_depth (node_of bs y))
-    refl (λ y ys. refl) xs i x l)
+    rw is (max_bounds (λ ys. forest_depth (as_forest (nodes_of bs ys)))
+    (λ y. node_depth (node_of bs y)) refl (λ y ys. refl) xs i x l)
 
 -- the pieces of a group
 pub group_fits : (depth : ℕ) (bs : List ℕ) (group : Option (Vec Piece)) (v : Vec Piece)

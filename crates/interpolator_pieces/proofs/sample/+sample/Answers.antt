@@ -1,13 +1,11 @@
-use Rattle.std.proofs.Common.{rules, arith, Some, None, ap, ◌∙◌}
+use Rattle.std.proofs.Common.{rules, arith, Some, None}
 use Rattle.std.proofs.lemmas.Result.{err_from_is_err_and}
 use Rattle.interpolator_syntax.specs.Faults.{answer_of}
-use Rattle.interpolator_eval.specs.Meaning.Samples.{sample_of, level_in, bind_each}
-use Rattle.interpolator_pieces.specs.NodeChecks.{stored_own_fault, stored_end_fault}
-use Rattle.interpolator_pieces.proofs.CollectLemmas.{piece_ends, piece_goes_on, pieces_over}
-use Rattle.interpolator_pieces.proofs.CollectLemmas.{collects_nothing}
-use Rattle.interpolator_pieces.proofs.CollectLemmas.{group_deep, item_told, asked_ends, own_ends}
+use Rattle.interpolator_eval.specs.Meaning.Samples.{level_in}
+use Rattle.interpolator_pieces.proofs.CollectLemmas.{collects_nothing, piece_ends, piece_goes_on}
+use Rattle.interpolator_pieces.proofs.CollectLemmas.{pieces_over, asked_ends, own_ends, item_ends}
+use Rattle.interpolator_pieces.proofs.CollectLemmas.{join_ends, last_told, group_deep, item_told}
 use Rattle.interpolator_pieces.proofs.WalkLemmas.{piece_depth, piece_within}
-use Rattle.interpolator_pieces.proofs.CollectLemmas.{item_ends, join_ends, last_told}
 use Rattle.interpolator_pieces.proofs.WholePieceLemmas.{in_item, in_join, fits_text}
 use Rattle.interpolator_pieces.proofs.WholePieceLemmas.{piece_whole, most_at}
 use Rattle.interpolator_pieces.proofs.piece.Piece.TheLaws.{the_size}
@@ -31,32 +29,22 @@ collect_pieces-collect_piece-requires g t c κs within =
 
 pub collect_pieces-returns-in_err-collect_piece : goal.collect_pieces-returns-in_err-collect_piece
 collect_pieces-returns-in_err-collect_piece g t c =
-    let err = err_from_is_err_and c.from_residual.result c.from_residual.ensures.1 in
-    rw (err.1, err.2) (record {
-      collects = c.loop-piece.invariant c.collect_piece.new.collector
-          (Some (answer_of c.in_err-collect_piece.field-0.0))
-          (piece_ends _ _ _ _ _ _ c.loop-piece.collector c.collect_piece.new.collector _
-          c.loop-piece-test.true c.piece-item.is c.in_err-collect_piece.ensures.collects);
-    })
+    let ends = c.loop-piece.invariant c.collect_piece.new.collector
+    (Some (answer_of c.in_err-collect_piece.field-0.0)) in
+    grind (arith, err_from_is_err_and, piece_ends, ends)
 
 pub collect_pieces-loop-piece-preserved : goal.collect_pieces-loop-piece-preserved
-collect_pieces-loop-piece-preserved g t c = λ new r k.
-    c.loop-piece.invariant new r
+collect_pieces-loop-piece-preserved g t c = λ new r k. c.loop-piece.invariant new r
     (piece_goes_on _ _ _ _ _ _ c.loop-piece.collector c.collect_piece.new.collector new r
     c.loop-piece-test.true c.piece-item.is c.in_ok-collect_piece.ensures.collects k)
 
 pub collect_pieces-returns : goal.collect_pieces-returns
-collect_pieces-returns g t c = record {
-  collects = c.loop-piece.invariant c.loop-piece.collector None
-      (pieces_over _ _ _ _ _ c.loop-piece.collector c.loop-piece-test.false);
-}
+collect_pieces-returns g t c = grind (arith, pieces_over, c.loop-piece.invariant c.loop-piece.collector None)
 
 -- ---- one piece
 
 pub collect_piece-returns-then-is_plainly_right : goal.collect_piece-returns-then-is_plainly_right
-collect_piece-returns-then-is_plainly_right g t c = record {
-  collects = rw (c.is_plainly_right.ensures.right c.if-is_plainly_right.true) (collects_nothing c.args.collector.now);
-}
+collect_piece-returns-then-is_plainly_right g t c = grind (arith, collects_nothing)
 
 pub collect_parts-collect_item-requires : goal.collect_parts-collect_item-requires
 collect_parts-collect_item-requires g t c κs within =
@@ -72,7 +60,7 @@ pub collect_parts-returns-in_err-collect_asked : goal.collect_parts-returns-in_e
 collect_parts-returns-in_err-collect_asked g t c =
     let err = err_from_is_err_and c.from_residual.result c.from_residual.ensures.1 in
     rw (err.1, err.2) (record {
-      collects = asked_ends _ _ c.args.text.now c.args.piece.now (search rules) c.args.collector.now
+      collects = asked_ends _ _ _ c.args.piece.now (search rules) c.args.collector.now
           c.collect_asked.new.collector _ c.in_err-collect_asked.ensures.collects;
     })
 
@@ -80,61 +68,54 @@ pub collect_parts-returns-in_err-collect_checked : goal.collect_parts-returns-in
 collect_parts-returns-in_err-collect_checked g t c =
     let residual = c.from_residual-in_err-collect_checked in
     let err = err_from_is_err_and residual.result residual.ensures.1 in
+    let own = c.in_err-collect_checked.ensures _ c.check_own.ensures.own in
     rw (err.1, err.2) (record {
-      collects = own_ends _ _ c.args.text.now c.args.piece.now (search rules) c.args.collector.now
-          c.collect_asked.new.collector c.in_ok-collect_asked.ensures.collects c.collect_checked.new.self _
-          (c.in_err-collect_checked.ensures (stored_own_fault c.args.piece.now)
-          c.check_own.ensures.own);
+      collects = own_ends _ _ _ c.args.piece.now (search rules) c.args.collector.now
+          c.collect_asked.new.collector c.in_ok-collect_asked.ensures.collects
+          c.collect_checked.new.self _ own;
     })
 
 pub collect_parts-returns-in_err-collect_item : goal.collect_parts-returns-in_err-collect_item
 collect_parts-returns-in_err-collect_item g t c =
     let residual = c.from_residual-in_err-collect_item in
     let err = err_from_is_err_and residual.result residual.ensures.1 in
+    let own = c.in_ok-collect_checked.ensures _ c.check_own.ensures.own in
     rw (err.1, err.2) (record {
-      collects = item_ends _ _ c.args.text.now c.args.piece.now (search rules) c.args.collector.now
-          c.collect_asked.new.collector c.in_ok-collect_asked.ensures.collects c.collect_checked.new.self
-          (c.in_ok-collect_checked.ensures (stored_own_fault c.args.piece.now)
-          c.check_own.ensures.own)
-          c.collect_item.new.collector _ c.in_err-collect_item.ensures.collects;
+      collects = item_ends _ _ _ c.args.piece.now (search rules) c.args.collector.now
+          c.collect_asked.new.collector c.in_ok-collect_asked.ensures.collects
+          c.collect_checked.new.self own c.collect_item.new.collector _
+          c.in_err-collect_item.ensures.collects;
     })
 
 pub collect_parts-returns-in_err-collect_join : goal.collect_parts-returns-in_err-collect_join
 collect_parts-returns-in_err-collect_join g t c =
     let residual = c.from_residual-in_err-collect_join in
     let err = err_from_is_err_and residual.result residual.ensures.1 in
+    let own = c.in_ok-collect_checked.ensures _ c.check_own.ensures.own in
     rw (err.1, err.2) (record {
-      collects = join_ends _ _ c.args.text.now c.args.piece.now (search rules) c.args.collector.now
-          c.collect_asked.new.collector c.in_ok-collect_asked.ensures.collects c.collect_checked.new.self
-          (c.in_ok-collect_checked.ensures (stored_own_fault c.args.piece.now)
-          c.check_own.ensures.own)
-          c.collect_item.new.collector c.in_ok-collect_item.ensures.collects
-          c.collect_join.new.collector _ c.in_err-collect_join.ensures.collects;
+      collects = join_ends _ _ _ c.args.piece.now (search rules) c.args.collector.now
+          c.collect_asked.new.collector c.in_ok-collect_asked.ensures.collects
+          c.collect_checked.new.self own c.collect_item.new.collector
+          c.in_ok-collect_item.ensures.collects c.collect_join.new.collector _
+          c.in_err-collect_join.ensures.collects;
     })
 
 pub collect_parts-returns : goal.collect_parts-returns
-collect_parts-returns g t c = record {
-  collects = last_told _ _ c.args.text.now c.args.piece.now (search rules) c.args.collector.now
-      c.collect_asked.new.collector c.in_ok-collect_asked.ensures.collects c.collect_checked.new.self
-      (c.in_ok-collect_checked.ensures (stored_own_fault c.args.piece.now)
-      c.check_own.ensures.own)
-      c.collect_item.new.collector c.in_ok-collect_item.ensures.collects
-      c.collect_join.new.collector c.collect_checked-2.new.self _ c.in_ok-collect_join.ensures.collects
-      (c.collect_checked-2.ensures (stored_end_fault c.args.piece.now) c.check_end.ensures.end);
-}
+collect_parts-returns g t c =
+    let own = c.in_ok-collect_checked.ensures _ c.check_own.ensures.own in
+    let last = c.collect_checked-2.ensures _ c.check_end.ensures.end in
+    record {
+      collects = last_told _ _ _ c.args.piece.now (search rules) c.args.collector.now
+          c.collect_asked.new.collector c.in_ok-collect_asked.ensures.collects
+          c.collect_checked.new.self own c.collect_item.new.collector
+          c.in_ok-collect_item.ensures.collects c.collect_join.new.collector
+          c.collect_checked-2.new.self _ c.in_ok-collect_join.ensures.collects last;
+    }
 
 -- ---- groups
 
 pub collect_item-returns-in-Some : goal.collect_item-returns-in-Some
-collect_item-returns-in-Some g t c =
-    let s = sample_of g.C.Context.finds c.args.sample.now in
-    let fits = fits_text c.args.text.now c.args.piece.now (search rules) in
-    record {
-      collects = item_told _ _ _ _ _ _ _ _ c.args.collector.now c.collect_pieces.new.collector _
-          fits.held c.in-Some.is c.deref.ensures.value
-          (c.bind_each.ensures.sample ∙ ap (bind_each s) c.items_of-items.ensures.items)
-          c.collect_pieces.ensures.collects;
-    }
+collect_item-returns-in-Some g t c = grind (arith, fits_text, item_told)
 
 pub collect_item-collect_pieces-requires : goal.collect_item-collect_pieces-requires
 collect_item-collect_pieces-requires g t c κs within =

@@ -26,21 +26,18 @@ walk-walk_piece-requires g t c κs within =
 pub walk-returns-in_err-walk_piece : goal.walk-returns-in_err-walk_piece
 walk-returns-in_err-walk_piece g t c =
     let err = err_from_is_err_and c.from_residual.result c.from_residual.ensures.1 in
-    rw (err.1, err.2) (pieces_stop (g.V.Visitor.step c.args.text.now) c.args.level
-    c.args.text.now c.args.pieces.now
-    c.loop-piece.piece-index _ _ c.loop-piece.invariant c.piece-item.result _ _
-    c.loop-piece-test.true c.piece-item.is c.in_err-walk_piece.ensures)
+    rw (err.1, err.2) (pieces_stop (g.V.Visitor.step c.args.text.now) _ _ _ _ _ _
+    c.loop-piece.invariant _ _ _ c.loop-piece-test.true c.piece-item.is c.in_err-walk_piece.ensures)
 
 pub walk-loop-piece-preserved : goal.walk-loop-piece-preserved
 walk-loop-piece-preserved g t c =
-    pieces_go_on (g.V.Visitor.step c.args.text.now) c.args.level c.args.text.now c.args.pieces.now
-    c.loop-piece.piece-index _ _ c.loop-piece.invariant c.piece-item.result _
+    pieces_go_on (g.V.Visitor.step c.args.text.now) _ _ _ _ _ _ c.loop-piece.invariant _ _
     c.loop-piece-test.true c.piece-item.is c.in_ok-walk_piece.ensures
 
 pub walk-returns : goal.walk-returns
 walk-returns g t c =
-    pieces_over (g.V.Visitor.step c.args.text.now) c.args.level c.args.text.now c.args.pieces.now
-    c.loop-piece.piece-index _ _ c.loop-piece.invariant c.loop-piece-test.false
+    pieces_over (g.V.Visitor.step c.args.text.now) _ _ _ _ _ _ c.loop-piece.invariant
+    c.loop-piece-test.false
 
 -- ---- one piece
 
@@ -63,35 +60,29 @@ walk_piece-walk_group-requires-2 g t c κs within =
 pub walk_piece-returns-in_err-enter : goal.walk_piece-returns-in_err-enter
 walk_piece-returns-in_err-enter g t c =
     let err = err_from_is_err_and c.from_residual.result c.from_residual.ensures.1 in
-    rw (err.1, err.2) (stops_before (g.V.Visitor.step c.args.text.now) c.args.level
-    c.args.text.now c.args.piece.now
-    _ _ _ c.in_err-enter.ensures)
+    rw (err.1, err.2)
+    (stops_before (g.V.Visitor.step c.args.text.now) _ _ _ _ _ _ c.in_err-enter.ensures)
 
 pub walk_piece-returns-in_err-walk_group :
     goal.walk_piece-returns-in_err-walk_group
 walk_piece-returns-in_err-walk_group g t c =
     let residual = c.from_residual-in_err-walk_group in
     let err = err_from_is_err_and residual.result residual.ensures.1 in
-    rw (err.1, err.2) (stops_in_item (g.V.Visitor.step c.args.text.now) c.args.level
-    c.args.text.now c.args.piece.now
-    _ _ _ c.in_ok-enter.ensures _ c.in_err-walk_group.ensures)
+    rw (err.1, err.2) (stops_in_item (g.V.Visitor.step c.args.text.now) _ _ _ _ _ _
+    c.in_ok-enter.ensures _ c.in_err-walk_group.ensures)
 
 pub walk_piece-returns-in_err-walk_group-2 :
     goal.walk_piece-returns-in_err-walk_group-2
 walk_piece-returns-in_err-walk_group-2 g t c =
     let residual = c.from_residual-in_err-walk_group-2 in
     let err = err_from_is_err_and residual.result residual.ensures.1 in
-    rw (err.1, err.2) (stops_in_join (g.V.Visitor.step c.args.text.now) c.args.level
-    c.args.text.now c.args.piece.now
-    _ _ _ c.in_ok-enter.ensures _ c.in_ok-walk_group.ensures _
-    c.in_err-walk_group-2.ensures)
+    rw (err.1, err.2) (stops_in_join (g.V.Visitor.step c.args.text.now) _ _ _ _ _ _
+    c.in_ok-enter.ensures _ c.in_ok-walk_group.ensures _ c.in_err-walk_group-2.ensures)
 
 pub walk_piece-returns : goal.walk_piece-returns
 walk_piece-returns g t c =
-    walks_piece (g.V.Visitor.step c.args.text.now) c.args.level c.args.text.now
-    c.args.piece.now _ _ _
-    c.in_ok-enter.ensures _ c.in_ok-walk_group.ensures _ _
-    c.in_ok-walk_group-2.ensures c.leave.ensures
+    walks_piece (g.V.Visitor.step c.args.text.now) _ _ _ _ _ _ c.in_ok-enter.ensures _
+    c.in_ok-walk_group.ensures _ _ c.in_ok-walk_group-2.ensures c.leave.ensures
 
 -- ---- a group
 
