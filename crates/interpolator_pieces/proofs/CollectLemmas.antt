@@ -103,27 +103,6 @@ module _ {X : Type 0} (shows : X → Trait → Spec → Shown) (s : Sample X) wh
       → Collects (item_of shows s o (branch_of bs group)) old new r
   item_told bs o group v xs inner old new r h is same e told = grind arith
 
-  -- ---- pieces in order
-
-  module _ (bs : List ℕ) (xs : List Piece) (i : ℕ) where
-    abbrev Left : ℕ → List Fault
-    Left n = forest_faults_in shows s (left bs xs n)
-
-    -- a piece ends the walk
-    pub piece_ends : (x : Piece) (old new : FaultCollector) (q : Answer) → i < length xs
-        → x ≡ get_or xs i x → Collects (node_faults_in shows s (node_of bs x)) old new (Some q)
-        → Collects (Left i) old new (Some q)
-    piece_ends x old new q l is h = grind (arith, left_next, collects_before)
-
-    -- it goes on after a piece
-    pub piece_goes_on : (x : Piece) (old mid new : FaultCollector) (r : Option Answer) → i < length xs
-        → x ≡ get_or xs i x → Collects (node_faults_in shows s (node_of bs x)) old mid None
-        → Collects (Left (i + 1)) mid new r → Collects (Left i) old new r
-    piece_goes_on x old mid new r l is h k = grind (arith, left_next, collects_after)
-
-    pub pieces_over : (t : FaultCollector) → length xs ≤ i → Collects (Left i) t t None
-    pieces_over t l = grind (arith, left_none, collects_nothing)
-
   -- ---- the parts of one piece, one after the other
 
   module _ (bs : List ℕ) (x : Piece) (whole : node_whole (node_of bs x) ≡ true) where

@@ -55,15 +55,6 @@ pub all_skipped : (p : ℕ) (bs rest : List ℕ) → IsUtf8 bs → length rest �
     → stands (p + length bs) (chars rest) ≡ all_after (stands p (chars bs))
 all_skipped p bs rest u e = grind (arith, chars_of_end, size-chars)
 
--- a name with nothing beside it in its braces needs no detail
-pub name_bare : (bs : List ℕ) (place end from to : ℕ) → from ≡ place + 1 → end ≡ to + 1
-    → detail_content bs place (bare_detail place end Closed)
-    ≡ stored_content bs place from to to plain_spec forms.Plain
-name_bare bs place end from to begins ends =
-    let first : suc place ≡ from = omega (arith, begins) in
-    let last : end - 1 ≡ to = omega (arith, ends) in
-    rw (first, last) refl
-
 -- what follows an argument, by how it ends
 pub ending_is : (p : ℕ) (a : At) (x : Argument) (q : At) (o : Option At) → argument_at a ≡ Ok (x, q)
     → ending_rest q o ≡ (argument_step p a x q o).rest
@@ -225,12 +216,6 @@ module _ (place : ℕ) (b : At) (n : ArgumentName) (rest : At)
     name_pushed old new piece added stored =
         value_pushed place b n plainly n.end start (read_alone b n rest named (sym closed)) name_end
         old new piece rest Closed (grind arith) (grind arith) added traits.Display refl stored
-
--- its groups are no longer than its text
-pub list_within : (b : At) (n : ArgumentName) (x : code_request.Request) (end : At)
-    → argument_at b ≡ Ok (named_argument n (request_of x), end)
-    → kind_of_request x ≡ of_list (list_of x.list) → list_size (list_of x.list) ≤ length b.text
-list_within b n x end read k = grind (arith, groups_within)
 
 -- the argument from its brace on, if it was read
 pub taken_is : (b : At) (t : TakenArgument) → taken_read (Ok t) ≡ argument_at b

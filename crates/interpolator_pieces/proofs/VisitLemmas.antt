@@ -54,13 +54,9 @@ mutual
   node_names : (level : Level) (x : Node)
       → flat_map visit_asks (node_visits level x) ≡ node_asks level.in_item x
   node_names level (node place end kind held item join) =
-      grind (
-        arith,
-        flat_map-append,
-        append-nil,
-        branch_names (inner true level) item,
-        branch_names (inner level.in_item level) join,
-      )
+      let first = branch_names (inner true level) item in
+      let last = branch_names (inner level.in_item level) join in
+      grind (arith, flat_map-append, append-nil, first, last)
 
   branch_names : (level : Level) (x : Branch)
       → flat_map visit_asks (branch_visits level x) ≡ branch_asks level.in_item x
@@ -77,16 +73,10 @@ mutual
 mutual
   node_told : (level : Level) (x : Node) → node_whole x ≡ true
       → flat_map visit_faults (node_visits level x) ≡ node_faults x
-  node_told level (node place end kind None item join) h = absurd (cc)
-  node_told level (node place end kind (Some held) item join) h =
-      let whole = both (branch_whole item) (branch_whole join) h in
-      grind (
-        arith,
-        flat_map-append,
-        append-nil,
-        branch_told (inner true level) item whole.0,
-        branch_told (inner level.in_item level) join whole.1,
-      )
+  node_told level (node place end kind held item join) h =
+      let first = branch_told (inner true level) item in
+      let last = branch_told (inner level.in_item level) join in
+      grind (arith, flat_map-append, append-nil, both, first, last)
 
   branch_told : (level : Level) (x : Branch) → branch_whole x ≡ true
       → flat_map visit_faults (branch_visits level x) ≡ branch_faults x
@@ -97,8 +87,7 @@ mutual
       → flat_map visit_faults (forest_visits level xs) ≡ forest_faults xs
   forest_told level no_nodes h = refl
   forest_told level (nodes_and x xs) h =
-      let whole = both (node_whole x) (forest_whole xs) h in
-      grind (arith, flat_map-append, node_told level x whole.0, forest_told level xs whole.1)
+      grind (arith, flat_map-append, both, node_told level x, forest_told level xs)
 
 -- the greatest of two runs of visits
 greatest-append : (asks : Visit → ℕ) (xs ys : List Visit)

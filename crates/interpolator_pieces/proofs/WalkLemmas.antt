@@ -23,7 +23,7 @@ module _ {V E : Type 0} (step : V → Visit → V → Result (Unit {0}) E → Ty
   walks_one old new x answer h = grind arith
 
   -- one visit, and others
-  walks_then : (old mid new : V) (x : Visit) (xs : List Visit) (answer : Result (Unit {0}) E)
+  pub walks_then : (old mid new : V) (x : Visit) (xs : List Visit) (answer : Result (Unit {0}) E)
       → step old x mid (Ok tt) → Walks step mid xs new answer → Walks step old (x ∷ xs) new answer
   walks_then old mid new x xs answer s h = grind arith
 
@@ -48,62 +48,6 @@ module _ {V E : Type 0} (step : V → Visit → V → Result (Unit {0}) E → Ty
   WalksOn here left there all =
       (new : V) (answer : Result (Unit {0}) E) → Walks step here left new answer
       → Walks step there all new answer
-
-  -- ---- one stored piece
-
-  module _ (level : Level) (bs : List ℕ) (x : Piece) where
-    abbrev item_visits : List Visit
-    item_visits = branch_visits (inner true level) (branch_of bs (out-Piece x).item)
-
-    abbrev join_visits : List Visit
-    join_visits = branch_visits (inner level.in_item level) (branch_of bs (out-Piece x).join)
-
-    visits_out : node_visits level (node_of bs x)
-        ≡ enter level (node_of bs x)
-        ∷ (item_visits ++ (join_visits ++ (leave level (node_of bs x) ∷ [])))
-    visits_out = grind (arith, node_of_out)
-
-    module _ (old new : V) where
-      pub stops_before : (e : E) → step old (enter level (node_of bs x)) new (Err e)
-          → Walks step old (node_visits level (node_of bs x)) new (Err e)
-      stops_before e h = grind (arith, visits_out)
-
-      module _ (entered : V) (before : step old (enter level (node_of bs x)) entered (Ok tt)) where
-        pub stops_in_item : (e : E) → Walks step entered item_visits new (Err e)
-            → Walks step old (node_visits level (node_of bs x)) new (Err e)
-        stops_in_item e h = grind (arith, visits_out, walks_then, walks_stop)
-
-        module _ (item : V) (in_item : Walks step entered item_visits item (Ok tt)) where
-          pub stops_in_join : (e : E) → Walks step item join_visits new (Err e)
-              → Walks step old (node_visits level (node_of bs x)) new (Err e)
-          stops_in_join e h = grind (arith, visits_out, walks_then, walks_on, walks_stop)
-
-          pub walks_piece : (join : V) (answer : Result (Unit {0}) E)
-              → Walks step item join_visits join (Ok tt)
-              → step join (leave level (node_of bs x)) new answer
-              → Walks step old (node_visits level (node_of bs x)) new answer
-          walks_piece join answer in_join after =
-              grind (arith, visits_out, walks_then, walks_on, walks_one)
-
-  -- ---- stored pieces in order
-
-  module _ (level : Level) (bs : List ℕ) (xs : List Piece) (i : ℕ) (here there : V) where
-    abbrev visits : ℕ → List Visit
-    visits n = forest_visits level (left bs xs n)
-
-    module _ (so_far : WalksOn here (visits i) there (visits 0)) where
-      pub pieces_stop : (x : Piece) (new : V) (e : E) → i < length xs → x ≡ get_or xs i x
-          → Walks step here (node_visits level (node_of bs x)) new (Err e)
-          → Walks step there (visits 0) new (Err e)
-      pieces_stop x new e l is h = grind (arith, left_next, walks_stop)
-
-      pub pieces_go_on : (x : Piece) (mid : V) → i < length xs → x ≡ get_or xs i x
-          → Walks step here (node_visits level (node_of bs x)) mid (Ok tt)
-          → WalksOn mid (visits (i + 1)) there (visits 0)
-      pieces_go_on x mid l is h = grind (arith, left_next, walks_on)
-
-      pub pieces_over : length xs ≤ i → Walks step there (visits 0) here (Ok tt)
-      pieces_over l = grind (arith, left_none)
 
 -- ---- how deep a stored piece is
 

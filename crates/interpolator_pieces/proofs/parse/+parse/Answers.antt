@@ -5,11 +5,12 @@ use Rattle.interpolator_syntax.specs.declared.piece_kind.PieceKind.TheVariants.{
 use Rattle.interpolator_syntax.specs.declared.piece_kind.PieceKind.TheVariants.{LoneClose, Closed}
 use Rattle.interpolator_syntax.specs.Tokens.{argument}
 use Rattle.interpolator_syntax.proofs.TokenLemmas.{scan_shorter, token_shorter}
+use Rattle.interpolator_eval.proofs.MeaningLemmas.GroupSizeLemmas.{groups_within}
 use Rattle.interpolator_eval.proofs.MeaningLemmas.ScanLemmas.{asked_ok, asked_broken}
 use Rattle.interpolator_pieces.proofs.WithinLemmas.{after_front}
 use Rattle.interpolator_syntax.proofs.TokenTextLemmas.{takes_token}
-use Rattle.interpolator_pieces.proofs.ParseLemmas.{rest_is, list_pushed, list_within, broken_is}
-use Rattle.interpolator_pieces.proofs.ParseLemmas.{left_within, text_reads, name_pushed, name_bare}
+use Rattle.interpolator_pieces.proofs.ParseLemmas.{rest_is, list_pushed, broken_is}
+use Rattle.interpolator_pieces.proofs.ParseLemmas.{left_within, text_reads, name_pushed}
 use Rattle.interpolator_pieces.proofs.ParseLemmas.{name_closes, name_rest, reads_on, all_read}
 use Rattle.interpolator_pieces.proofs.parse.+parse.Goals as goal
 
@@ -84,9 +85,7 @@ push_argument-returns-then-named-here-clause-pushed t c =
     let closes = name_closes named.result _ c.in-Some.ensures in
     name_pushed c.args.place _ named.result _ named.ensures.read c.in-Some.ensures c.requires.start
     named.ensures.end_place _ _ c.bare_piece-piece.result c.in_ok-push_piece-in-Some.ensures (λ bs.
-    c.bare_piece-piece.ensures.node bs
-    ∙ ap (λ h. node c.args.place c.in-Some.after.place Closed h no_branch no_branch)
-    (name_bare bs _ _ named.result.place named.result.end.place (grind arith) closes))
+    grind (arith, c.bare_piece-piece.ensures.node bs, closes))
 
 pub push_argument-returns-in_ok-push_piece-in-Some-2-clause-rest :
     goal.push_argument-returns-in_ok-push_piece-in-Some-2-clause-rest
@@ -110,20 +109,20 @@ push_asked-push_taken-requires t c =
 pub push_asked-returns-in-Err-clause-rest : goal.push_asked-returns-in-Err-clause-rest
 push_asked-returns-in-Err-clause-rest t c =
     let read = asked_broken _ c.args.opening.named c.requires.named _ c.in-Err.ensures in
-    rw (broken_is (at c.args.opening.here) _ (sym read)) c.push_broken.ensures.rest
+    grind (arith, broken_is, read)
 
 pub push_asked-returns-in-Err-clause-pushed : goal.push_asked-returns-in-Err-clause-pushed
 push_asked-returns-in-Err-clause-pushed t c =
     let read = asked_broken _ c.args.opening.named c.requires.named _ c.in-Err.ensures in
-    rw (broken_is (at c.args.opening.here) _ (sym read)) c.push_broken.ensures.pushed
+    grind (arith, broken_is, read)
 
 pub push_list-parse_group-requires : goal.push_list-parse_group-requires
 push_list-parse_group-requires t c =
-    omega (arith, list_within _ c.args.opening.named c.args.asked.now _ c.requires.read c.requires.asked)
+    grind (arith, groups_within)
 
 pub push_list-parse_group-requires-2 : goal.push_list-parse_group-requires-2
 push_list-parse_group-requires-2 t c =
-    omega (arith, list_within _ c.args.opening.named c.args.asked.now _ c.requires.read c.requires.asked)
+    grind (arith, groups_within)
 
 pub push_list-returns-clause-rest : goal.push_list-returns-clause-rest
 push_list-returns-clause-rest t c =
