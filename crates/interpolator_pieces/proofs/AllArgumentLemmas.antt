@@ -124,9 +124,6 @@ module _ (b : At) (t : TakenArgument) (read : taken_read (Ok t) ≡ argument_at 
   abbrev taken : Argument
   taken = named_argument t.name (request_of t.asked)
 
-  argument_gives : (argument_from b.place b).piece.kind ≡ (taken_step b t).piece.kind
-  argument_gives = grind (arith, taken_is)
-
   pub argument_pushed :
       (old mid new : List code_argument.Argument) (x : code_argument.Argument)
       → argument_of x ≡ taken → mid ≡ old ++ (x ∷ [])
@@ -134,7 +131,7 @@ module _ (b : At) (t : TakenArgument) (read : taken_read (Ok t) ≡ argument_at 
       → map argument_of new ≡ map argument_of old
       ++ piece_arguments arguments_of (argument_from b.place b).piece.kind
   argument_pushed old mid new x is added groups =
-      grind (arith, map-append, append_assoc, step_gives, argument_gives)
+      grind (arith, map-append, append_assoc, step_gives, taken_is b t read closes)
 
   -- its groups are no longer than its text
   pub kind_fits : (x : code_argument.Argument) → argument_of x ≡ taken
@@ -153,16 +150,8 @@ module _ (a : At) (shorter : (b : At) → length b.text < length a.text
       → Name (pieces_arguments arguments_of xs) (pieces_ask xs)
   pieces_names [] h = refl
   pieces_names (x ∷ xs) h =
-      grind (
-        arith,
-        map-append,
-        without_append,
-        pieces_ask,
-        group_asks,
-        branch_in_item,
-        without_twice,
-        pieces_names xs h.2,
-      )
+      let rest = pieces_names xs h.2 in
+      grind (arith, map-append, without_append, group_asks, branch_in_item, without_twice, rest)
 
 -- except for empty names, the names of the arguments of a text are those that it uses
 pub arguments_name : (a : At)

@@ -191,7 +191,7 @@ module _ {X : Type 0} (shows : X → Trait → Spec → Shown) (limits : Limits)
 
   length-placed : (p : ℕ) (cs : List ℕ) → length (placed_from p cs) ≡ length cs
   length-placed p [] = refl
-  length-placed p (c ∷ cs) = omega (arith, length-placed (p + len_utf8 c) cs)
+  length-placed p (c ∷ cs) = grind (arith, length-placed (p + len_utf8 c) cs)
 
   content_at_most : (e : Environment X) (kind : PieceKind) (held : Content) (in_item : Bool)
       (join : Meaning) (joins : Work) (joined_by one : Cost) (item : ℕ → Slots X → Meaning)
@@ -200,8 +200,6 @@ module _ {X : Type 0} (shows : X → Trait → Spec → Shown) (limits : Limits)
       → ((q : ℕ) (x : Slots X) → Slotted x → AtMost (item q x) (each q x) one)
       → AtMost (content_means shows e kind held join item)
       (content_work shows e held join joins item each) (content_cost limits held one joined_by)
-  content_at_most e kind (text_content from cs) in_item join joins joined_by one item each b h j i =
-      omega (arith, length-placed from cs)
   content_at_most e kind (argument_content start name spec what q) in_item join joins joined_by one item each
       b h j i =
       grind (
@@ -210,7 +208,8 @@ module _ {X : Type 0} (shows : X → Trait → Spec → Shown) (limits : Limits)
         found_at_most join joins joined_by one j what start name spec q (item q) (each q) (i q) _
             (own_within in_item e name b h),
       )
-  content_at_most e kind (fault_content f) in_item join joins joined_by one item each b h j i = omega arith
+  content_at_most e kind held in_item join joins joined_by one item each b h j i =
+      grind (arith, length-placed)
 
   -- ---- with its groups
 

@@ -85,13 +85,10 @@ module _ (bs : List ℕ) (u : IsUtf8 bs) (a : At) (w : Within (outermost (chars 
 
   text_node : (x : Token) (kind : told.PieceKind) (b : At) → TextKind x kind
       → first_token a ≡ Some (x, b) → BareNode bs a.place b.place kind ≡ token_node nodes a.place x b
-  text_node (literals cs) kind b k e =
-      grind (arith, written_part (literals cs) b b.place e, (takes_token a (literals cs, b) e).size)
   text_node (doubled c) kind b k e =
       grind (arith, written_part (doubled c) b (b.place - 1) e, (takes_token a (doubled c, b) e).size)
-  text_node lone_close kind b k e =
-      grind (arith, written_part lone_close b b.place e, (takes_token a (lone_close, b) e).size)
   text_node argument_token kind b k e = absurd k
+  text_node x kind b k e = grind (arith, written_part x b b.place e, (takes_token a (x, b) e).size)
 
 -- ---- arguments
 
@@ -143,15 +140,12 @@ module _ (place : ℕ) (b : At) (n : ArgumentName) (x : code_request.Request) (e
       (ends : rest ≡ ending_rest (at end) (strip close_brace (at end)))
       (is : kind ≡ ending_kind (strip close_brace (at end)))
       (added : new ≡ old ++ (piece ∷ [])) where
-    abbrev Taken : Node
-    Taken =
-        let s = argument_step b.place b taken (at end) (strip close_brace (at end)) in
-        piece_node nodes place s.rest.place s.piece.kind
-
     by_parts : (held : Option Content) (item join : Branch)
         → held ≡ Some (argument_content b.place taken.name taken.spec (target_of taken.kind) end.place)
         → item ≡ item_branch nodes taken.kind → join ≡ join_branch nodes taken.kind
-        → node place rest.place kind held item join ≡ Taken
+        → node place rest.place kind held item join
+        ≡ (let s = argument_step b.place b taken (at end) (strip close_brace (at end)) in
+        piece_node nodes place s.rest.place s.piece.kind)
     by_parts held item join h i j = grind (arith, ending_is)
 
     pub value_pushed :
@@ -199,23 +193,22 @@ name_closes n rest closed =
 -- a name that a closing brace follows, after a brace at `place`
 module _ (place : ℕ) (b : At) (n : ArgumentName) (rest : At)
     (named : argument_at b ≡ argument_after b.place (plain_argument n) (at n.end))
-    (closed : Some rest ≡ strip close_brace (at n.end)) where
-  module _ (start : b.place ≡ place + 1)
-      (name_end : n.end.place ≡ n.place + size (chars n.name.now)) where
-    pub name_rest : rest ≡ (argument_from b.place b).rest
-    name_rest =
-        rest_is place b n plainly n.end start (read_alone b n rest named (sym closed)) name_end rest
-        (grind arith)
+    (closed : Some rest ≡ strip close_brace (at n.end)) (start : b.place ≡ place + 1)
+    (name_end : n.end.place ≡ n.place + size (chars n.name.now)) where
+  pub name_rest : rest ≡ (argument_from b.place b).rest
+  name_rest =
+      rest_is place b n plainly n.end start (read_alone b n rest named (sym closed)) name_end rest
+      (grind arith)
 
-    pub name_pushed :
-        (old new : List Piece) (piece : Piece) → new ≡ old ++ (piece ∷ [])
-        → ((bs : List ℕ) → node_of bs piece
-        ≡ node place rest.place Closed (stored_content bs place n.place n.end.place n.end.place
-        plain_spec forms.Plain) no_branch no_branch)
-        → Pushed old new (token_node nodes place argument_token b) b
-    name_pushed old new piece added stored =
-        value_pushed place b n plainly n.end start (read_alone b n rest named (sym closed)) name_end
-        old new piece rest Closed (grind arith) (grind arith) added traits.Display refl stored
+  pub name_pushed :
+      (old new : List Piece) (piece : Piece) → new ≡ old ++ (piece ∷ [])
+      → ((bs : List ℕ) → node_of bs piece
+      ≡ node place rest.place Closed (stored_content bs place n.place n.end.place n.end.place
+      plain_spec forms.Plain) no_branch no_branch)
+      → Pushed old new (token_node nodes place argument_token b) b
+  name_pushed old new piece added stored =
+      value_pushed place b n plainly n.end start (read_alone b n rest named (sym closed)) name_end old
+      new piece rest Closed (grind arith) (grind arith) added traits.Display refl stored
 
 -- the argument from its brace on, if it was read
 pub taken_is : (b : At) (t : TakenArgument) → taken_read (Ok t) ≡ argument_at b

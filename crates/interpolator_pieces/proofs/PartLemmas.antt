@@ -16,16 +16,10 @@ use Rattle.interpolator_pieces.specs.Stored.{may_cut, part, name_part, Within}
 at_boundary : (bs : List ℕ) (i : ℕ) → IsCharBoundary bs i → may_cut bs i ≡ true
 at_boundary bs i h = search (rules, h.0, h.1)
 
-both_parts : (a b : Bool) → (a && b) ≡ true → (a ≡ true) × (b ≡ true)
-both_parts true b h = (refl, h)
-both_parts false b h = absurd (cc)
-
 scalars_both : (xs ys : List ℕ) → scalars (xs ++ ys) ≡ true
     → (scalars xs ≡ true) × (scalars ys ≡ true)
 scalars_both [] ys h = (refl, h)
-scalars_both (x ∷ xs) ys h =
-    let e = both_parts _ _ h in
-    let r = scalars_both xs ys e.1 in (both_true e.0 r.0, r.1)
+scalars_both (x ∷ xs) ys h = grind (arith, scalars_both xs ys)
 
 cut_out :
     (from to : ℕ) (bs : List ℕ) → nat_lt to from ≡ false → may_cut bs from ≡ true

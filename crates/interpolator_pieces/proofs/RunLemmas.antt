@@ -102,20 +102,17 @@ module _ (bs : List ℕ) (x : Piece) where
     abbrev Valued : Spec → Target → Option Content
     Valued spec target = Some (argument_content start name spec target (detail_of x).spec_end)
 
-    begins : suc (out-Piece x).place ≡ start
-    begins = grind (arith, add-one)
-
     pub name_held : (detail_of x).form ≡ forms.Plain
         → content_of bs x ≡ Valued plain_spec (target_value traits.Display)
-    name_held form = grind (arith, begins)
+    name_held form = grind arith
 
     pub value_held : (t : Trait) → (detail_of x).form ≡ forms.Value t
         → content_of bs x ≡ Valued (detail_of x).spec (target_value t)
-    value_held t form = grind (arith, begins)
+    value_held t form = grind arith
 
     pub list_held : (range : Option Range) → (detail_of x).form ≡ forms.List range
         → content_of bs x ≡ Valued (detail_of x).spec (target_list (range))
-    list_held range form = grind (arith, begins)
+    list_held range form = grind arith
 
 -- ---- what asks for a list
 

@@ -18,14 +18,6 @@ use Rattle.interpolator_pieces.specs.declared.piece.Piece.TheViews.{out-Piece, r
 use Rattle.interpolator_pieces.specs.declared.piece.Piece.TheFolds.{map-Piece, fold-roll-Piece}
 use Rattle.interpolator_pieces.specs.declared.piece.Piece.TheFolds.{fold_out-Piece}
 
-at_groups :
-    (bs : List ℕ) (x : Piece-F Piece) (item join : Option (Vec Piece))
-    → node_step bs (map-Piece Piece Node (node_of bs) (record x { item = item; join = join }))
-    ≡ node x.place x.end x.kind
-    (detail_content bs x.place (detail_or_bare x.place x.end x.kind x.detail))
-    (branch_of bs item) (branch_of bs join)
-at_groups bs x item join = grind arith
-
 -- the node of a piece that was made of its parts
 pub node_of_roll :
     (bs : List ℕ) (x : Piece-F Piece) → node_of bs (roll-Piece x)
@@ -33,8 +25,7 @@ pub node_of_roll :
     (detail_content bs x.place (detail_or_bare x.place x.end x.kind x.detail))
     (branch_of bs x.item) (branch_of bs x.join)
 unfolding node_of
-node_of_roll bs x =
-    fold-roll-Piece Node (node_step bs) x ∙ at_groups bs x x.item x.join
+node_of_roll bs x = grind (arith, fold-roll-Piece Node (node_step bs) x)
 
 -- the node of a piece, by its parts
 pub node_of_out :
@@ -42,9 +33,7 @@ pub node_of_out :
     ≡ node (out-Piece x).place (out-Piece x).end (out-Piece x).kind (content_of bs x)
     (branch_of bs (out-Piece x).item) (branch_of bs (out-Piece x).join)
 unfolding node_of
-node_of_out bs x =
-    let y = out-Piece x in
-    fold_out-Piece Node (node_step bs) x ∙ at_groups bs y y.item y.join
+node_of_out bs x = grind (arith, fold_out-Piece Node (node_step bs) x)
 
 -- the detail of a piece that stores one, and of one that does not
 module _ (x : Piece) where
