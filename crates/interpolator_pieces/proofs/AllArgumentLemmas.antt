@@ -108,15 +108,7 @@ module _ (text here : At) (before so_far : List Argument)
   pub all_gathered : first_token here ≡ None → so_far ≡ before ++ arguments_of text
   all_gathered e = grind (arith, append-nil, arguments_pieces, hands_nothing)
 
--- nothing is gathered yet
-pub gathers_nothing : (text : At) (before : List Argument) → Gathering text before before text
-gathers_nothing text before = grind arith
-
 -- ---- one argument
-
-step_gives : (run : At → List Argument) (p : ℕ) (b : At) (x : Argument) (q : At) (o : Option At)
-    → piece_arguments run (argument_step p b x q o).piece.kind ≡ x ∷ kind_arguments run x.kind
-step_gives run p b x q o = grind arith
 
 -- an argument that was read is added, and then those of its groups
 module _ (b : At) (t : TakenArgument) (read : taken_read (Ok t) ≡ argument_at b)
@@ -131,7 +123,7 @@ module _ (b : At) (t : TakenArgument) (read : taken_read (Ok t) ≡ argument_at 
       → map argument_of new ≡ map argument_of old
       ++ piece_arguments arguments_of (argument_from b.place b).piece.kind
   argument_pushed old mid new x is added groups =
-      grind (arith, map-append, append_assoc, step_gives, taken_is b t read closes)
+      grind (arith, map-append, append_assoc, taken_is b t read closes)
 
   -- its groups are no longer than its text
   pub kind_fits : (x : code_argument.Argument) → argument_of x ≡ taken

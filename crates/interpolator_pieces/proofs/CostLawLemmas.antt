@@ -162,10 +162,6 @@ module _ {X : Type 0} (shows : X → Trait → Spec → Shown) (limits : Limits)
   Inner true e = Found (slots_under e [])
   Inner false e = ⊤
 
-  own_within : (in_item : Bool) (e : Environment X) (name : List ℕ) → Inner in_item e
-      → Within e (context_names in_item name) → Found (slots_under e name)
-  own_within in_item e name i h = grind arith
-
   -- ---- one piece
 
   slot_at_most : (t : Trait) (spec : Spec) (q : ℕ) (o : Option X)
@@ -205,8 +201,8 @@ module _ {X : Type 0} (shows : X → Trait → Spec → Shown) (limits : Limits)
       grind (
         arith,
         length-append,
-        found_at_most join joins joined_by one j what start name spec q (item q) (each q) (i q) _
-            (own_within in_item e name b h),
+        found_at_most join joins joined_by one j what start name spec q (item q) (each q) (i q)
+            (slots_under e name) (grind arith),
       )
   content_at_most e kind held in_item join joins joined_by one item each b h j i =
       grind (arith, length-placed)

@@ -43,7 +43,7 @@ use Rattle.interpolator_syntax.specs.declared.piece_kind.PieceKind.TheVariants.{
 use Rattle.interpolator_eval.proofs.MeaningLemmas.GroupSizeLemmas.{list_size, groups_within}
 use Rattle.interpolator_syntax.proofs.NodeLemmas.{nodes_first, nodes_none}
 use Rattle.interpolator_pieces.proofs.PartLemmas.{part_lies, name_lies}
-use Rattle.interpolator_pieces.proofs.StoredLemmas.{nodes_of_push}
+use Rattle.std.proofs.lemmas.List.{map-append}
 use Rattle.interpolator_pieces.proofs.WithinLemmas.{within_then, after_front, front_within}
 use Rattle.interpolator_pieces.proofs.WithinLemmas.{group_stands, name_within, within_same}
 use Rattle.interpolator_syntax.proofs.TokenTextLemmas.{written_text, takes_token, scan_taken}
@@ -248,7 +248,7 @@ module _ (text a : At) (stored : List Piece) (reading : Reading text stored a) w
         let here = within_then _ text a w (after_front text a reading.taken) in
         let own = p.stands bs u (within_then _ a c here k) in
         let before = reading.so_far bs u w in
-        grind (arith, nodes_of_push, append_assoc (nodes_of bs stored), nodes_first a b x e, own, before);
+        grind (arith, map-append, append_assoc (nodes_of bs stored), nodes_first a b x e, own, before);
   }
 
   -- a text that the scan hands on is stored as a piece that is written as it is

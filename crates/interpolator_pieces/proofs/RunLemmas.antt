@@ -67,27 +67,24 @@ name_within bs place from to h = grind (arith, nat_lt, part_within)
 
 -- ---- what a stored piece holds that fits its text
 
-some_of : {A B : Type 0} (f : A → B) (o : Option A) → IsSome (option_map f o) → IsSome o
-some_of f o h = grind arith
-
 module _ (bs : List ℕ) (x : Piece) where
   -- a text that is written
   pub text_fits : (detail_of x).form ≡ forms.Text → IsSome (content_of bs x)
       → IsSome (stored_part bs x)
-  text_fits form h = grind (arith, some_of)
+  text_fits form h = grind arith
 
   -- a name, of each kind of argument
   pub name_fits : (detail_of x).form ≡ forms.Plain → IsSome (content_of bs x)
       → IsSome (stored_name bs x)
-  name_fits form h = grind (arith, some_of)
+  name_fits form h = grind arith
 
   pub value_fits : (t : Trait) → (detail_of x).form ≡ forms.Value t → IsSome (content_of bs x)
       → IsSome (stored_name bs x)
-  value_fits t form h = grind (arith, some_of)
+  value_fits t form h = grind arith
 
   pub list_fits : (range : Option Range) → (detail_of x).form ≡ forms.List range
       → IsSome (content_of bs x) → IsSome (stored_name bs x)
-  list_fits range form h = grind (arith, some_of)
+  list_fits range form h = grind arith
 
   pub text_held : (cs : List ℕ) → (detail_of x).form ≡ forms.Text → Some cs ≡ stored_part bs x
       → content_of bs x ≡ Some (text_content (detail_of x).from cs)

@@ -51,11 +51,6 @@ pub no_bare_list : (x : Piece) → is_list_form (detail_of x).form ≡ true
     → (out-Piece x).detail ≡ None → ⊥
 no_bare_list x listed is = grind (arith, detail_bare)
 
--- without one, what is no argument is text from its place on
-pub bare_text : (place : ℕ) (kind : PieceKind) → ¬ (kind ≡ Closed)
-    → (bare_form kind ≡ forms.Text) × (bare_from place kind ≡ place)
-bare_text place kind other = grind arith
-
 -- the node of a piece that was made without a detail, and of one that was made with this one
 module _ (bs : List ℕ) (place end : ℕ) (kind : PieceKind) (item join : Option (Vec Piece)) where
   abbrev Made : Option (Box Detail) → Node
@@ -79,13 +74,6 @@ module _ (bs : List ℕ) (place end : ℕ) (kind : PieceKind) (item join : Optio
   pub made_detailed : (d : Box Detail) → Made (Some d) ≡ Is d.value
   unfolding detail_or_bare
   made_detailed d = node_of_roll bs _
-
--- one more piece is one more node
-pub nodes_of_push :
-    (bs : List ℕ) (xs : List Piece) (x : Piece)
-    → nodes_of bs (xs ++ (x ∷ [])) ≡ nodes_of bs xs ++ (node_of bs x ∷ [])
-nodes_of_push bs [] x = refl
-nodes_of_push bs (y ∷ xs) x = ap (λ ys. node_of bs y ∷ ys) (nodes_of_push bs xs x)
 
 -- the nodes of the pieces that are left: that of the first and those of the others, or none
 module _ (bs : List ℕ) (xs : List Piece) where

@@ -14,14 +14,6 @@ use Rattle.interpolator_pieces.specs.declared.piece.Form.TheVariants as forms
 use Rattle.interpolator_pieces.specs.declared.piece.Piece.{Piece}
 use Rattle.interpolator_pieces.proofs.WholePieceLemmas.{fits_text}
 
--- ---- names in order
-
--- one more name
-pub asked_push : {Z : Type 0} (names : List (String Z)) (name : String Z)
-    → name_texts (names ++ (name ∷ [])) ≡ name_texts names ++ (chars (string_bytes name) ∷ [])
-asked_push [] name = refl
-asked_push (x ∷ names) name = grind (arith, asked_push names name)
-
 -- ---- the name of a stored argument
 
 module _ (bs : List ℕ) (x : Piece) (no_text : ¬ ((detail_of x).form ≡ forms.Text))

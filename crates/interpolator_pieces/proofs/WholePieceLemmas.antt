@@ -29,8 +29,7 @@ pub rest_fits :
     (xs ys : List Node) → forest_whole (as_forest (xs ++ ys)) ≡ true
     → forest_whole (as_forest ys) ≡ true
 rest_fits [] ys h = h
-rest_fits (x ∷ xs) ys h =
-    rest_fits xs ys (both (node_whole x) (forest_whole (as_forest (xs ++ ys))) h).1
+rest_fits (x ∷ xs) ys h = grind (arith, both, rest_fits xs ys)
 
 -- so it is with stored pieces after the first ones
 pub pieces_whole :
@@ -38,8 +37,7 @@ pub pieces_whole :
     → forest_whole (as_forest (nodes_of bs (drop n xs))) ≡ true
 pieces_whole bs xs zero h = h
 pieces_whole bs [] (suc n) h = refl
-pieces_whole bs (x ∷ xs) (suc n) h =
-    pieces_whole bs xs n (both (node_whole (node_of bs x)) (forest_whole (as_forest (nodes_of bs xs))) h).1
+pieces_whole bs (x ∷ xs) (suc n) h = grind (arith, both, pieces_whole bs xs n)
 
 -- and with each stored piece
 pub piece_whole :

@@ -5,7 +5,7 @@ use Rattle.interpolator_syntax.specs.Classes.{close_brace}
 use Rattle.interpolator_syntax.specs.Tokens.{argument, token_of}
 use Rattle.interpolator_syntax.proofs.TokenLemmas.{token_shorter, scan_shorter}
 use Rattle.interpolator_pieces.proofs.AllArgumentLemmas.{no_argument, gathers_on, all_gathered}
-use Rattle.interpolator_pieces.proofs.AllArgumentLemmas.{gathers_nothing, argument_pushed, kind_fits}
+use Rattle.interpolator_pieces.proofs.AllArgumentLemmas.{argument_pushed, kind_fits}
 use Rattle.interpolator_pieces.proofs.ParseLemmas.{ending_is, taken_is, broken_is}
 use Rattle.interpolator_pieces.proofs.arguments.+arguments.Goals as goal
 
@@ -36,7 +36,7 @@ pub push_argument-returns-in-Err-clause-pushed : goal.push_argument-returns-in-E
 push_argument-returns-in-Err-clause-pushed t c = grind (arith, broken_is, append-nil)
 
 pub push_arguments-loop-token-init : goal.push_arguments-loop-token-init
-push_arguments-loop-token-init t c = gathers_nothing _ _
+push_arguments-loop-token-init t c = grind arith
 
 pub push_arguments-push_argument-requires : goal.push_arguments-push_argument-requires
 push_arguments-push_argument-requires t c =

@@ -1,10 +1,10 @@
 use Rattle.std.proofs.Common.{arith, append-nil}
+use Rattle.std.proofs.lemmas.List.{map-append}
 use Rattle.interpolator_pieces.proofs.StoredLemmas.{node_of_out}
-use Rattle.interpolator_pieces.proofs.StoredNameLemmas.{asked_push}
 use Rattle.interpolator_pieces.proofs.names.NamesVisitor.enter.Goals as goal
 
 pub returns-in_ok-push-in-Some : goal.returns-in_ok-push-in-Some
-returns-in_ok-push-in-Some c = grind (arith, asked_push, node_of_out)
+returns-in_ok-push-in-Some c = grind (arith, map-append, node_of_out)
 
 pub returns-in-None : goal.returns-in-None
 returns-in-None c = grind (arith, append-nil, node_of_out)
