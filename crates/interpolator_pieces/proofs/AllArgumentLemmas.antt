@@ -1,6 +1,6 @@
 -- The arguments of a text: those of its pieces, those of what the scan hands on, and their names.
 use Rattle.std.proofs.Common.{◌≡◌, ℕ, zero, suc, ◌+◌, ◌<◌, ◌≤◌, List, [], ◌∷◌, ◌++◌, length, arith}
-use Rattle.std.proofs.Common.{refl, append_assoc, Option, Some, None, map, Ok}
+use Rattle.std.proofs.Common.{refl, append_assoc, Some, None, map, Ok}
 use Rattle.std.proofs.lemmas.List.{append-nil, map-append}
 use Rattle.std.specs.Char.{len_utf8}
 use Rattle.std.specs.Prelude.{option_map}
@@ -9,7 +9,7 @@ use Rattle.interpolator_syntax.specs.Arguments.{Argument, argument_at, named_arg
 use Rattle.interpolator_syntax.specs.Arguments.{argument_of, kind_of, taken_read}
 use Rattle.interpolator_syntax.specs.Classes.{close_brace}
 use Rattle.interpolator_syntax.specs.PieceGrammar.{literal_pieces, token_pieces}
-use Rattle.interpolator_syntax.specs.Pieces.{Piece, pieces, argument_from, argument_step}
+use Rattle.interpolator_syntax.specs.Pieces.{Piece, pieces, argument_from}
 use Rattle.interpolator_syntax.specs.Tokens.{Token, first_token, past_token, argument, token_of}
 use Rattle.interpolator_syntax.specs.declared.argument.Argument as code_argument
 use Rattle.interpolator_syntax.specs.declared.token.Token as code_token
@@ -21,7 +21,6 @@ use Rattle.interpolator_eval.specs.Meaning.AskedNames.{asked_names, without_empt
 use Rattle.interpolator_pieces.specs.AllArguments.{kind_arguments}
 use Rattle.interpolator_pieces.specs.AllArguments.{piece_arguments, pieces_arguments}
 use Rattle.interpolator_pieces.specs.AllArguments.{arguments_within, arguments_of, names_of}
-use Rattle.interpolator_pieces.specs.Reading.{taken_step}
 use Rattle.interpolator_eval.proofs.MeaningLemmas.AskedPieceLemmas.{group_asks, pieces_ask}
 use Rattle.interpolator_eval.proofs.MeaningLemmas.AskedPieceLemmas.{branch_in_item, asked_pieces}
 use Rattle.interpolator_eval.proofs.MeaningLemmas.AskedPieceLemmas.{without_append, without_twice}

@@ -1,6 +1,6 @@
 -- What a walk over the faults of a format has reported, from what it reported of their parts.
-use Rattle.std.proofs.Common.{◌≡◌, refl, sym, ℕ, ◌+◌, ◌<◌, ◌≤◌, true, false, List, [], ◌++◌, length}
-use Rattle.std.proofs.Common.{map, get_or, append_assoc, Option, Some, None, IsSome, arith, ◌∷◌}
+use Rattle.std.proofs.Common.{◌≡◌, refl, sym, ℕ, ◌+◌, ◌<◌, ◌≤◌, true, false, List, [], ◌++◌}
+use Rattle.std.proofs.Common.{map, append_assoc, Option, Some, None, IsSome, arith, ◌∷◌}
 use Rattle.std.specs.List.{list_any}
 use Rattle.std.specs.Global.{Vec}
 use Rattle.std.proofs.lemmas.List.{append-nil, map-append}
@@ -29,7 +29,7 @@ use Rattle.interpolator_pieces.specs.declared.piece.Piece.TheViews.{out-Piece}
 use Rattle.interpolator_pieces.specs.declared.fault_collector.FaultCollector.{FaultCollector}
 use Rattle.interpolator_pieces.proofs.CheckLemmas.{entered_faults, left_faults}
 use Rattle.interpolator_pieces.specs.Visits.{outermost_spot}
-use Rattle.interpolator_pieces.proofs.StoredLemmas.{node_of_out, left, left_next, left_none}
+use Rattle.interpolator_pieces.proofs.StoredLemmas.{node_of_out}
 use Rattle.interpolator_pieces.proofs.RunLemmas.{name_held, value_held}
 use Rattle.interpolator_pieces.proofs.WholePieceLemmas.{fits_text}
 

@@ -22,7 +22,7 @@ use Rattle.interpolator_syntax.specs.declared.piece_kind.PieceKind.{PieceKind}
 use Rattle.interpolator_syntax.specs.declared.range.Range.{Range}
 use Rattle.interpolator_eval.specs.Slots.{Slots, SlotsList, no_slots, slots_and}
 use Rattle.interpolator_eval.specs.Slots.{values_of, items, slot_at, slots_listed}
-use Rattle.interpolator_eval.specs.Meaning.AskedNames.{asked_names, context_names, content_names}
+use Rattle.interpolator_eval.specs.Meaning.AskedNames.{asked_names, content_names}
 use Rattle.interpolator_eval.specs.Meaning.Choices.{chosen_items}
 use Rattle.interpolator_eval.specs.Meaning.Environments.{Environment, slots_under, bind}
 use Rattle.interpolator_eval.specs.Meaning.Limits.{SlotWithin, ValuesWithin, SlotsWithin, ItemsWithin}

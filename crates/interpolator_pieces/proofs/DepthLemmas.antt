@@ -1,14 +1,12 @@
 -- The pieces of a text are nested no deeper than it has characters.
-use Rattle.std.proofs.Common.{◌≡◌, refl, arith, ℕ, ◌<◌, ◌≤◌, length, Option, Some, None, max}
+use Rattle.std.proofs.Common.{◌≡◌, refl, arith, ℕ, ◌<◌, ◌≤◌, length, Option, Some, None}
 use Rattle.interpolator_syntax.specs.At.{At}
 use Rattle.interpolator_syntax.specs.Groups.{Group}
 use Rattle.interpolator_syntax.specs.Pieces.{argument_from}
-use Rattle.interpolator_syntax.specs.SpecTexts.{Kind}
 use Rattle.interpolator_syntax.specs.Tokens.{Token, first_token, past_token, argument}
-use Rattle.interpolator_syntax.proofs.SizeLemmas.{GroupIfIn, KindIn}
+use Rattle.interpolator_syntax.proofs.SizeLemmas.{GroupIfIn}
 use Rattle.interpolator_pieces.specs.NodeExtents.{node_depth, branch_depth, forest_depth}
-use Rattle.interpolator_syntax.specs.Nodes.{as_forest, group_branch, item_branch, join_branch}
-use Rattle.interpolator_syntax.specs.Nodes.{piece_node, token_node, nodes}
+use Rattle.interpolator_syntax.specs.Nodes.{as_forest, group_branch, piece_node, token_node, nodes}
 use Rattle.interpolator_syntax.proofs.TokenLemmas.{token_shorter, scan_shorter}
 use Rattle.interpolator_syntax.proofs.NodeLemmas.{by_length, argument_kind, nodes_first, nodes_none}
 
@@ -22,18 +20,11 @@ module _ (a : At) (shorter : (b : At) → length b.text < length a.text → Shal
         → branch_depth (group_branch nodes o) ≤ length a.text
     group_shallow o h = grind (arith, shorter)
 
-    groups_shallow : (k : Kind) → KindIn k b
-        → max (branch_depth (item_branch nodes k)) (branch_depth (join_branch nodes k))
-        ≤ length a.text
-    groups_shallow k h = grind (arith, group_shallow)
-
     token_shallow : (p : ℕ) (t : Token) → node_depth (token_node nodes p t b) ≤ length a.text
     token_shallow p argument =
         let end = (argument_from b.place b).rest.place in
-        argument_kind (λ k. node_depth (piece_node nodes p end k) ≤ length a.text) b (
-          λ start x q h. (groups_shallow x.kind h, groups_shallow x.kind h),
-          λ f. omega arith,
-        )
+        argument_kind (λ k. node_depth (piece_node nodes p end k) ≤ length a.text) b
+        (λ start x q h. grind (arith, group_shallow), λ f. omega arith)
     token_shallow p t = omega arith
 
   shallow_by : (o : Option (Token × At)) → first_token a ≡ o → Shallow a

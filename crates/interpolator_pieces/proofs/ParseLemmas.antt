@@ -1,5 +1,5 @@
 -- What is stored of a text that is read: of one piece, of an argument, and of all that was read.
-use Rattle.std.proofs.Common.{◌≡◌, ℕ, suc, ◌+◌, ◌-◌, ◌≤◌, List, [], ◌∷◌, ◌++◌, length, arith, refl}
+use Rattle.std.proofs.Common.{◌≡◌, ℕ, ◌+◌, ◌-◌, ◌≤◌, List, [], ◌∷◌, ◌++◌, length, arith, refl}
 use Rattle.std.proofs.Common.{◌∙◌, sym, Option, Some, None, Ok, Err, append_assoc, append-nil}
 use Rattle.std.proofs.Common.{option_map, chars, IsUtf8}
 use Rattle.std.specs.Global.{Vec}
@@ -40,7 +40,6 @@ use Rattle.interpolator_pieces.specs.declared.piece.Piece.{Piece}
 use Rattle.interpolator_syntax.specs.declared.piece_kind.PieceKind as told
 use Rattle.interpolator_syntax.specs.declared.piece_kind.PieceKind.TheVariants.{Literal, Doubled}
 use Rattle.interpolator_syntax.specs.declared.piece_kind.PieceKind.TheVariants.{LoneClose, Closed}
-use Rattle.interpolator_eval.proofs.MeaningLemmas.GroupSizeLemmas.{list_size, groups_within}
 use Rattle.interpolator_syntax.proofs.NodeLemmas.{nodes_first, nodes_none}
 use Rattle.interpolator_pieces.proofs.PartLemmas.{part_lies, name_lies}
 use Rattle.std.proofs.lemmas.List.{map-append}

@@ -1,9 +1,8 @@
 -- The text that lies at a place of another is what is cut from the other there.
-use Rattle.std.proofs.Common.{◌≡◌, ℕ, ◌+◌, ◌-◌, ◌<◌, Bool, true, false, ◌&&◌, nat_lt, List, [], ◌∷◌}
-use Rattle.std.proofs.Common.{◌++◌, length, take, drop, arith, refl, ap, ◌∙◌, sym, subst, rules}
+use Rattle.std.proofs.Common.{◌≡◌, ℕ, ◌+◌, ◌-◌, ◌<◌, true, false, nat_lt, List, [], ◌∷◌}
+use Rattle.std.proofs.Common.{◌++◌, length, take, drop, arith, refl, ◌∙◌, sym, subst, rules}
 use Rattle.std.proofs.Common.{Some, append_assoc, chars, IsUtf8, IsCharBoundary, encode_utf8_all}
 use Rattle.std.proofs.Common.{length-append}
-use Rattle.std.specs.Cmp.Derive.{both_true}
 use Rattle.std.proofs.lemmas.Str.{IsCharBoundary-at_seam, encodes-chars, encodes-append}
 use Rattle.std.proofs.lemmas.Str.{chars-encodes, scalars-chars}
 use Rattle.std.proofs.Math.Utf8.{scalars}
@@ -35,9 +34,7 @@ part_lies bs p cs to u h t =
     let m = encode_utf8_all h.front in
     let x = encode_utf8_all cs in
     let k = encode_utf8_all h.back in
-    let split : bs ≡ m ++ (x ++ k) =
-    sym (encodes-chars bs u) ∙ ap encode_utf8_all h.split ∙ encodes-append h.front (cs ++ h.back)
-    ∙ ap (λ z. m ++ z) (encodes-append cs h.back) in
+    let split : bs ≡ m ++ (x ++ k) = grind (arith, encodes-chars bs u, h.split, encodes-append) in
     let good = subst (λ z. scalars z ≡ true) h.split (scalars-chars bs u) in
     let after = scalars_both h.front (cs ++ h.back) good in
     let both = scalars_both cs h.back after.1 in

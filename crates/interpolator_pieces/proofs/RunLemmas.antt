@@ -1,6 +1,6 @@
 -- What writing stored pieces needs to know of them: where their text is cut from, what they hold,
 -- and the outcome of pieces, from that of the first and that of the rest.
-use Rattle.std.proofs.Common.{◌≡◌, refl, add-one, arith, ℕ, suc, ◌+◌, ◌-◌, ◌<◌, ◌≤◌, true, nat_lt}
+use Rattle.std.proofs.Common.{◌≡◌, refl, arith, ℕ, ◌+◌, ◌-◌, ◌<◌, ◌≤◌, true, nat_lt}
 use Rattle.std.proofs.Common.{List, [], ◌∷◌, length, take, drop, get_or, Option, None, Some, IsSome}
 use Rattle.std.proofs.Common.{option_map, chars, IsUtf8, IsCharBoundary}
 use Rattle.std.proofs.lemmas.Bool.Decides.{nat_tests}

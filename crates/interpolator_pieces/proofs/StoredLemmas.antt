@@ -1,22 +1,18 @@
 -- The node of a stored piece, one layer at a time.
-use Rattle.std.proofs.Common.{arith, ◌≡◌, refl, ap, ◌∙◌, ℕ, List, [], ◌∷◌, ◌++◌, Option, Some, None}
-use Rattle.std.proofs.Common.{true, ◌+◌, ◌<◌, ◌≤◌, length, drop, get_or}
+use Rattle.std.proofs.Common.{arith, ◌≡◌, refl, ℕ, List, Option, Some, None, true, ◌+◌, ◌<◌, ◌≤◌}
+use Rattle.std.proofs.Common.{length, drop, get_or}
 use Rattle.std.proofs.lemmas.List.{drop_more, drop_all}
 use Rattle.interpolator_syntax.specs.Nodes.{Forest, no_nodes, nodes_and, as_forest, Node, node}
 use Rattle.std.specs.Global.{Vec, Box}
 use Rattle.interpolator_syntax.specs.declared.piece_kind.PieceKind.{PieceKind}
-use Rattle.interpolator_syntax.specs.declared.piece_kind.PieceKind.TheVariants.{Closed}
 use Rattle.interpolator_pieces.specs.Stored.{node_step, node_of, nodes_of, branch_of, content_of}
-use Rattle.interpolator_pieces.specs.Stored.{bare_detail, detail_content, bare_form, bare_from}
-use Rattle.interpolator_pieces.specs.Stored.{detail_of, detail_or_bare}
+use Rattle.interpolator_pieces.specs.Stored.{bare_detail, detail_content, detail_of, detail_or_bare}
 use Rattle.interpolator_pieces.specs.StoredLists.{is_list_form}
 use Rattle.interpolator_pieces.specs.declared.piece.Detail.{Detail}
-use Rattle.interpolator_pieces.specs.declared.piece.Form.TheVariants as forms
 use Rattle.interpolator_pieces.specs.declared.piece.Piece.{Piece}
 use Rattle.interpolator_pieces.specs.declared.piece.Piece.TheOpen.{Piece-F}
 use Rattle.interpolator_pieces.specs.declared.piece.Piece.TheViews.{out-Piece, roll-Piece}
-use Rattle.interpolator_pieces.specs.declared.piece.Piece.TheFolds.{map-Piece, fold-roll-Piece}
-use Rattle.interpolator_pieces.specs.declared.piece.Piece.TheFolds.{fold_out-Piece}
+use Rattle.interpolator_pieces.specs.declared.piece.Piece.TheFolds.{fold-roll-Piece, fold_out-Piece}
 
 -- the node of a piece that was made of its parts
 pub node_of_roll :

@@ -1,6 +1,5 @@
 -- The names that stored pieces use, one name and one piece at a time.
-use Rattle.std.proofs.Common.{arith, ◌≡◌, refl, ℕ, Bool, true, List, [], ◌∷◌, ◌++◌, Some, IsSome}
-use Rattle.std.proofs.Common.{Result, Ok, string_bytes, chars}
+use Rattle.std.proofs.Common.{arith, ◌≡◌, ℕ, Bool, true, List, ◌++◌, Some, IsSome, Result, Ok}
 use Rattle.std.specs.declared.string.String.{String}
 use Rattle.interpolator_syntax.specs.declared.argument_fault.ArgumentFault.{ArgumentFault}
 use Rattle.interpolator_syntax.specs.At.{At}

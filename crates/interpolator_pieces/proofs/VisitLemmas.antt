@@ -1,5 +1,5 @@
 -- What visitors gather on a walk, and what that is for the pieces of a text.
-use Rattle.std.proofs.Common.{◌≡◌, refl, arith, ℕ, ◌+◌, List, [], ◌∷◌, ◌++◌, Some, None, Result, Ok}
+use Rattle.std.proofs.Common.{◌≡◌, refl, arith, ℕ, ◌+◌, List, [], ◌∷◌, ◌++◌, Result, Ok}
 use Rattle.std.proofs.Common.{inl, inr, append_assoc, Bool, true, append-nil, flat_map, max}
 use Rattle.std.proofs.lemmas.Grind.{flat_map-append}
 use Rattle.std.proofs.Math.Nat.{max-zero}

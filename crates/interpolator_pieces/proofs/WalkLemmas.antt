@@ -1,5 +1,5 @@
 -- The walk over stored pieces: its visits, one piece and one group at a time.
-use Rattle.std.proofs.Common.{◌≡◌, refl, arith, ℕ, ◌+◌, ◌^◌, ◌<◌, ◌≤◌, true, List, []}
+use Rattle.std.proofs.Common.{◌≡◌, refl, arith, ℕ, ◌+◌, ◌^◌, ◌<◌, ◌≤◌, List, []}
 use Rattle.std.specs.Prelude.{max}
 use Rattle.std.proofs.Common.{◌∷◌, ◌++◌, length, get_or, inl, inr, Result, Ok, Err, Option, Some}
 use Rattle.std.specs.Global.{Vec}
@@ -7,12 +7,10 @@ use Rattle.std.proofs.lemmas.List.Recursion.{max_bounds}
 use Rattle.interpolator_syntax.specs.Nodes.{as_forest}
 use Rattle.interpolator_pieces.specs.NodeExtents.{node_depth, branch_depth, forest_depth}
 use Rattle.interpolator_pieces.specs.Stored.{node_of, nodes_of, branch_of}
-use Rattle.interpolator_pieces.specs.Visits.{Visit, enter, leave, Walks, inner}
-use Rattle.interpolator_pieces.specs.Visits.{node_visits, branch_visits, forest_visits}
+use Rattle.interpolator_pieces.specs.Visits.{Visit, Walks}
 use Rattle.interpolator_pieces.specs.declared.piece.Piece.{Piece}
 use Rattle.interpolator_pieces.specs.declared.piece.Piece.TheViews.{out-Piece}
-use Rattle.interpolator_pieces.specs.declared.walk.Level.{Level}
-use Rattle.interpolator_pieces.proofs.StoredLemmas.{node_of_out, left, left_next, left_none}
+use Rattle.interpolator_pieces.proofs.StoredLemmas.{node_of_out, left}
 
 -- ---- visits, and others after them
 

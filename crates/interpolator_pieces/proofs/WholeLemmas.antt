@@ -1,18 +1,14 @@
 -- All that the pieces of a text hold fits it.
 use Rattle.std.proofs.Common.{◌≡◌, ℕ, ◌<◌, true, length, refl, Option, Some, None, arith}
 use Rattle.interpolator_syntax.specs.At.{At}
-use Rattle.interpolator_syntax.specs.Arguments.{Argument}
 use Rattle.interpolator_syntax.specs.Groups.{Group}
 use Rattle.interpolator_syntax.specs.Pieces.{argument_from}
 use Rattle.interpolator_syntax.specs.Tokens.{Token, first_token, past_token, argument}
-use Rattle.interpolator_syntax.specs.Nodes.{as_forest, group_branch, argument_node, piece_node}
-use Rattle.interpolator_syntax.specs.Nodes.{token_node, nodes}
+use Rattle.interpolator_syntax.specs.Nodes.{as_forest, group_branch, piece_node, token_node, nodes}
 use Rattle.interpolator_pieces.specs.Stored.{node_whole, branch_whole, forest_whole}
-use Rattle.interpolator_syntax.specs.declared.piece_kind.PieceKind as told
-use Rattle.interpolator_syntax.specs.declared.piece_kind.PieceKind.TheVariants.{Closed, Unclosed}
 use Rattle.interpolator_syntax.proofs.TokenLemmas.{token_shorter, scan_shorter}
 use Rattle.interpolator_syntax.proofs.NodeLemmas.{by_length, argument_kind, nodes_first, nodes_none}
-use Rattle.interpolator_syntax.proofs.SizeLemmas.{GroupIfIn, KindIn}
+use Rattle.interpolator_syntax.proofs.SizeLemmas.{GroupIfIn}
 
 abbrev Whole : At → Type 0
 Whole a = forest_whole (as_forest (nodes a)) ≡ true
@@ -22,17 +18,11 @@ module _ (a : At) (shorter : (b : At) → length b.text < length a.text → Whol
     group_whole : (o : Option Group) → GroupIfIn o b → branch_whole (group_branch nodes o) ≡ true
     group_whole o h = grind (arith, shorter)
 
-    argument_whole : (p end : ℕ) (kind : told.PieceKind) (start : ℕ) (x : Argument) (q : ℕ)
-        → KindIn x.kind b → node_whole (argument_node nodes p end kind start x q) ≡ true
-    argument_whole p end kind start x q h = grind (arith, group_whole)
-
     token_whole : (p : ℕ) (t : Token) → node_whole (token_node nodes p t b) ≡ true
     token_whole p argument =
         let end = (argument_from b.place b).rest.place in
-        argument_kind (λ k. node_whole (piece_node nodes p end k) ≡ true) b (
-          λ start x q h. (argument_whole p end Closed start x q h, argument_whole p end Unclosed start x q h),
-          λ f. refl,
-        )
+        argument_kind (λ k. node_whole (piece_node nodes p end k) ≡ true) b
+        (λ start x q h. grind (arith, group_whole), λ f. refl)
     token_whole p t = refl
 
   whole_by : (o : Option (Token × At)) → first_token a ≡ o → Whole a

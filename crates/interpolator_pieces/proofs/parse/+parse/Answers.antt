@@ -1,8 +1,7 @@
-use Rattle.std.proofs.Common.{◌∙◌, ap, refl, sym, arith, rules}
+use Rattle.std.proofs.Common.{refl, sym, arith, rules}
 use Rattle.interpolator_syntax.specs.At.{at}
-use Rattle.interpolator_syntax.specs.Nodes.{node, no_branch}
 use Rattle.interpolator_syntax.specs.declared.piece_kind.PieceKind.TheVariants.{Literal, Doubled}
-use Rattle.interpolator_syntax.specs.declared.piece_kind.PieceKind.TheVariants.{LoneClose, Closed}
+use Rattle.interpolator_syntax.specs.declared.piece_kind.PieceKind.TheVariants.{LoneClose}
 use Rattle.interpolator_syntax.specs.Tokens.{argument}
 use Rattle.interpolator_syntax.proofs.TokenLemmas.{scan_shorter, token_shorter}
 use Rattle.interpolator_eval.proofs.MeaningLemmas.GroupSizeLemmas.{groups_within}

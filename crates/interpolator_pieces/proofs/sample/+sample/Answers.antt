@@ -1,7 +1,7 @@
 use Rattle.std.proofs.Common.{rules, arith, Some, None}
 use Rattle.std.proofs.lemmas.Result.{err_from_is_err_and}
 use Rattle.interpolator_syntax.specs.Faults.{answer_of}
-use Rattle.interpolator_eval.specs.Meaning.Samples.{level_in}
+use Rattle.interpolator_eval.specs.Meaning.Samples.{sample_of}
 use Rattle.interpolator_pieces.proofs.CollectLemmas.{collects_nothing, collects_before, collects_after}
 use Rattle.interpolator_pieces.proofs.CollectLemmas.{asked_ends, own_ends, item_ends}
 use Rattle.interpolator_pieces.proofs.CollectLemmas.{join_ends, last_told, group_deep, item_told}
@@ -51,39 +51,30 @@ collect_parts-returns-in_err-collect_asked g t c = grind (arith, err_from_is_err
 
 pub collect_parts-returns-in_err-collect_checked : goal.collect_parts-returns-in_err-collect_checked
 collect_parts-returns-in_err-collect_checked g t c =
-    let residual = c.from_residual-in_err-collect_checked in
-    let err = err_from_is_err_and residual.result residual.ensures.1 in
     let own = c.in_err-collect_checked.ensures _ c.check_own.ensures.own in
-    rw (err.1, err.2) (record {
-      collects = own_ends _ _ _ c.args.piece.now (search rules) c.args.collector.now
-          c.collect_asked.new.collector c.in_ok-collect_asked.ensures.collects
-          c.collect_checked.new.self _ own;
-    })
+    let told = own_ends g.C.Object.Value.shows (sample_of g.C.Context.finds c.args.sample.now) _
+    c.args.piece.now (search rules) c.args.collector.now c.collect_asked.new.collector
+    c.in_ok-collect_asked.ensures.collects c.collect_checked.new.self _ own in
+    grind (arith, err_from_is_err_and, told)
 
 pub collect_parts-returns-in_err-collect_item : goal.collect_parts-returns-in_err-collect_item
 collect_parts-returns-in_err-collect_item g t c =
-    let residual = c.from_residual-in_err-collect_item in
-    let err = err_from_is_err_and residual.result residual.ensures.1 in
     let own = c.in_ok-collect_checked.ensures _ c.check_own.ensures.own in
-    rw (err.1, err.2) (record {
-      collects = item_ends _ _ _ c.args.piece.now (search rules) c.args.collector.now
-          c.collect_asked.new.collector c.in_ok-collect_asked.ensures.collects
-          c.collect_checked.new.self own c.collect_item.new.collector _
-          c.in_err-collect_item.ensures.collects;
-    })
+    let told = item_ends g.C.Object.Value.shows (sample_of g.C.Context.finds c.args.sample.now)
+    c.args.text.now c.args.piece.now (search rules) c.args.collector.now
+    c.collect_asked.new.collector c.in_ok-collect_asked.ensures.collects c.collect_checked.new.self
+    own c.collect_item.new.collector _ c.in_err-collect_item.ensures.collects in
+    grind (arith, err_from_is_err_and, told)
 
 pub collect_parts-returns-in_err-collect_join : goal.collect_parts-returns-in_err-collect_join
 collect_parts-returns-in_err-collect_join g t c =
-    let residual = c.from_residual-in_err-collect_join in
-    let err = err_from_is_err_and residual.result residual.ensures.1 in
     let own = c.in_ok-collect_checked.ensures _ c.check_own.ensures.own in
-    rw (err.1, err.2) (record {
-      collects = join_ends _ _ _ c.args.piece.now (search rules) c.args.collector.now
-          c.collect_asked.new.collector c.in_ok-collect_asked.ensures.collects
-          c.collect_checked.new.self own c.collect_item.new.collector
-          c.in_ok-collect_item.ensures.collects c.collect_join.new.collector _
-          c.in_err-collect_join.ensures.collects;
-    })
+    let told = join_ends g.C.Object.Value.shows (sample_of g.C.Context.finds c.args.sample.now)
+    c.args.text.now c.args.piece.now (search rules) c.args.collector.now
+    c.collect_asked.new.collector c.in_ok-collect_asked.ensures.collects c.collect_checked.new.self
+    own c.collect_item.new.collector c.in_ok-collect_item.ensures.collects
+    c.collect_join.new.collector _ c.in_err-collect_join.ensures.collects in
+    grind (arith, err_from_is_err_and, told)
 
 pub collect_parts-returns : goal.collect_parts-returns
 collect_parts-returns g t c =
