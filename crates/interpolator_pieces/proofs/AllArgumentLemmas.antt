@@ -51,8 +51,9 @@ deep_same (suc n) (suc m) a h k =
 pub arguments_pieces : (a : At) → arguments_of a ≡ pieces_arguments arguments_of (pieces a)
 unfolding arguments_of
 arguments_pieces a =
-    pieces_alike a (arguments_within (length a.text)) (λ b. arguments_within (suc (length b.text)) b)
-    (λ b l. deep_same (length a.text) (suc (length b.text)) b l (omega arith)) (pieces a) (pieces_in a)
+    let n = length a.text in
+    pieces_alike a (arguments_within n) (λ b. arguments_within (suc (length b.text)) b)
+    (λ b l. deep_same n (suc (length b.text)) b l (omega arith)) (pieces a) (pieces_in a)
 
 -- ---- they are those of what the scan hands on, and of what follows it
 

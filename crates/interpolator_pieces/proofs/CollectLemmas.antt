@@ -172,7 +172,8 @@ module _ {X : Type 0} (shows : X → Trait → Spec → Shown) (s : Sample X) wh
             → All ≡ []
         shown_held None is h held = absurd (cc)
         shown_held (Some name) is h held =
-            grind (arith, piece_parts bs x whole, held name is, shown name is, found_right shows t spec)
+            let holds = held name is in
+            grind (arith, piece_parts bs x whole, holds, shown name is, found_right shows t spec)
 
         pub name_right : IsSome (stored_name bs x) → (detail_of x).form ≡ forms.Plain → t ≡ Display
             → spec ≡ plain_spec → All ≡ []

@@ -83,9 +83,11 @@ module _ (bs : List ℕ) (u : IsUtf8 bs) (a : At) (w : Within (outermost (chars 
       (within_then _ a _ w (front_within a (written_text x) h.more h.begins)) t
 
   text_node : (x : Token) (kind : told.PieceKind) (b : At) → TextKind x kind
-      → first_token a ≡ Some (x, b) → BareNode bs a.place b.place kind ≡ token_node nodes a.place x b
+      → first_token a ≡ Some (x, b)
+      → BareNode bs a.place b.place kind ≡ token_node nodes a.place x b
   text_node (doubled c) kind b k e =
-      grind (arith, written_part (doubled c) b (b.place - 1) e, (takes_token a (doubled c, b) e).size)
+      let size = (takes_token a (doubled c, b) e).size in
+      grind (arith, written_part (doubled c) b (b.place - 1) e, size)
   text_node argument_token kind b k e = absurd k
   text_node x kind b k e = grind (arith, written_part x b b.place e, (takes_token a (x, b) e).size)
 
@@ -206,8 +208,8 @@ module _ (place : ℕ) (b : At) (n : ArgumentName) (rest : At)
       plain_spec forms.Plain) no_branch no_branch)
       → Pushed old new (token_node nodes place argument_token b) b
   name_pushed old new piece added stored =
-      value_pushed place b n plainly n.end start (read_alone b n rest named (sym closed)) name_end old
-      new piece rest Closed (grind arith) (grind arith) added traits.Display refl stored
+      value_pushed place b n plainly n.end start (read_alone b n rest named (sym closed)) name_end
+      old new piece rest Closed (grind arith) (grind arith) added traits.Display refl stored
 
 -- the argument from its brace on, if it was read
 pub taken_is : (b : At) (t : TakenArgument) → taken_read (Ok t) ≡ argument_at b
@@ -247,7 +249,8 @@ module _ (text a : At) (stored : List Piece) (reading : Reading text stored a) w
         let here = within_then _ text a w (after_front text a reading.taken) in
         let own = p.stands bs u (within_then _ a c here k) in
         let before = reading.so_far bs u w in
-        grind (arith, map-append, append_assoc (nodes_of bs stored), nodes_first a b x e, own, before);
+        let next = nodes_first a b x e in
+        grind (arith, map-append, append_assoc (nodes_of bs stored), next, own, before);
   }
 
   -- a text that the scan hands on is stored as a piece that is written as it is

@@ -144,7 +144,8 @@ first_piece bs xs x listed is whole = grind (arith, both, list_fits, fits_text)
 
 -- ---- the outcome of one piece
 
-module _ {W : Type 0} (into : W → Written) (m : Meaning) (s t : Sink W) (end : ℕ) (kind : PieceKind) where
+module _ {W : Type 0} (into : W → Written) (m : Meaning) (s t : Sink W) (end : ℕ)
+    (kind : PieceKind) where
   -- after a fault it does not matter whether the argument is closed
   pub closed_fault : (q : Answer) → Writes into m s t (Some q)
       → Writes into (and_closed kind end m) s t (Some q)

@@ -11,7 +11,9 @@ use Rattle.interpolator_pieces.proofs.arguments.+arguments.Goals as goal
 
 pub push_argument-push_groups-requires : goal.push_argument-push_groups-requires
 push_argument-push_groups-requires t c =
-    omega (arith, kind_fits _ c.in-Ok.taken c.in-Ok.ensures.read c.in-Ok.ensures.rest c.argument_of-argument.result c.argument_of-argument.ensures)
+    let taken = c.in-Ok.ensures in
+    let fits = kind_fits (at c.args.here) c.in-Ok.taken taken.read taken.rest
+    c.argument_of-argument.result c.argument_of-argument.ensures in omega arith
 
 pub push_argument-returns-in_ok-push_groups-in-Ok-clause-rest :
     goal.push_argument-returns-in_ok-push_groups-in-Ok-clause-rest

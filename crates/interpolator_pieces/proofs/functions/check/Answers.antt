@@ -9,9 +9,9 @@ walk_text-requires c = grind (arith, format_stands)
 
 pub returns-clause-first : goal.returns-clause-first
 returns-clause-first c =
-    let told = text_told _ (λ old new x answer told. told) _ _ _ _ c.walk_text.ensures in grind arith
+    let told = text_told _ (λ old new x answer is. is) _ _ _ _ c.walk_text.ensures in grind arith
 
 pub returns-clause-place : goal.returns-clause-place
 returns-clause-place c =
-    let told = text_told _ (λ old new x answer told. told) _ _ _ _ c.walk_text.ensures in
+    let told = text_told _ (λ old new x answer is. is) _ _ _ _ c.walk_text.ensures in
     grind (arith, first_lies)

@@ -29,7 +29,8 @@ pub parse_pieces-loop-token-preserved-in_ok-push_piece-in-Literals :
     goal.parse_pieces-loop-token-preserved-in_ok-push_piece-in-Literals
 parse_pieces-loop-token-preserved-in_ok-push_piece-in-Literals t c =
     text_reads _ _ _ c.loop-token.invariant _ _ _ _ Literal (sym c.in-Some.ensures.token)
-    (rw c.in-Literals.is refl) c.in_ok-push_piece-in-Literals.ensures c.bare_piece-piece.ensures.node
+    (rw c.in-Literals.is refl) c.in_ok-push_piece-in-Literals.ensures
+    c.bare_piece-piece.ensures.node
 
 pub parse_pieces-loop-token-smaller-in_ok-push_piece-in-Doubled :
     goal.parse_pieces-loop-token-smaller-in_ok-push_piece-in-Doubled
@@ -98,7 +99,8 @@ pub push_argument-returns-in_ok-push_piece-in-Some-2-clause-pushed :
 push_argument-returns-in_ok-push_piece-in-Some-2-clause-pushed t c =
     let named = c.take_name-named in
     name_pushed c.args.place _ named.result _ named.ensures.read c.in-Some.ensures c.requires.start
-    named.ensures.end_place _ _ _ c.in_ok-push_piece-in-Some-2.ensures c.in_ok-piece-in-Some.ensures.node
+    named.ensures.end_place _ _ _ c.in_ok-push_piece-in-Some-2.ensures
+    c.in_ok-piece-in-Some.ensures.node
 
 pub push_asked-push_taken-requires : goal.push_asked-push_taken-requires
 push_asked-push_taken-requires t c =
@@ -130,7 +132,9 @@ push_list-returns-clause-rest t c =
 
 pub push_list-returns-clause-pushed : goal.push_list-returns-clause-pushed
 push_list-returns-clause-pushed t c =
-    list_pushed c.args.opening.place _ c.args.opening.named c.args.asked.now c.args.end c.requires.start
+    list_pushed c.args.opening.place _ c.args.opening.named c.args.asked.now c.args.end
+    c.requires.start
     c.requires.read c.requires.name_end _ _ _ _ _ c.ending-kind.ensures.rest
     c.ending-kind.ensures.kind c.in_ok-push_piece.ensures c.in_ok-item.item c.in_ok-join.join
-    c.requires.asked c.in_ok-item.ensures.stands c.in_ok-join.ensures.stands c.in_ok-piece.ensures.node
+    c.requires.asked c.in_ok-item.ensures.stands c.in_ok-join.ensures.stands
+    c.in_ok-piece.ensures.node

@@ -2,7 +2,8 @@ use Rattle.std.proofs.Common.{rules, arith, Some, None}
 use Rattle.std.proofs.lemmas.Result.{err_from_is_err_and}
 use Rattle.interpolator_syntax.specs.Faults.{answer_of}
 use Rattle.interpolator_eval.specs.Meaning.Samples.{sample_of}
-use Rattle.interpolator_pieces.proofs.CollectLemmas.{collects_nothing, collects_before, collects_after}
+use Rattle.interpolator_pieces.proofs.CollectLemmas.{collects_nothing, collects_before}
+use Rattle.interpolator_pieces.proofs.CollectLemmas.{collects_after}
 use Rattle.interpolator_pieces.proofs.CollectLemmas.{asked_ends, own_ends, item_ends}
 use Rattle.interpolator_pieces.proofs.CollectLemmas.{join_ends, last_told, group_deep, item_told}
 use Rattle.interpolator_pieces.proofs.StoredLemmas.{left_next, left_none}

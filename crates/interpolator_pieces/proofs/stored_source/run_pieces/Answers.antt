@@ -2,7 +2,8 @@ use Rattle.std.proofs.Common.{rules, arith, ◌≡◌, ◌∷◌, ◌∙◌, tru
 use Rattle.std.proofs.lemmas.Result.{err_from_is_err_and}
 use Rattle.interpolator_syntax.specs.Nodes.{as_forest, nodes_and}
 use Rattle.interpolator_eval.specs.Meaning.Sources.{first_holds}
-use Rattle.interpolator_eval.proofs.MeaningLemmas.FirstPieceLemmas.{passed_stops, passed_list, passed_on}
+use Rattle.interpolator_eval.proofs.MeaningLemmas.FirstPieceLemmas.{passed_stops, passed_list}
+use Rattle.interpolator_eval.proofs.MeaningLemmas.FirstPieceLemmas.{passed_on}
 use Rattle.interpolator_pieces.specs.Stored.{content_of, forest_whole, node_of, nodes_of}
 use Rattle.interpolator_pieces.specs.declared.piece.Piece.{Piece}
 use Rattle.interpolator_pieces.proofs.RunLemmas.{asks_form, first_list}
@@ -28,7 +29,8 @@ returns-in_err-run_piece g c =
     let stops = passed_stops _ _ _ c.loop-piece.invariant.passed fits.first c.tick.ensures.one
     fits.holds c.in_err-run_piece.ensures.writes in
     let err = err_from_is_err_and c.from_residual.result c.from_residual.ensures.1 in
-    rw (err.1, err.2) (record { writes = stops.0; met = tt; gone = omega (arith, stops.1); exact = tt })
+    rw (err.1, err.2)
+    (record { writes = stops.0; met = tt; gone = omega (arith, stops.1); exact = tt })
 
 pub returns-then-branch : goal.returns-then-branch
 returns-then-branch g c =

@@ -5,7 +5,8 @@ use Rattle.interpolator_pieces.proofs.StoredLemmas.{node_of_out, left_next, left
 use Rattle.interpolator_pieces.proofs.WalkLemmas.{walks_one, walks_then, walks_stop, walks_on}
 use Rattle.interpolator_pieces.proofs.WalkLemmas.{piece_depth, piece_within, group_fits}
 use Rattle.interpolator_pieces.proofs.WholePieceLemmas.{item_smaller, join_smaller, group_smaller}
-use Rattle.interpolator_pieces.proofs.WholePieceLemmas.{piece_whole, most_at, fits_text, group_whole}
+use Rattle.interpolator_pieces.proofs.WholePieceLemmas.{piece_whole, most_at, fits_text}
+use Rattle.interpolator_pieces.proofs.WholePieceLemmas.{group_whole}
 use Rattle.interpolator_pieces.proofs.walk.+walk.Goals as goal
 
 -- ---- pieces in order
