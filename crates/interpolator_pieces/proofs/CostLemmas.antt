@@ -9,15 +9,12 @@ use Rattle.interpolator_render.specs.declared.view.Trait.TheVariants.{Display}
 use Rattle.interpolator_syntax.specs.SpecTexts.{plain_spec}
 use Rattle.interpolator_syntax.specs.Nodes.{Content}
 use Rattle.interpolator_pieces.specs.NodeCosts.{piece_cost, then_cost, items_cost, padded_cost}
-use Rattle.interpolator_pieces.specs.NodeCosts.{list_cost, value_cost, content_cost, node_cost}
-use Rattle.interpolator_pieces.specs.NodeCosts.{item_branch_cost, join_branch_cost, usize_cost}
-use Rattle.interpolator_pieces.specs.Stored.{detail_of, content_of, node_of, branch_of}
+use Rattle.interpolator_pieces.specs.NodeCosts.{list_cost, value_cost, content_cost, usize_cost}
+use Rattle.interpolator_pieces.specs.Stored.{detail_of, content_of}
 use Rattle.interpolator_pieces.specs.declared.cost.Cost.{Cost}
 use Rattle.interpolator_pieces.specs.declared.cost.Limits.{Limits}
 use Rattle.interpolator_pieces.specs.declared.piece.Form.TheVariants as forms
 use Rattle.interpolator_pieces.specs.declared.piece.Piece.{Piece}
-use Rattle.interpolator_pieces.specs.declared.piece.Piece.TheViews.{out-Piece}
-use Rattle.interpolator_pieces.proofs.StoredLemmas.{node_of_out}
 use Rattle.interpolator_pieces.specs.declared.piece.Form.{Form}
 use Rattle.std.specs.Prelude.{⊤}
 
@@ -53,7 +50,7 @@ capped_padded width a b h = grind (arith, same_cost)
 -- ---- one piece
 
 module _ (limits : Limits) where
-  capped_content : (h : Content) (item join : Cost)
+  pub capped_content : (h : Content) (item join : Cost)
       → usize_cost (content_cost limits h (usize_cost item) (usize_cost join))
       ≡ usize_cost (content_cost limits h item join)
   capped_content h item join = grind (arith, capped_padded, capped_items)
@@ -75,11 +72,3 @@ module _ (limits : Limits) where
     pub form_told : (bs : List ℕ) (x : Piece) → IsSome (content_of bs x)
         → Told (detail_of x).spec (detail_of x).form (content_of bs x)
     form_told bs x held = grind arith
-
-  -- a piece, by the costs of its groups
-  pub piece_told : (bs : List ℕ) (x : Piece) (i j r : Cost)
-      → i ≡ usize_cost (item_branch_cost limits (branch_of bs (out-Piece x).item))
-      → j ≡ usize_cost (join_branch_cost limits (branch_of bs (out-Piece x).join))
-      → option_map (told i j) (content_of bs x) ≡ Some r
-      → r ≡ usize_cost (node_cost limits (node_of bs x))
-  piece_told bs x i j r a b h = grind (arith, node_of_out, capped_content)

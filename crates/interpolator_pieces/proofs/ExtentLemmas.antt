@@ -1,23 +1,14 @@
--- How wide and how deep stored pieces are, each when it is entered, and those of a text.
-use Rattle.std.proofs.Common.{◌≡◌, arith, rules, ℕ, ◌+◌, ◌<◌, true, nat_cmp, List, Option, IsSome}
-use Rattle.std.proofs.Common.{Result, Ok, ◌^◌, max}
-use Rattle.std.specs.Ordering.{ord_max}
-use Rattle.interpolator_pieces.specs.NodeExtents.{stored_extent, branch_depth, inner_depth}
-use Rattle.interpolator_pieces.specs.NodeExtents.{visit_extent, visit_depth}
+-- How wide stored pieces are when they are entered, and the greatest number that a text has.
+use Rattle.std.proofs.Common.{◌≡◌, arith, ℕ, true, List, Result, Ok, max}
+use Rattle.interpolator_pieces.specs.NodeExtents.{stored_extent, visit_extent}
 use Rattle.interpolator_pieces.specs.Visits.{Visit, enter, Walks, greatest, text_visits}
 use Rattle.interpolator_pieces.specs.declared.walk.Level.{Level}
 use Rattle.interpolator_pieces.proofs.VisitLemmas.{gathers_greatest}
 use Rattle.interpolator_syntax.specs.At.{At}
-use Rattle.std.specs.Global.{Vec}
-use Rattle.interpolator_pieces.specs.Stored.{node_of, branch_of, node_whole}
+use Rattle.interpolator_pieces.specs.Stored.{node_of, node_whole}
 use Rattle.interpolator_pieces.specs.declared.piece.Piece.{Piece}
-use Rattle.interpolator_pieces.specs.declared.piece.Piece.TheViews.{out-Piece}
 use Rattle.interpolator_pieces.proofs.StoredLemmas.{node_of_out}
 use Rattle.interpolator_pieces.proofs.WholePieceLemmas.{fits_text}
-
--- the greater of two, as the code computes it
-pub greater : (m n : ℕ) → ord_max nat_cmp m n ≡ max m n
-greater m n = search rules
 
 -- ---- one piece
 
@@ -25,18 +16,6 @@ greater m n = search rules
 pub extent_entered : (level : Level) (bs : List ℕ) (x : Piece) → node_whole (node_of bs x) ≡ true
     → stored_extent x ≡ visit_extent (enter level (node_of bs x))
 extent_entered level bs x whole = grind (arith, node_of_out, fits_text)
-
--- how many groups the pieces of its groups are in
-pub depth_entered : (level : Level) (bs : List ℕ) (x : Piece)
-    → max (inner_depth level.depth (branch_of bs (out-Piece x).item))
-    (inner_depth level.depth (branch_of bs (out-Piece x).join))
-    ≡ visit_depth (enter level (node_of bs x))
-depth_entered level bs x = grind (arith, node_of_out)
-
--- if there is a group, its depth fits too
-pub group_fits : (depth : ℕ) (bs : List ℕ) (group : Option (Vec Piece))
-    → depth + branch_depth (branch_of bs group) < 2 ^ 64 → IsSome group → depth + 1 < 2 ^ 64
-group_fits depth bs group h some = grind arith
 
 -- ---- the greatest in a text
 

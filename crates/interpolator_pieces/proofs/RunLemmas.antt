@@ -1,5 +1,5 @@
 -- What writing stored pieces needs to know of them: where their text is cut from, what they hold,
--- and the outcome of pieces, from that of the first and that of the rest.
+-- and the outcome of an argument from that of its value.
 use Rattle.std.proofs.Common.{◌≡◌, refl, arith, ℕ, ◌+◌, ◌-◌, ◌<◌, ◌≤◌, true, nat_lt}
 use Rattle.std.proofs.Common.{List, [], ◌∷◌, length, take, drop, get_or, Option, None, Some, IsSome}
 use Rattle.std.proofs.Common.{option_map, chars, IsUtf8, IsCharBoundary}
@@ -142,7 +142,7 @@ pub first_piece :
     → forest_whole (as_forest (nodes_of bs xs)) ≡ true → FirstPiece bs x
 first_piece bs xs x listed is whole = grind (arith, both, list_fits, fits_text)
 
--- ---- the outcome of one piece
+-- ---- the outcome of an argument
 
 module _ {W : Type 0} (into : W → Written) (m : Meaning) (s t : Sink W) (end : ℕ)
     (kind : PieceKind) where

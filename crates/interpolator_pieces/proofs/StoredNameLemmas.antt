@@ -1,4 +1,4 @@
--- The names that stored pieces use, one name and one piece at a time.
+-- The names that stored pieces use: that of one piece, and those of a text.
 use Rattle.std.proofs.Common.{arith, ◌≡◌, ℕ, Bool, true, List, ◌++◌, Some, IsSome, Result, Ok}
 use Rattle.std.specs.declared.string.String.{String}
 use Rattle.interpolator_syntax.specs.declared.argument_fault.ArgumentFault.{ArgumentFault}

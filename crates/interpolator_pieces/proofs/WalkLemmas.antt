@@ -1,4 +1,4 @@
--- The walk over stored pieces: its visits, one piece and one group at a time.
+-- Visits, one after another, and how deep stored pieces are.
 use Rattle.std.proofs.Common.{◌≡◌, refl, arith, ℕ, ◌+◌, ◌^◌, ◌<◌, ◌≤◌, List, []}
 use Rattle.std.specs.Prelude.{max}
 use Rattle.std.proofs.Common.{◌∷◌, ◌++◌, length, get_or, inl, inr, Result, Ok, Err, Option, Some}

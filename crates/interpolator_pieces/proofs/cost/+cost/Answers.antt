@@ -1,7 +1,7 @@
 use Rattle.std.proofs.Common.{rules, arith}
 use Rattle.interpolator_pieces.specs.declared.piece.Piece.TheViews.{size-Piece}
-use Rattle.interpolator_pieces.proofs.CostLemmas.{piece_told, same_cost}
-use Rattle.interpolator_pieces.proofs.StoredLemmas.{left_next, left_none}
+use Rattle.interpolator_pieces.proofs.CostLemmas.{capped_content, same_cost}
+use Rattle.interpolator_pieces.proofs.StoredLemmas.{left_next, left_none, node_of_out}
 use Rattle.interpolator_pieces.proofs.WholePieceLemmas.{piece_whole, most_at, in_item, in_join}
 use Rattle.interpolator_pieces.proofs.cost.+cost.Goals as goal
 
@@ -19,8 +19,7 @@ cost_of-returns t c = grind (arith, same_cost, left_none)
 
 pub cost_of_piece-returns : goal.cost_of_piece-returns
 cost_of_piece-returns t c =
-    piece_told c.args.limits.now c.args.text.now c.args.piece.now _ _ _ c.cost_of_item-item.ensures
-    c.cost_of_join-join.ensures c.content_cost.ensures
+    grind (arith, node_of_out, capped_content)
 
 pub cost_of_item-cost_of-requires : goal.cost_of_item-cost_of-requires
 cost_of_item-cost_of-requires t c =

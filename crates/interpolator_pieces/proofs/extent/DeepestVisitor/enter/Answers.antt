@@ -1,5 +1,5 @@
 use Rattle.std.proofs.Common.{arith}
-use Rattle.interpolator_pieces.proofs.ExtentLemmas.{depth_entered}
+use Rattle.interpolator_pieces.proofs.StoredLemmas.{node_of_out}
 use Rattle.interpolator_pieces.proofs.WalkLemmas.{piece_depth}
 use Rattle.interpolator_pieces.proofs.extent.DeepestVisitor.enter.Goals as goal
 
@@ -12,4 +12,4 @@ inner_depth-join-requires c = grind (arith, piece_depth)
 pub returns : goal.returns
 returns c =
     let bs = c.args._text.now in
-    grind (arith, depth_entered, c.inner_depth-item.ensures bs, c.inner_depth-join.ensures bs)
+    grind (arith, node_of_out, c.inner_depth-item.ensures bs, c.inner_depth-join.ensures bs)
