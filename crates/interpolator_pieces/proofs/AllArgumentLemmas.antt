@@ -1,6 +1,6 @@
 -- The arguments of a text: those of its pieces, those of what the scan hands on, and their names.
 use Rattle.std.proofs.Common.{◌≡◌, ℕ, zero, suc, ◌+◌, ◌<◌, ◌≤◌, List, [], ◌∷◌, ◌++◌, length, arith}
-use Rattle.std.proofs.Common.{refl, ap, sym, ◌∙◌, append_assoc, Option, Some, None, map, Ok}
+use Rattle.std.proofs.Common.{refl, append_assoc, Some, None, map, Ok}
 use Rattle.std.proofs.lemmas.List.{append-nil, map-append}
 use Rattle.std.specs.Char.{len_utf8}
 use Rattle.std.specs.Prelude.{option_map}
@@ -9,7 +9,7 @@ use Rattle.interpolator_syntax.specs.Arguments.{Argument, argument_at, named_arg
 use Rattle.interpolator_syntax.specs.Arguments.{argument_of, kind_of, taken_read}
 use Rattle.interpolator_syntax.specs.Classes.{close_brace}
 use Rattle.interpolator_syntax.specs.PieceGrammar.{literal_pieces, token_pieces}
-use Rattle.interpolator_syntax.specs.Pieces.{Piece, pieces, argument_from, argument_step}
+use Rattle.interpolator_syntax.specs.Pieces.{Piece, pieces, argument_from}
 use Rattle.interpolator_syntax.specs.Tokens.{Token, first_token, past_token, argument, token_of}
 use Rattle.interpolator_syntax.specs.declared.argument.Argument as code_argument
 use Rattle.interpolator_syntax.specs.declared.token.Token as code_token
@@ -21,7 +21,6 @@ use Rattle.interpolator_eval.specs.Meaning.AskedNames.{asked_names, without_empt
 use Rattle.interpolator_pieces.specs.AllArguments.{kind_arguments}
 use Rattle.interpolator_pieces.specs.AllArguments.{piece_arguments, pieces_arguments}
 use Rattle.interpolator_pieces.specs.AllArguments.{arguments_within, arguments_of, names_of}
-use Rattle.interpolator_pieces.specs.Reading.{taken_step}
 use Rattle.interpolator_eval.proofs.MeaningLemmas.AskedPieceLemmas.{group_asks, pieces_ask}
 use Rattle.interpolator_eval.proofs.MeaningLemmas.AskedPieceLemmas.{branch_in_item, asked_pieces}
 use Rattle.interpolator_eval.proofs.MeaningLemmas.AskedPieceLemmas.{without_append, without_twice}
@@ -43,11 +42,11 @@ module _ (a : At) (run other : At → List Argument)
 -- any sufficient limit of depth gives the same
 deep_same : (n m : ℕ) (a : At) → length a.text < n → length a.text < m
     → arguments_within n a ≡ arguments_within m a
-deep_same zero m a h k = absurd (omega (arith, h))
-deep_same (suc n) zero a h k = absurd (omega (arith, k))
+deep_same zero m a h k = absurd (omega arith)
+deep_same (suc n) zero a h k = absurd (omega arith)
 deep_same (suc n) (suc m) a h k =
     pieces_alike a (arguments_within n) (arguments_within m)
-    (λ b l. deep_same n m b (omega (arith, h, l)) (omega (arith, k, l))) (pieces a) (pieces_in a)
+    (λ b l. deep_same n m b (omega arith) (omega arith)) (pieces a) (pieces_in a)
 
 pub arguments_pieces : (a : At) → arguments_of a ≡ pieces_arguments arguments_of (pieces a)
 unfolding arguments_of
@@ -77,9 +76,8 @@ arguments_first : (a b : At) (t : Token) → first_token a ≡ Some (t, b)
     → arguments_of a ≡ token_arguments t b ++ arguments_of (past_token t b)
 arguments_first a b t h =
     let rest = past_token t b in
-    arguments_pieces a ∙ ap (pieces_arguments arguments_of) (hands_on a t b h)
-    ∙ token_gives a.place t b (pieces rest)
-    ∙ ap (λ xs. token_arguments t b ++ xs) (sym (arguments_pieces rest))
+    rw (arguments_pieces a, hands_on a t b h, token_gives a.place t b (pieces rest))
+    (rw (← arguments_pieces rest) refl)
 
 -- any other token has none, and reading goes on after it
 pub no_argument : (x : code_token.Token) (b : At) → ¬ (x ≡ tokens.Argument)
@@ -103,35 +101,20 @@ module _ (text here : At) (before so_far : List Argument)
       → Gathering text before more rest
   gathers_on x b rest more e r m = record {
     left = omega (arith, gathering.left, scan_shorter here rest (x, b) e r);
-    all =
-        ap (λ xs. xs ++ arguments_of rest) m
-        ∙ append_assoc so_far (token_arguments x b) (arguments_of rest)
-        ∙ ap (λ a. so_far ++ (token_arguments x b ++ arguments_of a)) r
-        ∙ ap (λ xs. so_far ++ xs) (sym (arguments_first here b x e)) ∙ gathering.all;
+    all = grind (arith, append_assoc so_far (token_arguments x b), arguments_first);
   }
 
   -- nothing is left
   pub all_gathered : first_token here ≡ None → so_far ≡ before ++ arguments_of text
   all_gathered e = grind (arith, append-nil, arguments_pieces, hands_nothing)
 
--- nothing is gathered yet
-pub gathers_nothing : (text : At) (before : List Argument) → Gathering text before before text
-gathers_nothing text before = grind arith
-
 -- ---- one argument
-
-step_gives : (run : At → List Argument) (p : ℕ) (b : At) (x : Argument) (q : At) (o : Option At)
-    → piece_arguments run (argument_step p b x q o).piece.kind ≡ x ∷ kind_arguments run x.kind
-step_gives run p b x q o = grind arith
 
 -- an argument that was read is added, and then those of its groups
 module _ (b : At) (t : TakenArgument) (read : taken_read (Ok t) ≡ argument_at b)
     (closes : option_map at t.rest ≡ strip close_brace (at t.end)) where
   abbrev taken : Argument
   taken = named_argument t.name (request_of t.asked)
-
-  argument_gives : (argument_from b.place b).piece.kind ≡ (taken_step b t).piece.kind
-  argument_gives = grind (arith, taken_is)
 
   pub argument_pushed :
       (old mid new : List code_argument.Argument) (x : code_argument.Argument)
@@ -140,7 +123,7 @@ module _ (b : At) (t : TakenArgument) (read : taken_read (Ok t) ≡ argument_at 
       → map argument_of new ≡ map argument_of old
       ++ piece_arguments arguments_of (argument_from b.place b).piece.kind
   argument_pushed old mid new x is added groups =
-      grind (arith, map-append, append_assoc, step_gives, argument_gives)
+      grind (arith, map-append, append_assoc, taken_is b t read closes)
 
   -- its groups are no longer than its text
   pub kind_fits : (x : code_argument.Argument) → argument_of x ≡ taken
@@ -159,22 +142,12 @@ module _ (a : At) (shorter : (b : At) → length b.text < length a.text
       → Name (pieces_arguments arguments_of xs) (pieces_ask xs)
   pieces_names [] h = refl
   pieces_names (x ∷ xs) h =
-      grind (
-        arith,
-        map-append,
-        without_append,
-        pieces_ask,
-        group_asks,
-        branch_in_item,
-        without_twice,
-        pieces_names xs h.2,
-      )
+      let rest = pieces_names xs h.2 in
+      grind (arith, map-append, without_append, group_asks, branch_in_item, without_twice, rest)
 
 -- except for empty names, the names of the arguments of a text are those that it uses
 pub arguments_name : (a : At)
     → without_empty (names_of (arguments_of a)) ≡ without_empty (asked_names a)
 arguments_name =
     by_length (λ a. Name (arguments_of a) (asked_names a)) (λ a shorter.
-    ap (λ xs. without_empty (names_of xs)) (arguments_pieces a)
-    ∙ pieces_names a shorter (pieces a) (pieces_in a)
-    ∙ sym (ap without_empty (asked_pieces a)))
+    rw (arguments_pieces a, asked_pieces a) (pieces_names a shorter (pieces a) (pieces_in a)))

@@ -1,7 +1,6 @@
 -- What a walk over the faults of a format has reported, from what it reported of their parts.
-use Rattle.std.proofs.Common.{◌≡◌, ◌∙◌, refl, sym, ap, ℕ, ◌+◌, ◌<◌, ◌≤◌, true, false, List, []}
-use Rattle.std.proofs.Common.{◌++◌, length, map, get_or, append_assoc, Option, Some, None}
-use Rattle.std.proofs.Common.{IsSome, arith, ◌∷◌}
+use Rattle.std.proofs.Common.{◌≡◌, refl, sym, ℕ, ◌+◌, ◌<◌, ◌≤◌, true, false, List, [], ◌++◌}
+use Rattle.std.proofs.Common.{map, append_assoc, Option, Some, None, IsSome, arith, ◌∷◌}
 use Rattle.std.specs.List.{list_any}
 use Rattle.std.specs.Global.{Vec}
 use Rattle.std.proofs.lemmas.List.{append-nil, map-append}
@@ -10,27 +9,27 @@ use Rattle.interpolator_render.specs.declared.view.Trait.{Trait}
 use Rattle.interpolator_render.specs.declared.view.Trait.TheVariants.{Display}
 use Rattle.interpolator_render.specs.Views.{Shown}
 use Rattle.interpolator_syntax.specs.Faults.{Fault, Answer, fault, no_memory}
-use Rattle.interpolator_syntax.specs.Nodes.{node, as_forest, Content, target_value}
+use Rattle.interpolator_syntax.specs.Nodes.{as_forest, Content, argument_content, target_value}
 use Rattle.interpolator_syntax.specs.SpecTexts.{plain_spec}
 use Rattle.interpolator_eval.specs.Slots.{Slots}
 use Rattle.interpolator_eval.specs.Meaning.Samples.{Sample, bind_each, candidates_under, hidden}
 use Rattle.interpolator_eval.specs.Meaning.Samples.{all_shown, some_missing, some_failed}
-use Rattle.interpolator_pieces.specs.NodeChecks.{fault_list, form_fault, form_end_fault}
-use Rattle.interpolator_pieces.specs.NodeChecks.{stored_own_fault, stored_end_fault}
+use Rattle.interpolator_pieces.specs.NodeChecks.{fault_list, stored_own_fault, stored_end_fault}
 use Rattle.interpolator_pieces.specs.NodeExtents.{branch_depth, forest_depth}
 use Rattle.interpolator_pieces.specs.NodeSamples.{asked_of, item_of, items_of_content}
 use Rattle.interpolator_pieces.specs.NodeSamples.{node_faults_in, join_faults_in, forest_faults_in}
 use Rattle.interpolator_pieces.specs.NodeSamples.{value_faults, found_faults}
 use Rattle.interpolator_pieces.specs.StoredMeanings.{stored_name, unclosed_fault}
-use Rattle.interpolator_pieces.specs.Stored.{detail_of, content_of, node_of, nodes_of, branch_of, node_whole}
+use Rattle.interpolator_pieces.specs.Stored.{detail_of, content_of, node_of, nodes_of, branch_of}
+use Rattle.interpolator_pieces.specs.Stored.{node_whole}
 use Rattle.interpolator_pieces.specs.Collecting.{Collects, AnswersFirst, kept_by}
-use Rattle.interpolator_pieces.specs.declared.piece.Form.{Form}
 use Rattle.interpolator_pieces.specs.declared.piece.Form.TheVariants as forms
 use Rattle.interpolator_pieces.specs.declared.piece.Piece.{Piece}
 use Rattle.interpolator_pieces.specs.declared.piece.Piece.TheViews.{out-Piece}
 use Rattle.interpolator_pieces.specs.declared.fault_collector.FaultCollector.{FaultCollector}
-use Rattle.interpolator_pieces.proofs.StoredLemmas.{node_of_out, by_form, left, left_next}
-use Rattle.interpolator_pieces.proofs.StoredLemmas.{left_none}
+use Rattle.interpolator_pieces.proofs.CheckLemmas.{entered_faults, left_faults}
+use Rattle.interpolator_pieces.specs.Visits.{outermost_spot}
+use Rattle.interpolator_pieces.proofs.StoredLemmas.{node_of_out}
 use Rattle.interpolator_pieces.proofs.RunLemmas.{name_held, value_held}
 use Rattle.interpolator_pieces.proofs.WholePieceLemmas.{fits_text}
 
@@ -84,18 +83,7 @@ module _ {X : Type 0} (shows : X → Trait → Spec → Shown) (t : Trait) (spec
 
 module _ {X : Type 0} (shows : X → Trait → Spec → Shown) (s : Sample X) where
   module _ (bs : List ℕ) (x : Piece) where
-    -- the faults of its parts are its faults, by its form and what it holds
-    abbrev Parts : Form → Option Content → Type 0
-    Parts form held =
-        let y = out-Piece x in
-        let d = detail_of x in
-        let item = branch_of bs y.item in
-        let join = branch_of bs y.join in
-        asked_of shows s held ++ (fault_list (form_fault d.spec d.spec_end form)
-        ++ (item_of shows s held item ++ (join_faults_in shows s join
-        ++ fault_list (form_end_fault y.kind d.spec_end form))))
-        ≡ node_faults_in shows s (node y.place y.end y.kind held item join)
-
+    -- the faults of its parts are its faults
     pub piece_parts : node_whole (node_of bs x) ≡ true
         → asked_of shows s (content_of bs x) ++ (fault_list (stored_own_fault x)
         ++ (item_of shows s (content_of bs x) (branch_of bs (out-Piece x).item)
@@ -103,11 +91,9 @@ module _ {X : Type 0} (shows : X → Trait → Spec → Shown) (s : Sample X) wh
         ++ fault_list (stored_end_fault x))))
         ≡ node_faults_in shows s (node_of bs x)
     piece_parts whole =
-        let y = out-Piece x in
-        let d = detail_of x in
-        by_form bs y.place d.from d.to d.spec_end d.spec Parts (λ cs. refl) (λ name e. refl)
-        (λ t name e. refl) (λ range name e. refl) (λ fault. refl) d.form (fits_text bs x whole).held
-        ∙ sym (ap (node_faults_in shows s) (node_of_out bs x))
+        let own = entered_faults bs x whole outermost_spot in
+        let last = left_faults bs x whole outermost_spot in
+        grind (arith, node_of_out bs x, fits_text bs x whole, own, last)
 
   -- an item format is checked with each item that there may be
   pub item_told : (bs : List ℕ) (o : Option Content) (group : Option (Vec Piece)) (v : Vec Piece)
@@ -116,27 +102,6 @@ module _ {X : Type 0} (shows : X → Trait → Spec → Shown) (s : Sample X) wh
       → Collects (forest_faults_in shows inner (as_forest (nodes_of bs xs))) old new r
       → Collects (item_of shows s o (branch_of bs group)) old new r
   item_told bs o group v xs inner old new r h is same e told = grind arith
-
-  -- ---- pieces in order
-
-  module _ (bs : List ℕ) (xs : List Piece) (i : ℕ) where
-    abbrev Left : ℕ → List Fault
-    Left n = forest_faults_in shows s (left bs xs n)
-
-    -- a piece ends the walk
-    pub piece_ends : (x : Piece) (old new : FaultCollector) (q : Answer) → i < length xs
-        → x ≡ get_or xs i x → Collects (node_faults_in shows s (node_of bs x)) old new (Some q)
-        → Collects (Left i) old new (Some q)
-    piece_ends x old new q l is h = grind (arith, left_next, collects_before)
-
-    -- it goes on after a piece
-    pub piece_goes_on : (x : Piece) (old mid new : FaultCollector) (r : Option Answer) → i < length xs
-        → x ≡ get_or xs i x → Collects (node_faults_in shows s (node_of bs x)) old mid None
-        → Collects (Left (i + 1)) mid new r → Collects (Left i) old new r
-    piece_goes_on x old mid new r l is h k = grind (arith, left_next, collects_after)
-
-    pub pieces_over : (t : FaultCollector) → length xs ≤ i → Collects (Left i) t t None
-    pieces_over t l = grind (arith, left_none, collects_nothing)
 
   -- ---- the parts of one piece, one after the other
 
@@ -195,32 +160,30 @@ module _ {X : Type 0} (shows : X → Trait → Spec → Shown) (s : Sample X) wh
 
     module _ (bare : ((out-Piece x).item ≡ None) × ((out-Piece x).join ≡ None)) where
       pub text_right : (detail_of x).form ≡ forms.Text → All ≡ []
-      text_right form = grind (arith, piece_parts bs x whole, by_form)
+      text_right form = grind (arith, piece_parts bs x whole)
 
       module _ (t : Trait) (spec : Spec) (closed : unclosed_fault x ≡ None)
           (shown : (name : List ℕ) → stored_name bs x ≡ Some name
           → all_shown shows t spec (candidates_under s name) ≡ true) where
-        name_by : (o : Option (List ℕ)) → stored_name bs x ≡ o → IsSome o
-            → (detail_of x).form ≡ forms.Plain → t ≡ Display → spec ≡ plain_spec → All ≡ []
-        name_by None is h form display plain = absurd (cc)
-        name_by (Some name) is h form display plain =
-            let held = name_held bs x ((out-Piece x).place + 1) name refl (sym is) form in
-            grind (arith, piece_parts bs x whole, held, shown name is, found_right shows t spec)
-
-        value_by : (o : Option (List ℕ)) → stored_name bs x ≡ o → IsSome o
-            → (detail_of x).form ≡ forms.Value t → spec ≡ (detail_of x).spec → All ≡ []
-        value_by None is h form own = absurd (cc)
-        value_by (Some name) is h form own =
-            let held = value_held bs x ((out-Piece x).place + 1) name refl (sym is) t form in
-            grind (arith, piece_parts bs x whole, held, shown name is, found_right shows t spec)
+        shown_held : (o : Option (List ℕ)) → stored_name bs x ≡ o → IsSome o
+            → ((name : List ℕ) → stored_name bs x ≡ Some name → content_of bs x ≡ Some
+            (argument_content ((out-Piece x).place + 1) name spec (target_value t)
+            (detail_of x).spec_end))
+            → All ≡ []
+        shown_held None is h held = absurd (cc)
+        shown_held (Some name) is h held =
+            let holds = held name is in
+            grind (arith, piece_parts bs x whole, holds, shown name is, found_right shows t spec)
 
         pub name_right : IsSome (stored_name bs x) → (detail_of x).form ≡ forms.Plain → t ≡ Display
             → spec ≡ plain_spec → All ≡ []
-        name_right h = name_by (stored_name bs x) refl h
+        name_right h form display plain = shown_held _ refl h (λ name is.
+            rw (display, plain) (name_held bs x _ name refl (sym is) form))
 
         pub value_right : IsSome (stored_name bs x) → (detail_of x).form ≡ forms.Value t
             → spec ≡ (detail_of x).spec → All ≡ []
-        value_right h = value_by (stored_name bs x) refl h
+        value_right h form own = shown_held _ refl h (λ name is.
+            rw own (value_held bs x _ name refl (sym is) t form))
 
 -- ---- how deep groups are
 

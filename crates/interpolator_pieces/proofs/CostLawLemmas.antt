@@ -22,14 +22,14 @@ use Rattle.interpolator_syntax.specs.declared.piece_kind.PieceKind.{PieceKind}
 use Rattle.interpolator_syntax.specs.declared.range.Range.{Range}
 use Rattle.interpolator_eval.specs.Slots.{Slots, SlotsList, no_slots, slots_and}
 use Rattle.interpolator_eval.specs.Slots.{values_of, items, slot_at, slots_listed}
-use Rattle.interpolator_eval.specs.Meaning.AskedNames.{asked_names, context_names, content_names}
+use Rattle.interpolator_eval.specs.Meaning.AskedNames.{asked_names, content_names}
 use Rattle.interpolator_eval.specs.Meaning.Choices.{chosen_items}
 use Rattle.interpolator_eval.specs.Meaning.Environments.{Environment, slots_under, bind}
 use Rattle.interpolator_eval.specs.Meaning.Limits.{SlotWithin, ValuesWithin, SlotsWithin, ItemsWithin}
 use Rattle.interpolator_eval.specs.Meaning.Limits.{FoundWithin, IsWithin, most_chosen}
 use Rattle.interpolator_eval.specs.Meaning.Meanings.{Meaning, chain, value_means, items_after}
 use Rattle.interpolator_eval.specs.Meaning.Meanings.{items_mean, under_name, listed_means, means}
-use Rattle.interpolator_eval.specs.Meaning.Meanings.{padded_list, and_closed, target_means}
+use Rattle.interpolator_eval.specs.Meaning.Meanings.{padded_list, target_means}
 use Rattle.interpolator_eval.specs.Meaning.Meanings.{content_means, node_means, join_branch_means}
 use Rattle.interpolator_eval.proofs.MeaningLemmas.EqualLemmas.{bound_same}
 use Rattle.interpolator_pieces.specs.NodeCosts.{piece_cost, then_cost}
@@ -162,10 +162,6 @@ module _ {X : Type 0} (shows : X → Trait → Spec → Shown) (limits : Limits)
   Inner true e = Found (slots_under e [])
   Inner false e = ⊤
 
-  own_within : (in_item : Bool) (e : Environment X) (name : List ℕ) → Inner in_item e
-      → Within e (context_names in_item name) → Found (slots_under e name)
-  own_within in_item e name i h = grind arith
-
   -- ---- one piece
 
   slot_at_most : (t : Trait) (spec : Spec) (q : ℕ) (o : Option X)
@@ -189,13 +185,9 @@ module _ {X : Type 0} (shows : X → Trait → Spec → Shown) (limits : Limits)
         listed_at_most Slotted join joins joined_by item each one join_costs i limits.items range
         spec q (items found) (items_within found h)
 
-  closed_at_most : (kind : PieceKind) (q : ℕ) (m : Meaning) (w : Work) (c : Cost) → AtMost m w c
-      → AtMost (and_closed kind q m) w c
-  closed_at_most kind q m w c a = grind (arith, length-append)
-
   length-placed : (p : ℕ) (cs : List ℕ) → length (placed_from p cs) ≡ length cs
   length-placed p [] = refl
-  length-placed p (c ∷ cs) = omega (arith, length-placed (p + len_utf8 c) cs)
+  length-placed p (c ∷ cs) = grind (arith, length-placed (p + len_utf8 c) cs)
 
   content_at_most : (e : Environment X) (kind : PieceKind) (held : Content) (in_item : Bool)
       (join : Meaning) (joins : Work) (joined_by one : Cost) (item : ℕ → Slots X → Meaning)
@@ -204,14 +196,16 @@ module _ {X : Type 0} (shows : X → Trait → Spec → Shown) (limits : Limits)
       → ((q : ℕ) (x : Slots X) → Slotted x → AtMost (item q x) (each q x) one)
       → AtMost (content_means shows e kind held join item)
       (content_work shows e held join joins item each) (content_cost limits held one joined_by)
-  content_at_most e kind (text_content from cs) in_item join joins joined_by one item each b h j i =
-      omega (arith, length-placed from cs)
   content_at_most e kind (argument_content start name spec what q) in_item join joins joined_by one item each
       b h j i =
-      closed_at_most kind q _ _ _
-      (found_at_most join joins joined_by one j what start name spec q (item q) (each q) (i q)
-      (slots_under e name) (own_within in_item e name b h))
-  content_at_most e kind (fault_content f) in_item join joins joined_by one item each b h j i = omega arith
+      grind (
+        arith,
+        length-append,
+        found_at_most join joins joined_by one j what start name spec q (item q) (each q) (i q)
+            (slots_under e name) (grind arith),
+      )
+  content_at_most e kind held in_item join joins joined_by one item each b h j i =
+      grind (arith, length-placed)
 
   -- ---- with its groups
 
@@ -221,14 +215,10 @@ module _ {X : Type 0} (shows : X → Trait → Spec → Shown) (limits : Limits)
         → AtMost (node_means shows e x) (node_work shows e x) (node_cost limits x)
     node_at_most (node place end kind None item join) in_item e b h = omega arith
     node_at_most (node place end kind (Some held) item join) in_item e b h =
-        let own = within_parts e (content_names in_item (Some held))
-        (branch_asks true item ++ branch_asks in_item join) h in
-        let groups = within_parts e (branch_asks true item) (branch_asks in_item join) own.1 in
-        content_at_most e kind held in_item (join_branch_means shows e join)
-        (join_branch_work shows e join) (join_branch_cost limits join)
-        (item_branch_cost limits item) (item_branch_means shows e item)
-        (item_branch_work shows e item) b own.0 (join_at_most join in_item e b groups.1)
-        (λ q x k. item_at_most item e q x k groups.0)
+        let own = within_parts e (content_names in_item (Some held)) _ h in
+        let groups = within_parts e (branch_asks true item) _ own.1 in
+        content_at_most e kind held in_item _ _ _ _ _ _ b own.0
+        (join_at_most join in_item e b groups.1) (λ q x k. item_at_most item e q x k groups.0)
 
     join_at_most : (x : Branch) (in_item : Bool) (e : Environment X) → Inner in_item e
         → Within e (branch_asks in_item x)
@@ -242,10 +232,9 @@ module _ {X : Type 0} (shows : X → Trait → Spec → Shown) (limits : Limits)
         → AtMost (item_branch_means shows e x q found) (item_branch_work shows e x q found)
         (item_branch_cost limits x)
     item_at_most no_branch e q found k h =
-        slot_at_most traits.Display plain_spec q (slot_at traits.Display (values_of found))
-        (values_within found k traits.Display)
+        slot_at_most traits.Display plain_spec q _ (values_within found k traits.Display)
     item_at_most (branch xs) e q found k h =
-        let all = forest_at_most xs true (bind e found) k (within_bound e found (forest_asks true xs) k h) in
+        let all = forest_at_most xs true (bind e found) k (within_bound e found _ k h) in
         omega (arith, all)
 
     forest_at_most : (xs : Forest) (in_item : Bool) (e : Environment X) → Inner in_item e
@@ -253,10 +242,9 @@ module _ {X : Type 0} (shows : X → Trait → Spec → Shown) (limits : Limits)
         → AtMost (forest_means shows e xs) (forest_work shows e xs) (forest_cost limits xs)
     forest_at_most no_nodes in_item e b h = omega arith
     forest_at_most (nodes_and x xs) in_item e b h =
-        let parts = within_parts e (node_asks in_item x) (forest_asks in_item xs) h in
-        joined_at_most (node_means shows e x) (forest_means shows e xs) (node_work shows e x)
-        (forest_work shows e xs) (node_cost limits x) (forest_cost limits xs)
-        (node_at_most x in_item e b parts.0) (forest_at_most xs in_item e b parts.1)
+        let parts = within_parts e (node_asks in_item x) _ h in
+        joined_at_most _ _ _ _ _ _ (node_at_most x in_item e b parts.0)
+        (forest_at_most xs in_item e b parts.1)
 
   -- ---- a text
 
@@ -312,12 +300,9 @@ module _ {X : Type 0} (shows : X → Trait → Spec → Shown) (limits : Limits)
       → (joined_by.buffered ≡ 0 → Unheld join)
       → ((q : ℕ) (x : Slots X) → one.buffered ≡ 0 → Unheld (item q x))
       → Unheld (content_means shows e kind held join item)
-  unheld_held e kind (text_content from cs) join item one joined_by h j i = λ n. refl
-  unheld_held e kind (fault_content f) join item one joined_by h j i = λ n. refl
-  unheld_held e kind (argument_content start name spec (target_value t) q) join item one joined_by h j i =
-      grind (arith, unheld_slot)
   unheld_held e kind (argument_content start name spec (target_list range) q) join item one joined_by h j i =
       grind (arith, no_width, unheld_items)
+  unheld_held e kind held join item one joined_by h j i = grind (arith, unheld_slot)
 
   mutual
     unheld_node : (x : Node) (e : Environment X) → (node_cost limits x).buffered ≡ 0
@@ -335,7 +320,7 @@ module _ {X : Type 0} (shows : X → Trait → Spec → Shown) (limits : Limits)
         → (item_branch_cost limits x).buffered ≡ 0 → (found : Slots X)
         → Unheld (item_branch_means shows e x q found)
     unheld_item no_branch e q h found =
-        unheld_slot traits.Display plain_spec q (slot_at traits.Display (values_of found))
+        unheld_slot traits.Display plain_spec q _
     unheld_item (branch xs) e q h found = unheld_forest xs (bind e found) h
 
     unheld_forest : (xs : Forest) (e : Environment X) → (forest_cost limits xs).buffered ≡ 0
@@ -356,12 +341,6 @@ pub record LeCost (c d : Cost) : Type 0 where
   pub pieces : c.pieces ≤ d.pieces
   pub buffered : c.buffered ≤ d.buffered
 
-same_le : (c : Cost) → LeCost c c
-same_le c = omega arith
-
-then_le : (a b c d : Cost) → LeCost a b → LeCost c d → LeCost (then_cost a c) (then_cost b d)
-then_le a b c d h k = omega (arith, h, k)
-
 repeated_le : (n m a b c d : ℕ) → n ≤ m → a ≤ b → c ≤ d
     → n * a + (n - 1) * c ≤ m * b + (m - 1) * d
 repeated_le n m a b c d h k l = grind arith
@@ -379,29 +358,29 @@ module _ (few many : Limits) (text : few.text ≤ many.text) (more : few.items �
 
   content_le : (h : Content) (a b c d : Cost) → LeCost a b → LeCost c d
       → LeCost (content_cost few h a c) (content_cost many h b d)
-  content_le (text_content from cs) a b c d i j = same_le _
+  content_le (text_content from cs) a b c d i j = omega arith
   content_le (argument_content start name spec (target_value t) q) a b c d i j = value_le t spec
   content_le (argument_content start name spec (target_list range) q) a b c d i j =
       list_le spec.width _ _ a b c d (chosen_grows few.items many.items more range) i j
-  content_le (fault_content f) a b c d i j = same_le _
+  content_le (fault_content f) a b c d i j = omega arith
 
   mutual
     node_le : (x : Node) → LeCost (node_cost few x) (node_cost many x)
-    node_le (node place end kind None item join) = same_le _
+    node_le (node place end kind None item join) = omega arith
     node_le (node place end kind (Some held) item join) =
         content_le held _ _ _ _ (item_le item) (join_le join)
 
     item_le : (x : Branch) → LeCost (item_branch_cost few x) (item_branch_cost many x)
     item_le no_branch = value_le traits.Display plain_spec
-    item_le (branch xs) = let all = forest_le xs in omega (arith, all)
+    item_le (branch xs) = omega (arith, forest_le xs)
 
     join_le : (x : Branch) → LeCost (join_branch_cost few x) (join_branch_cost many x)
-    join_le no_branch = same_le _
+    join_le no_branch = omega arith
     join_le (branch xs) = forest_le xs
 
     forest_le : (xs : Forest) → LeCost (forest_cost few xs) (forest_cost many xs)
-    forest_le no_nodes = same_le _
-    forest_le (nodes_and x xs) = then_le _ _ _ _ (node_le x) (forest_le xs)
+    forest_le no_nodes = omega arith
+    forest_le (nodes_and x xs) = omega (arith, node_le x, forest_le xs)
 
   pub text_le : (a : At) → LeCost (text_cost few a) (text_cost many a)
   text_le a = forest_le (as_forest (nodes a))

@@ -1,55 +1,21 @@
--- How wide and how deep stored pieces are, each when it is entered, and those of a text.
-use Rattle.std.proofs.Common.{◌≡◌, ◌∙◌, refl, sym, ap, arith, rules, ℕ, ◌+◌, ◌<◌, true, nat_cmp}
-use Rattle.std.proofs.Common.{List, Option, Some, None, IsSome, Result, Ok, ◌^◌}
-use Rattle.std.proofs.Math.Nat.{zero-max}
-use Rattle.std.specs.Ordering.{ord_max}
-use Rattle.std.specs.Prelude.{max}
-use Rattle.interpolator_pieces.specs.NodeExtents.{content_extent, form_extent, stored_extent}
-use Rattle.interpolator_pieces.specs.NodeExtents.{branch_depth, inner_depth}
-use Rattle.interpolator_pieces.specs.NodeExtents.{visit_extent, visit_depth}
+-- How wide stored pieces are when they are entered, and the greatest number that a text has.
+use Rattle.std.proofs.Common.{◌≡◌, arith, ℕ, true, List, Result, Ok, max}
+use Rattle.interpolator_pieces.specs.NodeExtents.{stored_extent, visit_extent}
 use Rattle.interpolator_pieces.specs.Visits.{Visit, enter, Walks, greatest, text_visits}
 use Rattle.interpolator_pieces.specs.declared.walk.Level.{Level}
 use Rattle.interpolator_pieces.proofs.VisitLemmas.{gathers_greatest}
 use Rattle.interpolator_syntax.specs.At.{At}
-use Rattle.std.specs.Global.{Vec}
-use Rattle.interpolator_syntax.specs.Nodes.{Content}
-use Rattle.interpolator_pieces.specs.Stored.{detail_of, node_of, branch_of, node_whole}
-use Rattle.interpolator_pieces.specs.declared.piece.Form.{Form}
+use Rattle.interpolator_pieces.specs.Stored.{node_of, node_whole}
 use Rattle.interpolator_pieces.specs.declared.piece.Piece.{Piece}
-use Rattle.interpolator_pieces.specs.declared.piece.Piece.TheViews.{out-Piece}
-use Rattle.interpolator_pieces.proofs.StoredLemmas.{node_of_out, by_form}
+use Rattle.interpolator_pieces.proofs.StoredLemmas.{node_of_out}
 use Rattle.interpolator_pieces.proofs.WholePieceLemmas.{fits_text}
-
--- the greater of two, as the code computes it
-pub greater : (m n : ℕ) → ord_max nat_cmp m n ≡ max m n
-greater m n = search rules
 
 -- ---- one piece
 
 -- the extent that is met when a piece is entered
 pub extent_entered : (level : Level) (bs : List ℕ) (x : Piece) → node_whole (node_of bs x) ≡ true
     → stored_extent x ≡ visit_extent (enter level (node_of bs x))
-extent_entered level bs x whole =
-    let y = out-Piece x in
-    let d = detail_of x in
-    let Asks : Form → Option Content → Type 0 =
-    λ form held. content_extent held ≡ form_extent d.spec form in
-    sym (ap (λ n. visit_extent (enter level n)) (node_of_out bs x)
-    ∙ by_form bs y.place d.from d.to d.spec_end d.spec Asks (λ cs. refl) (λ name e. refl)
-    (λ t name e. refl) (λ range name e. refl) (λ fault. refl) d.form (fits_text bs x whole).held)
-
--- how many groups the pieces of its groups are in
-pub depth_entered : (level : Level) (bs : List ℕ) (x : Piece)
-    → max (inner_depth level.depth (branch_of bs (out-Piece x).item))
-    (inner_depth level.depth (branch_of bs (out-Piece x).join))
-    ≡ visit_depth (enter level (node_of bs x))
-depth_entered level bs x = sym (ap (λ n. visit_depth (enter level n)) (node_of_out bs x))
-
--- if there is a group, its depth fits too
-pub group_fits : (depth : ℕ) (bs : List ℕ) (group : Option (Vec Piece))
-    → depth + branch_depth (branch_of bs group) < 2 ^ 64 → IsSome group → depth + 1 < 2 ^ 64
-group_fits depth bs None h some = absurd (cc)
-group_fits depth bs (Some v) h some = omega (arith, h)
+extent_entered level bs x whole = grind (arith, node_of_out, fits_text)
 
 -- ---- the greatest in a text
 
@@ -61,5 +27,4 @@ pub text_greatest : {V E : Type 0} (step : V → Visit → V → Result (Unit {0
     → Walks step old (text_visits a) new answer
     → (answer ≡ Ok tt) × (content new ≡ greatest asks (text_visits a))
 text_greatest step content asks adds a old new answer none h =
-    let all = gathers_greatest step content asks adds old new (text_visits a) answer h in
-    (all.0, all.1 ∙ ap (λ n. max n (greatest asks (text_visits a))) none ∙ zero-max _)
+    grind (arith, gathers_greatest step content asks adds old new (text_visits a) answer h)

@@ -1,38 +1,35 @@
 -- What is stored of a text that is read: of one piece, of an argument, and of all that was read.
-use Rattle.std.proofs.Common.{◌≡◌, ℕ, suc, ◌+◌, ◌-◌, ◌≤◌, List, [], ◌∷◌, ◌++◌, length, arith, refl, ap}
-use Rattle.std.proofs.Common.{◌∙◌, sym, Option, Some, None, Ok, Err, append_assoc}
-use Rattle.std.proofs.lemmas.List.{append-nil}
-use Rattle.std.specs.Prelude.{option_map}
+use Rattle.std.proofs.Common.{◌≡◌, ℕ, ◌+◌, ◌-◌, ◌≤◌, List, [], ◌∷◌, ◌++◌, length, arith, refl}
+use Rattle.std.proofs.Common.{◌∙◌, sym, Option, Some, None, Ok, Err, append_assoc, append-nil}
+use Rattle.std.proofs.Common.{option_map, chars, IsUtf8}
 use Rattle.std.specs.Global.{Vec}
-use Rattle.std.specs.Str.{chars, IsUtf8}
 use Rattle.interpolator_render.specs.declared.view.Trait.{Trait}
 use Rattle.interpolator_render.specs.declared.view.Trait.TheVariants as traits
-use Rattle.interpolator_syntax.specs.At.{At, at, size, strip, after, all_after, outermost}
-use Rattle.interpolator_syntax.specs.Arguments.{Argument, argument, argument_at}
-use Rattle.interpolator_syntax.specs.Arguments.{named_argument, request_of, kind_of_request, taken_read}
+use Rattle.interpolator_syntax.specs.At.{At, at, size, strip, all_after, outermost}
+use Rattle.interpolator_syntax.specs.Arguments.{Argument, argument_at, named_argument}
+use Rattle.interpolator_syntax.specs.Arguments.{request_of, kind_of_request, taken_read}
 use Rattle.interpolator_syntax.specs.Arguments.{argument_after, plain_argument, list_of}
-use Rattle.interpolator_syntax.specs.Classes.{close_brace, in_class, front_of}
+use Rattle.interpolator_syntax.specs.Classes.{close_brace}
 use Rattle.interpolator_syntax.specs.Faults.{Fault}
-use Rattle.interpolator_syntax.specs.Groups.{Group, group_of, inside}
+use Rattle.interpolator_syntax.specs.Groups.{Group, group_of}
 use Rattle.interpolator_syntax.specs.Pieces.{argument_from, argument_step, takes_all, broken}
-use Rattle.interpolator_syntax.specs.SpecTexts.{Request, of_value, of_list, plain_spec}
+use Rattle.interpolator_syntax.specs.SpecTexts.{of_value, of_list, plain_spec}
 use Rattle.interpolator_syntax.specs.Tokens.{Token, literals, doubled, lone_close}
 use Rattle.interpolator_syntax.specs.Tokens.{argument as argument_token, first_token, past_token}
 use Rattle.interpolator_syntax.specs.declared.argument.ArgumentName.{ArgumentName}
 use Rattle.interpolator_syntax.specs.declared.argument.Request as code_request
 use Rattle.interpolator_syntax.specs.declared.argument.TakenArgument.{TakenArgument}
-use Rattle.interpolator_syntax.specs.declared.class.Class.TheVariants.{WhiteSpace, Name}
 use Rattle.interpolator_syntax.specs.declared.cursor.Cursor.{Cursor}
 use Rattle.interpolator_syntax.proofs.CaseLemmas.{err_ok}
 use Rattle.interpolator_syntax.proofs.CharacterLemmas.{size-chars, chars_of_end}
-use Rattle.interpolator_syntax.proofs.LocalityLemmas.{Takes, stands, takes_then}
-use Rattle.interpolator_syntax.proofs.LocalityLemmas.{takes_shorter, takes_reaches}
+use Rattle.interpolator_syntax.proofs.LocalityLemmas.{Takes, stands, takes_then, takes_shorter}
+use Rattle.interpolator_syntax.proofs.LocalityLemmas.{takes_reaches}
 use Rattle.interpolator_syntax.proofs.LongestLemmas.{at_same}
 use Rattle.interpolator_syntax.proofs.PieceLemmas.{read_alone, strip_after}
 use Rattle.interpolator_syntax.proofs.ReaderLemmas.{argument_takes}
 use Rattle.interpolator_syntax.proofs.SizeLemmas.{GroupIfIn, ListIn, argument_in}
-use Rattle.interpolator_syntax.specs.Nodes.{Node, node, Branch, no_branch, Content, argument_content}
-use Rattle.interpolator_syntax.specs.Nodes.{target_of, nodes, piece_node}
+use Rattle.interpolator_syntax.specs.Nodes.{Node, node, Branch, no_branch, Content}
+use Rattle.interpolator_syntax.specs.Nodes.{argument_content, target_of, nodes, piece_node}
 use Rattle.interpolator_syntax.specs.Nodes.{token_node, group_branch, item_branch, join_branch}
 use Rattle.interpolator_pieces.specs.Reading.{taken_step, ending_kind, ending_rest}
 use Rattle.interpolator_pieces.specs.Stored.{Within, StandFor, Pushed, GroupStands, part, name_part}
@@ -43,10 +40,9 @@ use Rattle.interpolator_pieces.specs.declared.piece.Piece.{Piece}
 use Rattle.interpolator_syntax.specs.declared.piece_kind.PieceKind as told
 use Rattle.interpolator_syntax.specs.declared.piece_kind.PieceKind.TheVariants.{Literal, Doubled}
 use Rattle.interpolator_syntax.specs.declared.piece_kind.PieceKind.TheVariants.{LoneClose, Closed}
-use Rattle.interpolator_eval.proofs.MeaningLemmas.GroupSizeLemmas.{list_size, groups_within}
 use Rattle.interpolator_syntax.proofs.NodeLemmas.{nodes_first, nodes_none}
 use Rattle.interpolator_pieces.proofs.PartLemmas.{part_lies, name_lies}
-use Rattle.interpolator_pieces.proofs.StoredLemmas.{nodes_of_push}
+use Rattle.std.proofs.lemmas.List.{map-append}
 use Rattle.interpolator_pieces.proofs.WithinLemmas.{within_then, after_front, front_within}
 use Rattle.interpolator_pieces.proofs.WithinLemmas.{group_stands, name_within, within_same}
 use Rattle.interpolator_syntax.proofs.TokenTextLemmas.{written_text, takes_token, scan_taken}
@@ -58,15 +54,6 @@ pub all_skipped : (p : ℕ) (bs rest : List ℕ) → IsUtf8 bs → length rest �
     → stands (p + length bs) (chars rest) ≡ all_after (stands p (chars bs))
 all_skipped p bs rest u e = grind (arith, chars_of_end, size-chars)
 
--- a name with nothing beside it in its braces needs no detail
-pub name_bare : (bs : List ℕ) (place end from to : ℕ) → from ≡ place + 1 → end ≡ to + 1
-    → detail_content bs place (bare_detail place end Closed)
-    ≡ stored_content bs place from to to plain_spec forms.Plain
-name_bare bs place end from to begins ends =
-    let first : suc place ≡ from = omega (arith, begins) in
-    let last : end - 1 ≡ to = omega (arith, ends) in
-    rw (first, last) refl
-
 -- what follows an argument, by how it ends
 pub ending_is : (p : ℕ) (a : At) (x : Argument) (q : At) (o : Option At) → argument_at a ≡ Ok (x, q)
     → ending_rest q o ≡ (argument_step p a x q o).rest
@@ -74,36 +61,35 @@ ending_is p a x q o e = grind (arith, at_same, takes_reaches, argument_takes)
 
 -- ---- texts
 
+-- the node of a piece without a detail
+abbrev BareNode : List ℕ → (place end : ℕ) → told.PieceKind → Node
+BareNode bs place end kind =
+    node place end kind (detail_content bs place (bare_detail place end kind)) no_branch no_branch
+
+-- the kind of a text that the scan hands on
+abbrev TextKind : Token → told.PieceKind → Type 0
+TextKind (literals cs) kind = kind ≡ Literal
+TextKind (doubled c) kind = kind ≡ Doubled
+TextKind lone_close kind = kind ≡ LoneClose
+TextKind argument_token kind = ⊥
+
 module _ (bs : List ℕ) (u : IsUtf8 bs) (a : At) (w : Within (outermost (chars bs)) a) where
   written_part :
       (x : Token) (b : At) (to : ℕ) → first_token a ≡ Some (x, b)
       → to ≡ a.place + size (written_text x) → part bs a.place to ≡ Some (written_text x)
   written_part x b to e t =
       let h = takes_token a (x, b) e in
-      let here = within_then _ a _ w (front_within a (written_text x) h.more h.begins) in
-      part_lies bs a.place (written_text x) to u here t
+      part_lies bs a.place (written_text x) to u
+      (within_then _ a _ w (front_within a (written_text x) h.more h.begins)) t
 
-  abbrev TextNode : (end : ℕ) → told.PieceKind → Node
-  TextNode end kind =
-      node a.place end kind (detail_content bs a.place (bare_detail a.place end kind))
-      no_branch no_branch
-
-  pub literals_node : (cs : List ℕ) (b : At) → first_token a ≡ Some (literals cs, b)
-      → TextNode b.place Literal ≡ token_node nodes a.place (literals cs) b
-  literals_node cs b e =
-      rw (written_part (literals cs) b b.place e (takes_token a (literals cs, b) e).size) refl
-
-  pub doubled_node : (c : ℕ) (b : At) → first_token a ≡ Some (doubled c, b)
-      → TextNode b.place Doubled ≡ token_node nodes a.place (doubled c) b
-  doubled_node c b e =
+  text_node : (x : Token) (kind : told.PieceKind) (b : At) → TextKind x kind
+      → first_token a ≡ Some (x, b)
+      → BareNode bs a.place b.place kind ≡ token_node nodes a.place x b
+  text_node (doubled c) kind b k e =
       let size = (takes_token a (doubled c, b) e).size in
-      rw (written_part (doubled c) b (b.place - 1) e (omega (arith, size.0, size.1))) refl
-
-  pub lone_node : (b : At) → first_token a ≡ Some (lone_close, b)
-      → TextNode b.place LoneClose ≡ token_node nodes a.place lone_close b
-  lone_node b e =
-      let one = (takes_token a (lone_close, b) e).size in
-      rw (written_part lone_close b b.place e (omega (arith, one))) refl
+      grind (arith, written_part (doubled c) b (b.place - 1) e, size)
+  text_node argument_token kind b k e = absurd k
+  text_node x kind b k e = grind (arith, written_part x b b.place e, (takes_token a (x, b) e).size)
 
 -- ---- arguments
 
@@ -112,27 +98,9 @@ record NameStands (a : At) (x : Argument) : Type 0 where
   pub within : Within a (stands x.name_place x.name)
   pub after : a.place ≤ x.name_place
 
-module _ (a : At) where
-  abbrev From : At
-  From = after (in_class WhiteSpace) a
-
-  abbrev Named : Request → Argument
-  Named asked = argument (front_of (in_class Name) From.text) From.place asked
-
-  name_stands : (x : Argument) (q : At) → argument_at a ≡ Ok (x, q) → NameStands a x
-  unfolding argument_at
-  name_stands x q e = grind (arith, name_within, err_ok)
-
--- the node of an argument, by what it holds and by its groups
-argument_stands :
-    (place : ℕ) (b : At) (x : Argument) (q : At) (o : Option At) (held : Option Content)
-    (item join : Branch) → held ≡ Some (argument_content b.place x.name x.spec (target_of x.kind) q.place)
-    → item ≡ item_branch nodes x.kind → join ≡ join_branch nodes x.kind
-    → (let s = argument_step b.place b x q o in
-    node place s.rest.place (ending_kind o) held item join
-    ≡ piece_node nodes place s.rest.place s.piece.kind)
-argument_stands place b x q None held item join h i j = rw (h, i, j) refl
-argument_stands place b x q (Some rest) held item join h i j = rw (h, i, j) refl
+name_stands : (a : At) (x : Argument) (q : At) → argument_at a ≡ Ok (x, q) → NameStands a x
+unfolding argument_at
+name_stands a x q e = grind (arith, name_within, err_ok)
 
 -- an argument that was read after a brace at `place`, up to `end`
 module _ (place : ℕ) (b : At) (n : ArgumentName) (x : code_request.Request) (end : Cursor)
@@ -142,28 +110,22 @@ module _ (place : ℕ) (b : At) (n : ArgumentName) (x : code_request.Request) (e
   abbrev taken : Argument
   taken = named_argument n (request_of x)
 
-  begins_after : b.place ≡ suc place
-  begins_after = grind arith
-
   module _ (bs : List ℕ) (u : IsUtf8 bs) (w : Within (outermost (chars bs)) b) where
     taken_name : name_part bs place n.place n.end.place ≡ Some taken.name
     taken_name =
         let name = name_stands b taken (at end) read in
         name_lies bs place n.place taken.name n.end.place u (within_then _ b _ w name.within)
-        name_end (omega (arith, name.after, start))
+        name_end (omega arith)
 
     list_held : kind_of_request x ≡ of_list (list_of x.list)
         → stored_content bs place n.place n.end.place end.place x.spec (forms.List x.list.range)
         ≡ Some (argument_content b.place taken.name taken.spec (target_of taken.kind) end.place)
-    list_held k = grind (arith, taken_name, begins_after)
+    list_held k = grind (arith, taken_name)
 
     group_is : (o : Option Group) (xs : Option (Vec Piece)) → GroupIfIn o b → GroupStands xs o
         → branch_of bs xs ≡ group_branch nodes o
     group_is None xs h g = rw g refl
-    group_is (Some g) xs h k = k bs u (within_then _ b (inside g) w (group_stands b g h))
-
-    groups_in : kind_of_request x ≡ of_list (list_of x.list) → ListIn (list_of x.list) b
-    groups_in k = grind (arith, argument_in)
+    group_is (Some g) xs h k = k bs u (within_then _ b _ w (group_stands b g h))
 
   -- the argument from its brace on
   step_is : argument_from b.place b
@@ -179,15 +141,12 @@ module _ (place : ℕ) (b : At) (n : ArgumentName) (x : code_request.Request) (e
       (ends : rest ≡ ending_rest (at end) (strip close_brace (at end)))
       (is : kind ≡ ending_kind (strip close_brace (at end)))
       (added : new ≡ old ++ (piece ∷ [])) where
-    abbrev Taken : Node
-    Taken =
-        let s = argument_step b.place b taken (at end) (strip close_brace (at end)) in
-        piece_node nodes place s.rest.place s.piece.kind
-
     by_parts : (held : Option Content) (item join : Branch)
         → held ≡ Some (argument_content b.place taken.name taken.spec (target_of taken.kind) end.place)
         → item ≡ item_branch nodes taken.kind → join ≡ join_branch nodes taken.kind
-        → node place rest.place kind held item join ≡ Taken
+        → node place rest.place kind held item join
+        ≡ (let s = argument_step b.place b taken (at end) (strip close_brace (at end)) in
+        piece_node nodes place s.rest.place s.piece.kind)
     by_parts held item join h i j = grind (arith, ending_is)
 
     pub value_pushed :
@@ -196,7 +155,7 @@ module _ (place : ℕ) (b : At) (n : ArgumentName) (x : code_request.Request) (e
         ≡ node place rest.place kind (stored_content bs place n.place n.end.place end.place x.spec
         (forms.Value slot)) no_branch no_branch)
         → Pushed old new (token_node nodes place argument_token b) b
-    value_pushed slot k stored = grind (arith, step_is, stands, by_parts, taken_name, begins_after)
+    value_pushed slot k stored = grind (arith, step_is, stands, by_parts, taken_name)
 
     pub list_pushed :
         (item join : Option (Vec Piece)) → kind_of_request x ≡ of_list (list_of x.list)
@@ -211,7 +170,7 @@ module _ (place : ℕ) (b : At) (n : ArgumentName) (x : code_request.Request) (e
           piece = piece;
           added = added;
           stands = λ bs u w.
-              let groups = groups_in bs u w k in
+              let groups : ListIn (list_of x.list) b = grind (arith, argument_in) in
               stored bs
               ∙ by_parts _ _ _ (list_held bs u w k)
               (rw k (group_is bs u w _ item groups.item i))
@@ -230,40 +189,27 @@ plainly = record {
 pub name_closes : (n : ArgumentName) (rest : At) → Some rest ≡ strip close_brace (at n.end)
     → rest.place ≡ n.end.place + 1
 name_closes n rest closed =
-    omega (arith, (strip_after close_brace n.end.place (at n.end).text rest (sym closed)).1)
+    omega (arith, (strip_after close_brace _ (at n.end).text rest (sym closed)).1)
 
 -- a name that a closing brace follows, after a brace at `place`
 module _ (place : ℕ) (b : At) (n : ArgumentName) (rest : At)
     (named : argument_at b ≡ argument_after b.place (plain_argument n) (at n.end))
-    (closed : Some rest ≡ strip close_brace (at n.end)) where
-  alone_ends : rest ≡ ending_rest (at n.end) (strip close_brace (at n.end))
-  alone_ends = grind arith
+    (closed : Some rest ≡ strip close_brace (at n.end)) (start : b.place ≡ place + 1)
+    (name_end : n.end.place ≡ n.place + size (chars n.name.now)) where
+  pub name_rest : rest ≡ (argument_from b.place b).rest
+  name_rest =
+      rest_is place b n plainly n.end start (read_alone b n rest named (sym closed)) name_end rest
+      (grind arith)
 
-  alone_closed : Closed ≡ ending_kind (strip close_brace (at n.end))
-  alone_closed = grind arith
-
-  module _ (start : b.place ≡ place + 1)
-      (name_end : n.end.place ≡ n.place + size (chars n.name.now)) where
-    pub name_rest : rest ≡ (argument_from b.place b).rest
-    name_rest =
-        rest_is place b n plainly n.end start (read_alone b n rest named (sym closed)) name_end rest
-        alone_ends
-
-    pub name_pushed :
-        (old new : List Piece) (piece : Piece) → new ≡ old ++ (piece ∷ [])
-        → ((bs : List ℕ) → node_of bs piece
-        ≡ node place rest.place Closed (stored_content bs place n.place n.end.place n.end.place
-        plain_spec forms.Plain) no_branch no_branch)
-        → Pushed old new (token_node nodes place argument_token b) b
-    name_pushed old new piece added stored =
-        value_pushed place b n plainly n.end start (read_alone b n rest named (sym closed)) name_end
-        old new piece rest Closed alone_ends alone_closed added traits.Display refl stored
-
--- its groups are no longer than its text
-pub list_within : (b : At) (n : ArgumentName) (x : code_request.Request) (end : At)
-    → argument_at b ≡ Ok (named_argument n (request_of x), end)
-    → kind_of_request x ≡ of_list (list_of x.list) → list_size (list_of x.list) ≤ length b.text
-list_within b n x end read k = grind (arith, groups_within)
+  pub name_pushed :
+      (old new : List Piece) (piece : Piece) → new ≡ old ++ (piece ∷ [])
+      → ((bs : List ℕ) → node_of bs piece
+      ≡ node place rest.place Closed (stored_content bs place n.place n.end.place n.end.place
+      plain_spec forms.Plain) no_branch no_branch)
+      → Pushed old new (token_node nodes place argument_token b) b
+  name_pushed old new piece added stored =
+      value_pushed place b n plainly n.end start (read_alone b n rest named (sym closed)) name_end
+      old new piece rest Closed (grind arith) (grind arith) added traits.Display refl stored
 
 -- the argument from its brace on, if it was read
 pub taken_is : (b : At) (t : TakenArgument) → taken_read (Ok t) ≡ argument_at b
@@ -300,27 +246,25 @@ module _ (text a : At) (stored : List Piece) (reading : Reading text stored a) w
   reads_on b x c rest new e k p r = record {
     taken = takes_then text a rest reading.taken (rw r (scan_taken a (x, b) e));
     so_far = λ bs u w.
-        ap (λ ys. nodes_of bs ys ++ nodes rest) p.added
-        ∙ ap (λ ys. ys ++ nodes rest) (nodes_of_push bs stored p.piece)
-        ∙ append_assoc (nodes_of bs stored) (node_of bs p.piece ∷ []) (nodes rest)
-        ∙ ap (λ n. nodes_of bs stored ++ (n ∷ nodes rest))
-        (p.stands bs u (within_then _ a c (within_then _ text a w (after_front text a
-        reading.taken)) k))
-        ∙ ap (λ r. nodes_of bs stored ++ (token_node nodes a.place x b ∷ nodes r)) r
-        ∙ ap (λ ns. nodes_of bs stored ++ ns) (sym (nodes_first a b x e))
-        ∙ reading.so_far bs u w;
+        let here = within_then _ text a w (after_front text a reading.taken) in
+        let own = p.stands bs u (within_then _ a c here k) in
+        let before = reading.so_far bs u w in
+        let next = nodes_first a b x e in
+        grind (arith, map-append, append_assoc (nodes_of bs stored), next, own, before);
   }
 
   -- a text that the scan hands on is stored as a piece that is written as it is
   pub text_reads :
-      (x : Token) (b : At) (new : List Piece) (piece : Piece) → first_token a ≡ Some (x, b)
-      → b ≡ past_token x b → new ≡ stored ++ (piece ∷ [])
-      → ((bs : List ℕ) → IsUtf8 bs → Within (outermost (chars bs)) a
-      → node_of bs piece ≡ token_node nodes a.place x b)
+      (x : Token) (b : At) (new : List Piece) (piece : Piece) (kind : told.PieceKind)
+      → first_token a ≡ Some (x, b) → TextKind x kind → new ≡ stored ++ (piece ∷ [])
+      → ((bs : List ℕ) → node_of bs piece ≡ BareNode bs a.place b.place kind)
       → Reading text new b
-  text_reads x b new piece e past added stands =
-      reads_on b x a b new e (within_same a)
-      (record { piece = piece; added = added; stands = stands }) past
+  text_reads x b new piece kind e k added is =
+      reads_on b x a b new e (within_same a) (record {
+        piece = piece;
+        added = added;
+        stands = λ bs u w. is bs ∙ text_node bs u a w x kind b k e;
+      }) (grind arith)
 
   -- nothing is left
   pub all_read : first_token a ≡ None → StandFor stored text

@@ -1,10 +1,8 @@
 -- The text that lies at a place of another is what is cut from the other there.
-use Rattle.std.proofs.Common.{◌≡◌, ℕ, ◌+◌, ◌-◌, ◌<◌, Bool, true, false, ◌&&◌, nat_lt, List, []}
-use Rattle.std.proofs.Common.{◌∷◌, ◌++◌, length, take, drop, arith, refl, ap, ◌∙◌, sym, subst, rules}
-use Rattle.std.proofs.Common.{Some, append_assoc}
-use Rattle.std.specs.Str.{chars, IsUtf8, IsCharBoundary, encode_utf8_all}
-use Rattle.std.specs.Cmp.Derive.{both_true}
-use Rattle.std.proofs.lemmas.List.{length-append}
+use Rattle.std.proofs.Common.{◌≡◌, ℕ, ◌+◌, ◌-◌, ◌<◌, true, false, nat_lt, List, [], ◌∷◌}
+use Rattle.std.proofs.Common.{◌++◌, length, take, drop, arith, refl, ◌∙◌, sym, subst, rules}
+use Rattle.std.proofs.Common.{Some, append_assoc, chars, IsUtf8, IsCharBoundary, encode_utf8_all}
+use Rattle.std.proofs.Common.{length-append}
 use Rattle.std.proofs.lemmas.Str.{IsCharBoundary-at_seam, encodes-chars, encodes-append}
 use Rattle.std.proofs.lemmas.Str.{chars-encodes, scalars-chars}
 use Rattle.std.proofs.Math.Utf8.{scalars}
@@ -17,16 +15,10 @@ use Rattle.interpolator_pieces.specs.Stored.{may_cut, part, name_part, Within}
 at_boundary : (bs : List ℕ) (i : ℕ) → IsCharBoundary bs i → may_cut bs i ≡ true
 at_boundary bs i h = search (rules, h.0, h.1)
 
-both_parts : (a b : Bool) → (a && b) ≡ true → (a ≡ true) × (b ≡ true)
-both_parts true b h = (refl, h)
-both_parts false b h = absurd (cc)
-
 scalars_both : (xs ys : List ℕ) → scalars (xs ++ ys) ≡ true
     → (scalars xs ≡ true) × (scalars ys ≡ true)
 scalars_both [] ys h = (refl, h)
-scalars_both (x ∷ xs) ys h =
-    let e = both_parts _ _ h in
-    let r = scalars_both xs ys e.1 in (both_true e.0 r.0, r.1)
+scalars_both (x ∷ xs) ys h = grind (arith, scalars_both xs ys)
 
 cut_out :
     (from to : ℕ) (bs : List ℕ) → nat_lt to from ≡ false → may_cut bs from ≡ true
@@ -42,9 +34,7 @@ part_lies bs p cs to u h t =
     let m = encode_utf8_all h.front in
     let x = encode_utf8_all cs in
     let k = encode_utf8_all h.back in
-    let split : bs ≡ m ++ (x ++ k) =
-    sym (encodes-chars bs u) ∙ ap encode_utf8_all h.split ∙ encodes-append h.front (cs ++ h.back)
-    ∙ ap (λ z. m ++ z) (encodes-append cs h.back) in
+    let split : bs ≡ m ++ (x ++ k) = grind (arith, encodes-chars bs u, h.split, encodes-append) in
     let good = subst (λ z. scalars z ≡ true) h.split (scalars-chars bs u) in
     let after = scalars_both h.front (cs ++ h.back) good in
     let both = scalars_both cs h.back after.1 in
@@ -58,13 +48,10 @@ part_lies bs p cs to u h t =
     rw at_x (IsCharBoundary-at_seam bs (m ++ x) k (split ∙ sym (append_assoc m x k))
     (h.back, (both.1, refl))) in
     let order : nat_lt to p ≡ false = search (rules, t) in
-    cut_out p to bs order (at_boundary bs p first) (at_boundary bs to last)
-    ∙ ap (λ n. Some (chars (take (to - p) (drop n bs)))) at_m
-    ∙ ap (λ z. Some (chars (take (to - p) (drop (length m) z)))) split
-    ∙ ap (λ z. Some (chars (take (to - p) z))) (drop-append_seam m (x ++ k))
-    ∙ ap (λ n. Some (chars (take n (x ++ k)))) same_size
-    ∙ ap (λ z. Some (chars z)) (take-append_seam x k)
-    ∙ ap Some (chars-encodes cs both.0)
+    let cut = cut_out p to bs order (at_boundary bs p first) (at_boundary bs to last) in
+    let front = drop-append_seam m (x ++ k) in
+    let own = take-append_seam x k in
+    grind (arith, cut, chars-encodes cs both.0, front, own)
 
 -- the characters of a name that begins after the byte `place`
 pub name_lies :

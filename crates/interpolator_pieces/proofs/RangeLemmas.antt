@@ -1,36 +1,22 @@
 -- How many items a range can choose at most, and that these are items of the list.
-use Rattle.std.proofs.Common.{arith, ℕ, zero, suc, ◌-◌, ◌≤◌, Bool}
-use Rattle.std.proofs.Common.{ℤ, List, [], ◌∷◌, length, take, drop, Option, None, Some}
+use Rattle.std.proofs.Common.{arith, ℕ, zero, suc, ◌-◌, ◌≤◌}
+use Rattle.std.proofs.Common.{List, [], ◌∷◌, length, take, drop, Option}
 use Rattle.std.specs.Prelude.{⊤}
 use Rattle.interpolator_syntax.specs.declared.range.Range.{Range}
-use Rattle.interpolator_eval.specs.Meaning.Choices.{places_of, chosen_places, chosen_items}
-use Rattle.interpolator_eval.specs.Meaning.Limits.{most_from, most_chosen}
+use Rattle.interpolator_eval.specs.Meaning.Choices.{chosen_places, chosen_items}
+use Rattle.interpolator_eval.specs.Meaning.Limits.{most_chosen}
 use Rattle.interpolator_eval.proofs.MeaningLemmas.ChoiceLemmas.{chosen_stand}
-
--- the range of these bounds
-abbrev of_bounds : Option ℤ → Bool → Option ℤ → Range
-of_bounds lower inclusive upper =
-    record { lower = lower; inclusive = inclusive; upper = upper }
-
-abbrev Fewer : (n most : ℕ) → Range → Type 0
-Fewer n most range =
-    (places_of n range).1 - (places_of n range).0 ≤ most_from most range range.lower
-
-module _ (n most : ℕ) (h : n ≤ most) (inclusive : Bool) where
-  fewer_by : (lower upper : Option ℤ) → Fewer n most (of_bounds lower inclusive upper)
-  fewer_by lower upper = grind arith
 
 fewer : (n most : ℕ) → n ≤ most → (range : Option Range)
     → (chosen_places n range).1 - (chosen_places n range).0 ≤ most_chosen most range
-fewer n most h range = grind (arith, fewer_by)
+fewer n most h range = grind arith
 
 -- a range chooses no more than that
 pub chosen_fewer : {A : Type 0} (most : ℕ) (range : Option Range) (xs : List A)
     → length xs ≤ most → length (chosen_items range xs) ≤ most_chosen most range
 chosen_fewer most range xs h =
-    let s = chosen_stand range xs in
     let few = fewer (length xs) most h range in
-    let (front, back, split, first, last) = s in omega (arith, few, first, last)
+    let (front, back, split, first, last) = chosen_stand range xs in omega (arith, few, first, last)
 
 -- what holds for each item of a list holds for those that are chosen
 abbrev pub Each : {A : Type 0} → (A → Type 0) → List A → Type 0
@@ -38,14 +24,12 @@ Each P [] = ⊤
 Each P (x ∷ xs) = P x × Each P xs
 
 each_take : {A : Type 0} (P : A → Type 0) (n : ℕ) (xs : List A) → Each P xs → Each P (take n xs)
-each_take P zero [] h = tt
-each_take P zero (x ∷ xs) h = tt
+each_take P zero xs h = tt
 each_take P (suc n) [] h = tt
 each_take P (suc n) (x ∷ xs) h = (h.0, each_take P n xs h.1)
 
 each_drop : {A : Type 0} (P : A → Type 0) (n : ℕ) (xs : List A) → Each P xs → Each P (drop n xs)
-each_drop P zero [] h = tt
-each_drop P zero (x ∷ xs) h = h
+each_drop P zero xs h = h
 each_drop P (suc n) [] h = tt
 each_drop P (suc n) (x ∷ xs) h = each_drop P n xs h.1
 
@@ -57,14 +41,6 @@ each_chosen P range xs h =
 
 -- ---- more items
 
-module _ (few many : ℕ) (h : few ≤ many) (inclusive : Bool) where
-  grows_by : (lower upper : Option ℤ)
-      → most_from few (of_bounds lower inclusive upper) lower
-      ≤ most_from many (of_bounds lower inclusive upper) lower
-  grows_by lower upper = grind arith
-
 pub chosen_grows : (few many : ℕ) → few ≤ many → (range : Option Range)
     → most_chosen few range ≤ most_chosen many range
-chosen_grows few many h None = h
-chosen_grows few many h (Some range) =
-    grows_by few many h range.inclusive range.lower range.upper
+chosen_grows few many h range = grind arith

@@ -1,48 +1,42 @@
 -- What writing stored pieces needs to know of them: where their text is cut from, what they hold,
--- and the outcome of pieces, from that of the first and that of the rest.
-use Rattle.std.proofs.Common.{◌≡◌, ◌≢◌, refl, add-one, arith, ℕ, suc, ◌+◌, ◌-◌, ◌<◌, ◌≤◌}
-use Rattle.std.proofs.Common.{true, false, nat_lt, List, [], ◌∷◌, length, take}
-use Rattle.std.proofs.Common.{drop, get_or, Option, None, Some, IsSome, option_map}
+-- and the outcome of an argument from that of its value.
+use Rattle.std.proofs.Common.{◌≡◌, refl, arith, ℕ, ◌+◌, ◌-◌, ◌<◌, ◌≤◌, true, nat_lt}
+use Rattle.std.proofs.Common.{List, [], ◌∷◌, length, take, drop, get_or, Option, None, Some, IsSome}
+use Rattle.std.proofs.Common.{option_map, chars, IsUtf8, IsCharBoundary}
+use Rattle.std.proofs.lemmas.Bool.Decides.{nat_tests}
 use Rattle.std.proofs.lemmas.List.{drop-map}
-use Rattle.std.specs.Str.{chars, IsUtf8, IsCharBoundary}
+use Rattle.std.specs.Bool.{MatchBool, ◌==◌}
 use Rattle.interpolator_render.specs.declared.view.Trait.{Trait}
 use Rattle.interpolator_render.specs.declared.view.Trait.TheVariants as traits
 use Rattle.interpolator_render.specs.declared.view.Spec.{Spec}
 use Rattle.interpolator_render.specs.Views.{Shown}
 use Rattle.interpolator_render.specs.Written.{Written}
-use Rattle.interpolator_syntax.specs.At.{At, outermost, placed_from}
-use Rattle.interpolator_syntax.specs.Faults.{Fault, Answer, fault, argument_fault_of}
+use Rattle.interpolator_syntax.specs.At.{At, outermost}
+use Rattle.interpolator_syntax.specs.Faults.{Answer, fault, argument_fault_of}
 use Rattle.interpolator_syntax.specs.SpecTexts.{plain_spec}
 use Rattle.interpolator_syntax.specs.declared.argument_fault.ArgumentFault.{ArgumentFault}
 use Rattle.interpolator_syntax.specs.declared.range.Range.{Range}
-use Rattle.interpolator_eval.specs.Meaning.Environments.{Environment, slots_under}
-use Rattle.interpolator_eval.specs.Meaning.Meanings.{Meaning, text_alone, under_name, means}
-use Rattle.interpolator_eval.specs.Meaning.Meanings.{and_closed, target_means, content_means}
+use Rattle.interpolator_eval.specs.Meaning.Environments.{Environment}
+use Rattle.interpolator_eval.specs.Meaning.Meanings.{Meaning, and_closed, forest_means}
 use Rattle.interpolator_eval.specs.Meaning.Outcomes.{Outcome}
 use Rattle.interpolator_eval.specs.Meaning.Sinks.{Writes}
-use Rattle.interpolator_eval.specs.Meaning.Work.{forest_work, node_work, text_work}
-use Rattle.interpolator_syntax.specs.Nodes.{Content, text_content, argument_content, fault_content, Target}
-use Rattle.interpolator_syntax.specs.Nodes.{target_value, target_list, as_forest, nodes}
-use Rattle.interpolator_eval.specs.Meaning.Meanings.{forest_means}
-use Rattle.interpolator_eval.specs.Meaning.Sources.{FirstAsks, asks_list, first_holds, holds_list}
-use Rattle.interpolator_eval.specs.Meaning.Sources.{unlisted_means}
-use Rattle.interpolator_pieces.specs.Stored.{name_part, part, detail_of, content_of, node_of, nodes_of}
-use Rattle.interpolator_pieces.specs.Stored.{StandFor, forest_whole, node_whole}
+use Rattle.interpolator_syntax.specs.Nodes.{Content, text_content, argument_content, fault_content}
+use Rattle.interpolator_syntax.specs.Nodes.{no_nodes, Target, target_value, target_list, as_forest}
+use Rattle.interpolator_syntax.specs.Nodes.{nodes}
+use Rattle.interpolator_eval.specs.Meaning.Sources.{FirstAsks, asks_list, first_holds}
+use Rattle.interpolator_pieces.specs.Stored.{name_part, part, detail_of, content_of, node_of}
+use Rattle.interpolator_pieces.specs.Stored.{nodes_of, StandFor, forest_whole, node_whole}
 use Rattle.interpolator_pieces.specs.StoredLists.{begins_list, is_list_form, stored_list}
 use Rattle.interpolator_pieces.specs.StoredLists.{stored_rest}
-use Rattle.interpolator_pieces.specs.declared.piece.Form.{Form}
-use Rattle.interpolator_pieces.specs.StoredMeanings.{stored_part, stored_name, unclosed_fault}
-use Rattle.interpolator_pieces.specs.StoredMeanings.{unclosed_fault_of, stored_pieces_mean}
-use Rattle.interpolator_pieces.specs.StoredMeanings.{stored_piece_means, stored_join_means}
-use Rattle.interpolator_pieces.specs.StoredMeanings.{stored_item_means}
+use Rattle.interpolator_pieces.specs.StoredMeanings.{stored_part, stored_name, unclosed_fault_of}
+use Rattle.interpolator_pieces.specs.StoredMeanings.{stored_pieces_mean}
 use Rattle.interpolator_eval.specs.declared.evaluate.sink.Sink.{Sink}
 use Rattle.interpolator_pieces.specs.declared.piece.Form.TheVariants as forms
 use Rattle.interpolator_pieces.specs.declared.piece.Piece.{Piece}
 use Rattle.interpolator_pieces.specs.declared.piece.Piece.TheViews.{out-Piece}
 use Rattle.interpolator_syntax.specs.declared.piece_kind.PieceKind.{PieceKind}
-use Rattle.interpolator_eval.proofs.MeaningLemmas.SinkLemmas.{and_then, fault_first, nothing_done, ended}
-use Rattle.interpolator_eval.proofs.MeaningLemmas.SinkLemmas.{same_end}
-use Rattle.interpolator_pieces.proofs.StoredLemmas.{node_of_out, by_form}
+use Rattle.interpolator_eval.proofs.MeaningLemmas.SinkLemmas.{and_then, fault_first, ended}
+use Rattle.interpolator_pieces.proofs.StoredLemmas.{node_of_out}
 use Rattle.interpolator_pieces.proofs.WholeLemmas.{nodes_whole}
 use Rattle.interpolator_pieces.proofs.WholePieceLemmas.{both, fits_text, pieces_whole}
 use Rattle.interpolator_pieces.proofs.WithinLemmas.{within_same}
@@ -73,27 +67,24 @@ name_within bs place from to h = grind (arith, nat_lt, part_within)
 
 -- ---- what a stored piece holds that fits its text
 
-some_of : {A B : Type 0} (f : A → B) (o : Option A) → IsSome (option_map f o) → IsSome o
-some_of f o h = grind arith
-
 module _ (bs : List ℕ) (x : Piece) where
   -- a text that is written
   pub text_fits : (detail_of x).form ≡ forms.Text → IsSome (content_of bs x)
       → IsSome (stored_part bs x)
-  text_fits form h = grind (arith, some_of)
+  text_fits form h = grind arith
 
   -- a name, of each kind of argument
   pub name_fits : (detail_of x).form ≡ forms.Plain → IsSome (content_of bs x)
       → IsSome (stored_name bs x)
-  name_fits form h = grind (arith, some_of)
+  name_fits form h = grind arith
 
   pub value_fits : (t : Trait) → (detail_of x).form ≡ forms.Value t → IsSome (content_of bs x)
       → IsSome (stored_name bs x)
-  value_fits t form h = grind (arith, some_of)
+  value_fits t form h = grind arith
 
   pub list_fits : (range : Option Range) → (detail_of x).form ≡ forms.List range
       → IsSome (content_of bs x) → IsSome (stored_name bs x)
-  list_fits range form h = grind (arith, some_of)
+  list_fits range form h = grind arith
 
   pub text_held : (cs : List ℕ) → (detail_of x).form ≡ forms.Text → Some cs ≡ stored_part bs x
       → content_of bs x ≡ Some (text_content (detail_of x).from cs)
@@ -108,33 +99,25 @@ module _ (bs : List ℕ) (x : Piece) where
     abbrev Valued : Spec → Target → Option Content
     Valued spec target = Some (argument_content start name spec target (detail_of x).spec_end)
 
-    begins : suc (out-Piece x).place ≡ start
-    begins = grind (arith, add-one)
-
     pub name_held : (detail_of x).form ≡ forms.Plain
         → content_of bs x ≡ Valued plain_spec (target_value traits.Display)
-    name_held form = grind (arith, begins)
+    name_held form = grind arith
 
     pub value_held : (t : Trait) → (detail_of x).form ≡ forms.Value t
         → content_of bs x ≡ Valued (detail_of x).spec (target_value t)
-    value_held t form = grind (arith, begins)
+    value_held t form = grind arith
 
     pub list_held : (range : Option Range) → (detail_of x).form ≡ forms.List range
         → content_of bs x ≡ Valued (detail_of x).spec (target_list (range))
-    list_held range form = grind (arith, begins)
+    list_held range form = grind arith
 
 -- ---- what asks for a list
-
-listed_form : (f : Form) → is_list_form f ≡ true
-    → (range : Option Range) × (f ≡ forms.List range)
-listed_form (forms.List range) h = (range, refl)
-listed_form _ h = absurd (cc)
 
 module _ (bs : List ℕ) (x : Piece) where
   -- a piece that fits its text asks for a list exactly if its form is a list
   pub asks_form : IsSome (content_of bs x)
       → asks_list (node_of bs x) ≡ is_list_form (detail_of x).form
-  asks_form some = grind (arith, node_of_out, by_form)
+  asks_form some = grind (arith, node_of_out)
 
   -- the list that it asks for, and what follows it
   pub first_list : (xs : List Piece) → is_list_form (detail_of x).form ≡ true → IsSome (content_of bs x)
@@ -142,17 +125,12 @@ module _ (bs : List ℕ) (x : Piece) where
       (as_forest (nodes_of bs (x ∷ xs)))
   first_list xs listed some = grind (arith, list_fits, node_of_out)
 
-  -- it counts as at least one piece
-  pub piece_counts :
-      {X : Type 0} (shows : X → Trait → Spec → Shown) (e : Environment X) → IsSome (content_of bs x)
-      → 1 ≤ (node_work shows e (node_of bs x)).pieces
-  piece_counts shows e some = grind (arith, node_of_out)
-
 -- the first of pieces that fit their text holds something
 pub pieces_hold : (bs : List ℕ) (xs : List Piece) → forest_whole (as_forest (nodes_of bs xs)) ≡ true
-    → xs ≢ [] → first_holds (as_forest (nodes_of bs xs)) ≡ true
-pieces_hold bs [] whole some = absurd (some refl)
-pieces_hold bs (x ∷ xs) whole some = grind (arith, both, node_of_out, fits_text)
+    → MatchBool (length xs == 0) (as_forest (nodes_of bs xs) ≡ no_nodes)
+    (first_holds (as_forest (nodes_of bs xs)) ≡ true)
+pieces_hold bs [] whole = refl
+pieces_hold bs (x ∷ xs) whole = grind (arith, nat_tests, both, node_of_out, fits_text)
 
 -- the first piece, if pieces begin with a list
 pub record FirstPiece (bs : List ℕ) (x : Piece) : Type 0 where
@@ -164,77 +142,19 @@ pub first_piece :
     → forest_whole (as_forest (nodes_of bs xs)) ≡ true → FirstPiece bs x
 first_piece bs xs x listed is whole = grind (arith, both, list_fits, fits_text)
 
--- ---- the outcome of one piece
+-- ---- the outcome of an argument
 
-module _ {W : Type 0} (into : W → Written) (m : Meaning) (s t : Sink W) (end : ℕ) where
+module _ {W : Type 0} (into : W → Written) (m : Meaning) (s t : Sink W) (end : ℕ)
+    (kind : PieceKind) where
   -- after a fault it does not matter whether the argument is closed
-  closed_fault : (kind : PieceKind) (q : Answer) → Writes into m s t (Some q)
+  pub closed_fault : (q : Answer) → Writes into m s t (Some q)
       → Writes into (and_closed kind end m) s t (Some q)
-  closed_fault kind q o = grind (arith, fault_first)
+  closed_fault q o = grind (arith, fault_first)
 
   -- if all was written, a closed argument adds nothing, and an unclosed one its fault
-  closed_done : (kind : PieceKind) → Writes into m s t None
-      → Writes into (and_closed kind end m) s t (option_map fault (unclosed_fault_of kind end))
-  closed_done kind o = grind (arith, and_then, ended)
-
-module _ {X W : Type 0} (shows : X → Trait → Spec → Shown) (into : W → Written)
-    (e : Environment X) (bs : List ℕ) where
-  module _ (x : Piece) (s t : Sink W) where
-    abbrev Means : Meaning
-    Means = stored_piece_means shows e bs x
-
-    means_held : (h : Content) → content_of bs x ≡ Some h
-        → Means ≡ content_means shows e (out-Piece x).kind h (stored_join_means shows e bs x)
-        (stored_item_means shows e bs x)
-    means_held h is = grind (arith, node_of_out)
-
-    -- what it holds asks for no list
-    pub unlisted : (r : Option Answer) (h : Content) → content_of bs x ≡ Some h
-        → holds_list (Some h) ≡ false → Writes into Means s t r
-        → Writes into (unlisted_means shows e (node_of bs x)) s t r
-    unlisted r h is other o = grind (arith, node_of_out)
-
-    -- it asks for a list, and nothing of it is written yet
-    pub list_waits : asks_list (node_of bs x) ≡ true
-        → Writes into (unlisted_means shows e (node_of bs x)) s s None
-    list_waits listed = grind (arith, nothing_done, same_end)
-
-    -- a text that is written
-    pub text_writes : (r : Option Answer) (from : ℕ) (cs : List ℕ)
-        → content_of bs x ≡ Some (text_content from cs)
-        → Writes into (text_alone (placed_from from cs)) s t r → Writes into Means s t r
-    text_writes r from cs is o =
-        record { outcome = rw (means_held (text_content from cs) is) o.outcome; same = o.same }
-
-    -- an argument that could not be read
-    pub fault_writes : (f : Fault) → content_of bs x ≡ Some (fault_content f)
-        → Writes into Means s s (Some (fault f))
-    fault_writes f is =
-        record { outcome = rw (means_held (fault_content f) is) (ended f _); same = same_end s }
-
-    -- an argument
-    module _ (start : ℕ) (name : List ℕ) (spec : Spec) (target : Target)
-        (is : content_of bs x ≡ Some (argument_content start name spec target (detail_of x).spec_end)) where
-      abbrev Value : Meaning
-      Value =
-          under_name name start
-          (target_means shows target spec (detail_of x).spec_end (stored_join_means shows e bs x)
-          (stored_item_means shows e bs x (detail_of x).spec_end))
-          (slots_under e name)
-
-      -- an argument whose value fails
-      pub argument_fault : (q : Answer) → Writes into Value s t (Some q)
-          → Writes into Means s t (Some q)
-      argument_fault q o =
-          let c = closed_fault into Value s t (detail_of x).spec_end (out-Piece x).kind q o in
-          record { outcome = rw (means_held _ is) c.outcome; same = c.same }
-
-      -- an argument whose value was written
-      pub argument_writes : (r : Option Answer) → r ≡ option_map fault (unclosed_fault x)
-          → Writes into Value s t None → Writes into Means s t r
-      argument_writes r told o =
-          let c = closed_done into Value s t (detail_of x).spec_end (out-Piece x).kind o in
-          record { outcome = rw (means_held _ is, told) c.outcome; same = c.same }
+  pub closed_done : (r : Option Answer) → r ≡ option_map fault (unclosed_fault_of kind end)
+      → Writes into m s t None → Writes into (and_closed kind end m) s t r
+  closed_done r told o = grind (arith, and_then, ended)
 
 -- ---- the pieces of a whole text
 
@@ -242,14 +162,6 @@ module _ (bs : List ℕ) (xs : List Piece) (a : At) (same : nodes_of bs xs ≡ n
   -- they fit it
   pub text_whole : forest_whole (as_forest (nodes_of bs xs)) ≡ true
   text_whole = rw same (nodes_whole a)
-
-  -- and what is written for them is what the text means
-  pub text_outcome :
-      {X : Type 0} (shows : X → Trait → Spec → Shown) (e f : Environment X) (old new : Written)
-      (answer : Option Answer) → f ≡ e
-      → Outcome (stored_pieces_mean shows f bs xs) old new answer
-      → Outcome (means shows e a) old new answer
-  text_outcome shows e f old new answer is o = grind arith
 
   module _ (skipped : ℕ) where
     -- those after the first ones fit it
@@ -269,10 +181,3 @@ pub format_stands :
     (bs : List ℕ) (xs : List Piece) → IsUtf8 bs → StandFor xs (outermost (chars bs))
     → nodes_of bs xs ≡ nodes (outermost (chars bs))
 format_stands bs xs utf8 stand = grind (arith, within_same)
-
--- writing them goes through as many pieces as writing the text
-pub text_goes :
-    {X : Type 0} (shows : X → Trait → Spec → Shown) (e f : Environment X) (bs : List ℕ)
-    (xs : List Piece) (a : At) → nodes_of bs xs ≡ nodes a → f ≡ e
-    → (forest_work shows f (as_forest (nodes_of bs xs))).pieces ≡ (text_work shows e a).pieces
-text_goes shows e f bs xs a same is = grind arith

@@ -1,45 +1,18 @@
 -- The node of a stored piece, one layer at a time.
-use Rattle.std.proofs.Common.{arith, ◌≡◌, refl, ap, ◌∙◌, ℕ, suc, List, [], ◌∷◌, ◌++◌, Option, Some, None}
-use Rattle.std.proofs.Common.{Bool, true, false, nat_lt, IsSome, option_map, sym, ◌+◌, ◌<◌, ◌≤◌}
+use Rattle.std.proofs.Common.{arith, ◌≡◌, refl, ℕ, List, Option, Some, None, true, ◌+◌, ◌<◌, ◌≤◌}
 use Rattle.std.proofs.Common.{length, drop, get_or}
 use Rattle.std.proofs.lemmas.List.{drop_more, drop_all}
-use Rattle.interpolator_syntax.specs.Nodes.{Forest, no_nodes, nodes_and, as_forest}
-use Rattle.std.specs.Prelude.{if◌then◌else◌}
+use Rattle.interpolator_syntax.specs.Nodes.{Forest, no_nodes, nodes_and, as_forest, Node, node}
 use Rattle.std.specs.Global.{Vec, Box}
-use Rattle.interpolator_render.specs.declared.view.Trait.{Trait}
-use Rattle.interpolator_render.specs.declared.view.Trait.TheVariants as traits
-use Rattle.interpolator_render.specs.declared.view.Spec.{Spec}
-use Rattle.interpolator_syntax.specs.Faults.{argument_fault_of}
-use Rattle.interpolator_syntax.specs.Nodes.{Node, node, Content, text_content, argument_content, fault_content}
-use Rattle.interpolator_syntax.specs.Nodes.{target_value, target_list}
-use Rattle.interpolator_syntax.specs.SpecTexts.{plain_spec}
-use Rattle.interpolator_syntax.specs.declared.argument_fault.ArgumentFault.{ArgumentFault}
 use Rattle.interpolator_syntax.specs.declared.piece_kind.PieceKind.{PieceKind}
-use Rattle.interpolator_syntax.specs.declared.piece_kind.PieceKind.TheVariants.{Closed}
-use Rattle.interpolator_syntax.specs.declared.range.Range.{Range}
 use Rattle.interpolator_pieces.specs.Stored.{node_step, node_of, nodes_of, branch_of, content_of}
-use Rattle.interpolator_pieces.specs.Stored.{stored_content, part, bare_detail, detail_content}
-use Rattle.interpolator_pieces.specs.Stored.{bare_form, bare_from, detail_of, detail_or_bare}
+use Rattle.interpolator_pieces.specs.Stored.{bare_detail, detail_content, detail_of, detail_or_bare}
 use Rattle.interpolator_pieces.specs.StoredLists.{is_list_form}
 use Rattle.interpolator_pieces.specs.declared.piece.Detail.{Detail}
-use Rattle.interpolator_pieces.specs.declared.piece.Form.{Form}
-use Rattle.interpolator_pieces.specs.declared.piece.Form.TheVariants as forms
 use Rattle.interpolator_pieces.specs.declared.piece.Piece.{Piece}
 use Rattle.interpolator_pieces.specs.declared.piece.Piece.TheOpen.{Piece-F}
 use Rattle.interpolator_pieces.specs.declared.piece.Piece.TheViews.{out-Piece, roll-Piece}
-use Rattle.interpolator_pieces.specs.declared.piece.Piece.TheFolds.{map-Piece, fold-roll-Piece}
-use Rattle.interpolator_pieces.specs.declared.piece.Piece.TheFolds.{fold_out-Piece}
-
-at_groups :
-    (bs : List ℕ) (x : Piece-F Piece) (item join : Option (Vec Piece))
-    → node_step bs (map-Piece Piece Node (node_of bs) (record x { item = item; join = join }))
-    ≡ node x.place x.end x.kind
-    (detail_content bs x.place (detail_or_bare x.place x.end x.kind x.detail))
-    (branch_of bs item) (branch_of bs join)
-at_groups bs x None None = refl
-at_groups bs x None (Some w) = refl
-at_groups bs x (Some v) None = refl
-at_groups bs x (Some v) (Some w) = refl
+use Rattle.interpolator_pieces.specs.declared.piece.Piece.TheFolds.{fold-roll-Piece, fold_out-Piece}
 
 -- the node of a piece that was made of its parts
 pub node_of_roll :
@@ -48,8 +21,7 @@ pub node_of_roll :
     (detail_content bs x.place (detail_or_bare x.place x.end x.kind x.detail))
     (branch_of bs x.item) (branch_of bs x.join)
 unfolding node_of
-node_of_roll bs x =
-    fold-roll-Piece Node (node_step bs) x ∙ at_groups bs x x.item x.join
+node_of_roll bs x = grind (arith, fold-roll-Piece Node (node_step bs) x)
 
 -- the node of a piece, by its parts
 pub node_of_out :
@@ -57,9 +29,7 @@ pub node_of_out :
     ≡ node (out-Piece x).place (out-Piece x).end (out-Piece x).kind (content_of bs x)
     (branch_of bs (out-Piece x).item) (branch_of bs (out-Piece x).join)
 unfolding node_of
-node_of_out bs x =
-    let y = out-Piece x in
-    fold_out-Piece Node (node_step bs) x ∙ at_groups bs y y.item y.join
+node_of_out bs x = grind (arith, fold_out-Piece Node (node_step bs) x)
 
 -- the detail of a piece that stores one, and of one that does not
 module _ (x : Piece) where
@@ -76,11 +46,6 @@ module _ (x : Piece) where
 pub no_bare_list : (x : Piece) → is_list_form (detail_of x).form ≡ true
     → (out-Piece x).detail ≡ None → ⊥
 no_bare_list x listed is = grind (arith, detail_bare)
-
--- without one, what is no argument is text from its place on
-pub bare_text : (place : ℕ) (kind : PieceKind) → ¬ (kind ≡ Closed)
-    → (bare_form kind ≡ forms.Text) × (bare_from place kind ≡ place)
-bare_text place kind other = grind arith
 
 -- the node of a piece that was made without a detail, and of one that was made with this one
 module _ (bs : List ℕ) (place end : ℕ) (kind : PieceKind) (item join : Option (Vec Piece)) where
@@ -106,13 +71,6 @@ module _ (bs : List ℕ) (place end : ℕ) (kind : PieceKind) (item join : Optio
   unfolding detail_or_bare
   made_detailed d = node_of_roll bs _
 
--- one more piece is one more node
-pub nodes_of_push :
-    (bs : List ℕ) (xs : List Piece) (x : Piece)
-    → nodes_of bs (xs ++ (x ∷ [])) ≡ nodes_of bs xs ++ (node_of bs x ∷ [])
-nodes_of_push bs [] x = refl
-nodes_of_push bs (y ∷ xs) x = ap (λ ys. node_of bs y ∷ ys) (nodes_of_push bs xs x)
-
 -- the nodes of the pieces that are left: that of the first and those of the others, or none
 module _ (bs : List ℕ) (xs : List Piece) where
   abbrev pub left : ℕ → Forest
@@ -121,43 +79,7 @@ module _ (bs : List ℕ) (xs : List Piece) where
   pub left_next : (i : ℕ) (x : Piece) → i < length xs → x ≡ get_or xs i x
       → left i ≡ nodes_and (node_of bs x) (left (i + 1))
   left_next i x l is =
-      ap (λ ys. as_forest (nodes_of bs ys)) (drop_more xs i x l)
-      ∙ ap (λ y. nodes_and (node_of bs y) (left (i + 1))) (sym is)
+      grind (arith, drop_more xs i x l)
 
   pub left_none : (i : ℕ) → length xs ≤ i → left i ≡ no_nodes
-  left_none i l = ap (λ ys. as_forest (nodes_of bs ys)) (drop_all i xs l)
-
--- what a stored piece that fits its text holds, by its form
-module _ (bs : List ℕ) (place from to end : ℕ) (spec : Spec) (P : Form → Option Content → Type 0)
-    (of_text : (cs : List ℕ) → P forms.Text (Some (text_content from cs)))
-    (of_name : (name : List ℕ) → part bs from to ≡ Some name → P forms.Plain
-    (Some (argument_content (suc place) name plain_spec (target_value traits.Display) end)))
-    (of_value : (t : Trait) (name : List ℕ) → part bs from to ≡ Some name → P (forms.Value t)
-    (Some (argument_content (suc place) name spec (target_value t) end)))
-    (of_list : (range : Option Range) (name : List ℕ) → part bs from to ≡ Some name
-    → P (forms.List range) (Some (argument_content (suc place) name spec (target_list range) end)))
-    (of_fault : (fault : ArgumentFault) → P (forms.Broken fault)
-    (Some (fault_content (argument_fault_of fault)))) where
-  by_text : (o : Option (List ℕ)) → IsSome (option_map (λ cs. text_content from cs) o)
-      → P forms.Text (option_map (λ cs. text_content from cs) o)
-  by_text None h = absurd (cc)
-  by_text (Some cs) h = of_text cs
-
-  by_name : (form : Form) (held : List ℕ → Content)
-      → ((name : List ℕ) → part bs from to ≡ Some name → P form (Some (held name)))
-      → (within : Bool) (o : Option (List ℕ)) → part bs from to ≡ o
-      → IsSome (option_map held (if within then o else None))
-      → P form (option_map held (if within then o else None))
-  by_name form held gives true None e h = absurd (cc)
-  by_name form held gives true (Some name) e h = gives name e
-  by_name form held gives false o e h = absurd (cc)
-
-  pub by_form : (form : Form) → IsSome (stored_content bs place from to end spec form)
-      → P form (stored_content bs place from to end spec form)
-  by_form forms.Text h = by_text (part bs from to) h
-  by_form forms.Plain h = by_name forms.Plain _ of_name (nat_lt place from) (part bs from to) refl h
-  by_form (forms.Value t) h =
-      by_name (forms.Value t) _ (of_value t) (nat_lt place from) (part bs from to) refl h
-  by_form (forms.List range) h =
-      by_name (forms.List range) _ (of_list range) (nat_lt place from) (part bs from to) refl h
-  by_form (forms.Broken fault) h = of_fault fault
+  left_none i l = grind (arith, drop_all)

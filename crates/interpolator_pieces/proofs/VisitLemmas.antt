@@ -1,24 +1,22 @@
 -- What visitors gather on a walk, and what that is for the pieces of a text.
-use Rattle.std.proofs.Common.{◌≡◌, ◌∙◌, refl, ap, arith, ℕ, ◌+◌, List, [], ◌∷◌, ◌++◌}
-use Rattle.std.proofs.Common.{Some, None, Result, Ok, inl, inr, append_assoc, Bool, true}
+use Rattle.std.proofs.Common.{◌≡◌, refl, arith, ℕ, ◌+◌, List, [], ◌∷◌, ◌++◌, Result, Ok}
+use Rattle.std.proofs.Common.{inl, inr, append_assoc, Bool, true, append-nil, flat_map, max}
 use Rattle.std.proofs.lemmas.Grind.{flat_map-append}
-use Rattle.std.proofs.lemmas.List.{append-nil}
 use Rattle.std.proofs.Math.Nat.{max-zero}
-use Rattle.std.specs.Prelude.{flat_map, max}
 use Rattle.interpolator_syntax.specs.At.{At}
-use Rattle.interpolator_syntax.specs.Nodes.{Node, node, Branch, no_branch, branch}
-use Rattle.interpolator_syntax.specs.Nodes.{Forest, no_nodes, nodes_and, as_forest, nodes}
-use Rattle.interpolator_eval.specs.Meaning.AskedNames.{content_names, node_asks, branch_asks}
-use Rattle.interpolator_eval.specs.Meaning.AskedNames.{forest_asks, asked_names}
+use Rattle.interpolator_syntax.specs.Nodes.{Node, node, Branch, no_branch, branch, Forest, no_nodes}
+use Rattle.interpolator_syntax.specs.Nodes.{nodes_and, as_forest, nodes}
+use Rattle.interpolator_eval.specs.Meaning.AskedNames.{node_asks, branch_asks, forest_asks}
+use Rattle.interpolator_eval.specs.Meaning.AskedNames.{asked_names}
 use Rattle.interpolator_pieces.specs.NodeChecks.{node_faults, branch_faults, forest_faults}
-use Rattle.interpolator_pieces.specs.NodeChecks.{text_faults, visit_faults, fault_list, own_fault}
+use Rattle.interpolator_pieces.specs.NodeChecks.{text_faults, visit_faults}
 use Rattle.interpolator_pieces.specs.NodeExtents.{node_depth, branch_depth, forest_depth}
 use Rattle.interpolator_pieces.specs.NodeExtents.{node_extent, branch_extent, forest_extent}
 use Rattle.interpolator_pieces.specs.NodeExtents.{visit_depth, inner_depth, visit_extent}
 use Rattle.interpolator_pieces.specs.NodeNames.{visit_asks}
-use Rattle.interpolator_pieces.specs.Visits.{Visit, leave, Walks, inner, greatest}
-use Rattle.interpolator_pieces.specs.Visits.{node_visits, branch_visits, forest_visits}
-use Rattle.interpolator_pieces.specs.Visits.{text_visits, outermost_spot}
+use Rattle.interpolator_pieces.specs.Visits.{Visit, Walks, inner, greatest, node_visits}
+use Rattle.interpolator_pieces.specs.Visits.{branch_visits, forest_visits, text_visits}
+use Rattle.interpolator_pieces.specs.Visits.{outermost_spot}
 use Rattle.interpolator_pieces.specs.Stored.{node_whole, branch_whole, forest_whole}
 use Rattle.interpolator_pieces.specs.declared.walk.Level.{Level}
 use Rattle.interpolator_pieces.proofs.WholeLemmas.{nodes_whole}
@@ -51,30 +49,14 @@ module _ {V E : Type 0} (step : V → Visit → V → Result (Unit {0}) E → Ty
 
 -- ---- what visits give, of pieces
 
-module _ {B : Type 0} (gives : Visit → List B) where
-  -- what the visits of two groups give, and the one after them
-  around : (xs ys : List Visit) (z : Visit)
-      → flat_map gives (xs ++ (ys ++ (z ∷ [])))
-      ≡ flat_map gives xs ++ (flat_map gives ys ++ gives z)
-  around xs ys z = grind (arith, flat_map-append, append-nil)
-
-module _ (level : Level) where
-  abbrev item_of : Branch → List Visit
-  item_of item = branch_visits (inner true level) item
-
-  abbrev join_of : Branch → List Visit
-  join_of join = branch_visits (inner level.in_item level) join
-
 -- the names of pieces
 mutual
   node_names : (level : Level) (x : Node)
       → flat_map visit_asks (node_visits level x) ≡ node_asks level.in_item x
   node_names level (node place end kind held item join) =
-      ap (λ names. content_names level.in_item held ++ names)
-      (around visit_asks (item_of level item) (join_of level join)
-      (leave level (node place end kind held item join))
-      ∙ rw (branch_names (inner true level) item, branch_names (inner level.in_item level) join)
-      (ap (λ names. branch_asks true item ++ names) (append-nil (branch_asks level.in_item join))))
+      let first = branch_names (inner true level) item in
+      let last = branch_names (inner level.in_item level) join in
+      grind (arith, flat_map-append, append-nil, first, last)
 
   branch_names : (level : Level) (x : Branch)
       → flat_map visit_asks (branch_visits level x) ≡ branch_asks level.in_item x
@@ -85,24 +67,16 @@ mutual
       → flat_map visit_asks (forest_visits level xs) ≡ forest_asks level.in_item xs
   forest_names level no_nodes = refl
   forest_names level (nodes_and x xs) =
-      flat_map-append visit_asks (node_visits level x) (forest_visits level xs)
-      ∙ rw (node_names level x, forest_names level xs) refl
+      grind (arith, flat_map-append, node_names level x, forest_names level xs)
 
 -- their faults
 mutual
   node_told : (level : Level) (x : Node) → node_whole x ≡ true
       → flat_map visit_faults (node_visits level x) ≡ node_faults x
-  node_told level (node place end kind None item join) h = absurd (cc)
-  node_told level (node place end kind (Some held) item join) h =
-      let whole = both (branch_whole item) (branch_whole join) h in
-      ap (λ fs. fault_list (own_fault held) ++ fs)
-      (around visit_faults (item_of level item) (join_of level join)
-      (leave level (node place end kind (Some held) item join))
-      ∙ rw (
-        branch_told (inner true level) item whole.0,
-        branch_told (inner level.in_item level) join whole.1,
-      )
-      refl)
+  node_told level (node place end kind held item join) h =
+      let first = branch_told (inner true level) item in
+      let last = branch_told (inner level.in_item level) join in
+      grind (arith, flat_map-append, append-nil, both, first, last)
 
   branch_told : (level : Level) (x : Branch) → branch_whole x ≡ true
       → flat_map visit_faults (branch_visits level x) ≡ branch_faults x
@@ -113,9 +87,7 @@ mutual
       → flat_map visit_faults (forest_visits level xs) ≡ forest_faults xs
   forest_told level no_nodes h = refl
   forest_told level (nodes_and x xs) h =
-      let whole = both (node_whole x) (forest_whole xs) h in
-      flat_map-append visit_faults (node_visits level x) (forest_visits level xs)
-      ∙ rw (node_told level x whole.0, forest_told level xs whole.1) refl
+      grind (arith, flat_map-append, both, node_told level x, forest_told level xs)
 
 -- the greatest of two runs of visits
 greatest-append : (asks : Visit → ℕ) (xs ys : List Visit)
@@ -123,24 +95,13 @@ greatest-append : (asks : Visit → ℕ) (xs ys : List Visit)
 greatest-append asks [] ys = omega arith
 greatest-append asks (x ∷ xs) ys = omega (arith, greatest-append asks xs ys)
 
--- the greatest of two groups and of what follows them
-greatest_around : (asks : Visit → ℕ) (xs ys : List Visit) (z : Visit)
-    → greatest asks (xs ++ (ys ++ (z ∷ [])))
-    ≡ max (greatest asks xs) (max (greatest asks ys) (asks z))
-greatest_around asks xs ys z = grind (arith, greatest-append)
-
 -- the greatest width or precision of pieces, by the walk
 mutual
   node_wide : (level : Level) (x : Node)
       → greatest visit_extent (node_visits level x) ≡ node_extent x
   node_wide level (node place end kind held item join) =
-      omega (
-        arith,
-        greatest_around visit_extent (item_of level item) (join_of level join)
-            (leave level (node place end kind held item join)),
-        branch_wide (inner true level) item,
-        branch_wide (inner level.in_item level) join,
-      )
+      let a = branch_wide (inner true level) item in
+      let b = branch_wide (inner level.in_item level) join in grind (arith, greatest-append, a, b)
 
   branch_wide : (level : Level) (x : Branch)
       → greatest visit_extent (branch_visits level x) ≡ branch_extent x
@@ -151,23 +112,15 @@ mutual
       → greatest visit_extent (forest_visits level xs) ≡ forest_extent xs
   forest_wide level no_nodes = refl
   forest_wide level (nodes_and x xs) =
-      omega (
-        arith,
-        greatest-append visit_extent (node_visits level x) (forest_visits level xs),
-        node_wide level x,
-        forest_wide level xs,
-      )
+      grind (arith, greatest-append, node_wide level x, forest_wide level xs)
 
 -- how deep pieces are, by where they are
 mutual
   node_deep : (level : Level) (x : Node)
       → max level.depth (greatest visit_depth (node_visits level x)) ≡ level.depth + node_depth x
   node_deep level (node place end kind held item join) =
-      let parts = greatest_around visit_depth (item_of level item) (join_of level join)
-      (leave level (node place end kind held item join)) in
       let a = branch_deep level true item in
-      let b = branch_deep level level.in_item join in
-      omega (arith, parts, a, b)
+      let b = branch_deep level level.in_item join in grind (arith, greatest-append, a, b)
 
   branch_deep : (level : Level) (in_item : Bool) (x : Branch)
       → max level.depth (max (inner_depth level.depth x)
@@ -181,12 +134,7 @@ mutual
       → max level.depth (greatest visit_depth (forest_visits level xs)) ≡ level.depth + forest_depth xs
   forest_deep level no_nodes = omega arith
   forest_deep level (nodes_and x xs) =
-      omega (
-        arith,
-        greatest-append visit_depth (node_visits level x) (forest_visits level xs),
-        node_deep level x,
-        forest_deep level xs,
-      )
+      grind (arith, greatest-append, node_deep level x, forest_deep level xs)
 
 -- ---- the visits of a text
 

@@ -1,5 +1,5 @@
--- The walk over stored pieces: its visits, one piece and one group at a time.
-use Rattle.std.proofs.Common.{◌≡◌, refl, sym, subst, arith, ℕ, ◌+◌, ◌^◌, ◌<◌, ◌≤◌, true, List, []}
+-- Visits, one after another, and how deep stored pieces are.
+use Rattle.std.proofs.Common.{◌≡◌, refl, arith, ℕ, ◌+◌, ◌^◌, ◌<◌, ◌≤◌, List, []}
 use Rattle.std.specs.Prelude.{max}
 use Rattle.std.proofs.Common.{◌∷◌, ◌++◌, length, get_or, inl, inr, Result, Ok, Err, Option, Some}
 use Rattle.std.specs.Global.{Vec}
@@ -7,12 +7,10 @@ use Rattle.std.proofs.lemmas.List.Recursion.{max_bounds}
 use Rattle.interpolator_syntax.specs.Nodes.{as_forest}
 use Rattle.interpolator_pieces.specs.NodeExtents.{node_depth, branch_depth, forest_depth}
 use Rattle.interpolator_pieces.specs.Stored.{node_of, nodes_of, branch_of}
-use Rattle.interpolator_pieces.specs.Visits.{Visit, enter, leave, Walks, inner}
-use Rattle.interpolator_pieces.specs.Visits.{node_visits, branch_visits, forest_visits}
+use Rattle.interpolator_pieces.specs.Visits.{Visit, Walks}
 use Rattle.interpolator_pieces.specs.declared.piece.Piece.{Piece}
 use Rattle.interpolator_pieces.specs.declared.piece.Piece.TheViews.{out-Piece}
-use Rattle.interpolator_pieces.specs.declared.walk.Level.{Level}
-use Rattle.interpolator_pieces.proofs.StoredLemmas.{node_of_out, left, left_next, left_none}
+use Rattle.interpolator_pieces.proofs.StoredLemmas.{node_of_out, left}
 
 -- ---- visits, and others after them
 
@@ -23,7 +21,7 @@ module _ {V E : Type 0} (step : V → Visit → V → Result (Unit {0}) E → Ty
   walks_one old new x answer h = grind arith
 
   -- one visit, and others
-  walks_then : (old mid new : V) (x : Visit) (xs : List Visit) (answer : Result (Unit {0}) E)
+  pub walks_then : (old mid new : V) (x : Visit) (xs : List Visit) (answer : Result (Unit {0}) E)
       → step old x mid (Ok tt) → Walks step mid xs new answer → Walks step old (x ∷ xs) new answer
   walks_then old mid new x xs answer s h = grind arith
 
@@ -49,62 +47,6 @@ module _ {V E : Type 0} (step : V → Visit → V → Result (Unit {0}) E → Ty
       (new : V) (answer : Result (Unit {0}) E) → Walks step here left new answer
       → Walks step there all new answer
 
-  -- ---- one stored piece
-
-  module _ (level : Level) (bs : List ℕ) (x : Piece) where
-    abbrev item_visits : List Visit
-    item_visits = branch_visits (inner true level) (branch_of bs (out-Piece x).item)
-
-    abbrev join_visits : List Visit
-    join_visits = branch_visits (inner level.in_item level) (branch_of bs (out-Piece x).join)
-
-    visits_out : node_visits level (node_of bs x)
-        ≡ enter level (node_of bs x)
-        ∷ (item_visits ++ (join_visits ++ (leave level (node_of bs x) ∷ [])))
-    visits_out = grind (arith, node_of_out)
-
-    module _ (old new : V) where
-      pub stops_before : (e : E) → step old (enter level (node_of bs x)) new (Err e)
-          → Walks step old (node_visits level (node_of bs x)) new (Err e)
-      stops_before e h = grind (arith, visits_out)
-
-      module _ (entered : V) (before : step old (enter level (node_of bs x)) entered (Ok tt)) where
-        pub stops_in_item : (e : E) → Walks step entered item_visits new (Err e)
-            → Walks step old (node_visits level (node_of bs x)) new (Err e)
-        stops_in_item e h = grind (arith, visits_out, walks_then, walks_stop)
-
-        module _ (item : V) (in_item : Walks step entered item_visits item (Ok tt)) where
-          pub stops_in_join : (e : E) → Walks step item join_visits new (Err e)
-              → Walks step old (node_visits level (node_of bs x)) new (Err e)
-          stops_in_join e h = grind (arith, visits_out, walks_then, walks_on, walks_stop)
-
-          pub walks_piece : (join : V) (answer : Result (Unit {0}) E)
-              → Walks step item join_visits join (Ok tt)
-              → step join (leave level (node_of bs x)) new answer
-              → Walks step old (node_visits level (node_of bs x)) new answer
-          walks_piece join answer in_join after =
-              grind (arith, visits_out, walks_then, walks_on, walks_one)
-
-  -- ---- stored pieces in order
-
-  module _ (level : Level) (bs : List ℕ) (xs : List Piece) (i : ℕ) (here there : V) where
-    abbrev visits : ℕ → List Visit
-    visits n = forest_visits level (left bs xs n)
-
-    module _ (so_far : WalksOn here (visits i) there (visits 0)) where
-      pub pieces_stop : (x : Piece) (new : V) (e : E) → i < length xs → x ≡ get_or xs i x
-          → Walks step here (node_visits level (node_of bs x)) new (Err e)
-          → Walks step there (visits 0) new (Err e)
-      pieces_stop x new e l is h = grind (arith, left_next, walks_stop)
-
-      pub pieces_go_on : (x : Piece) (mid : V) → i < length xs → x ≡ get_or xs i x
-          → Walks step here (node_visits level (node_of bs x)) mid (Ok tt)
-          → WalksOn mid (visits (i + 1)) there (visits 0)
-      pieces_go_on x mid l is h = grind (arith, left_next, walks_on)
-
-      pub pieces_over : length xs ≤ i → Walks step there (visits 0) here (Ok tt)
-      pieces_over l = grind (arith, left_none)
-
 -- ---- how deep a stored piece is
 
 pub piece_depth : (bs : List ℕ) (x : Piece) → node_depth (node_of bs x)
@@ -116,9 +58,8 @@ piece_depth bs x = grind (arith, node_of_out)
 pub piece_within : (bs : List ℕ) (xs : List Piece) (i : ℕ) (x : Piece) → i < length xs
     → x ≡ get_or xs i x → node_depth (node_of bs x) ≤ forest_depth (as_forest (nodes_of bs xs))
 piece_within bs xs i x l is =
-    subst (λ y. node_depth (node_of bs y) ≤ forest_depth (as_forest (nodes_of bs xs))) (sym is)
-    (max_bounds (λ ys. forest_depth (as_forest (nodes_of bs ys))) (λ y. node_depth (node_of bs y))
-    refl (λ y ys. refl) xs i x l)
+    rw is (max_bounds (λ ys. forest_depth (as_forest (nodes_of bs ys)))
+    (λ y. node_depth (node_of bs y)) refl (λ y ys. refl) xs i x l)
 
 -- the pieces of a group
 pub group_fits : (depth : ℕ) (bs : List ℕ) (group : Option (Vec Piece)) (v : Vec Piece)

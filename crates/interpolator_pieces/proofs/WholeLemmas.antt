@@ -1,53 +1,34 @@
 -- All that the pieces of a text hold fits it.
 use Rattle.std.proofs.Common.{◌≡◌, ℕ, ◌<◌, true, length, refl, Option, Some, None, arith}
 use Rattle.interpolator_syntax.specs.At.{At}
-use Rattle.interpolator_syntax.specs.Arguments.{Argument}
-use Rattle.interpolator_syntax.specs.Groups.{Group, inside}
+use Rattle.interpolator_syntax.specs.Groups.{Group}
 use Rattle.interpolator_syntax.specs.Pieces.{argument_from}
-use Rattle.interpolator_syntax.specs.SpecTexts.{Kind, of_value, of_list}
 use Rattle.interpolator_syntax.specs.Tokens.{Token, first_token, past_token, argument}
-use Rattle.interpolator_syntax.specs.Nodes.{as_forest, group_branch, argument_node, piece_node}
-use Rattle.interpolator_syntax.specs.Nodes.{token_node, nodes}
+use Rattle.interpolator_syntax.specs.Nodes.{as_forest, group_branch, piece_node, token_node, nodes}
 use Rattle.interpolator_pieces.specs.Stored.{node_whole, branch_whole, forest_whole}
-use Rattle.interpolator_syntax.specs.declared.piece_kind.PieceKind as told
-use Rattle.interpolator_syntax.specs.declared.piece_kind.PieceKind.TheVariants.{Closed, Unclosed}
 use Rattle.interpolator_syntax.proofs.TokenLemmas.{token_shorter, scan_shorter}
 use Rattle.interpolator_syntax.proofs.NodeLemmas.{by_length, argument_kind, nodes_first, nodes_none}
-use Rattle.interpolator_syntax.proofs.SizeLemmas.{GroupIfIn, KindIn}
+use Rattle.interpolator_syntax.proofs.SizeLemmas.{GroupIfIn}
 
 abbrev Whole : At → Type 0
 Whole a = forest_whole (as_forest (nodes a)) ≡ true
 
 module _ (a : At) (shorter : (b : At) → length b.text < length a.text → Whole b) where
-  group_whole : (b : At) (o : Option Group) → length b.text < length a.text → GroupIfIn o b
-      → branch_whole (group_branch nodes o) ≡ true
-  group_whole b None l h = refl
-  group_whole b (Some g) l h = shorter (inside g) (omega (arith, l, h.shorter))
+  module _ (b : At) (l : length b.text < length a.text) where
+    group_whole : (o : Option Group) → GroupIfIn o b → branch_whole (group_branch nodes o) ≡ true
+    group_whole o h = grind (arith, shorter)
 
-  argument_whole : (b : At) (p end : ℕ) (kind : told.PieceKind) (start : ℕ) (x : Argument) (q : ℕ)
-      → length b.text < length a.text → (k : Kind) → x.kind ≡ k → KindIn k b
-      → node_whole (argument_node nodes p end kind start x q) ≡ true
-  argument_whole b p end kind start x q l (of_value t) e h = rw e refl
-  argument_whole b p end kind start x q l (of_list asked) e h =
-      rw (e, group_whole b asked.item l h.item, group_whole b asked.join l h.join) refl
-
-  token_whole : (p : ℕ) (t : Token) (b : At) → length b.text < length a.text
-      → node_whole (token_node nodes p t b) ≡ true
-  token_whole p argument b l =
-      let end = (argument_from b.place b).rest.place in
-      argument_kind (λ k. node_whole (piece_node nodes p end k) ≡ true) b (
-        λ start x q h. (
-          argument_whole b p end Closed start x q l x.kind refl h,
-          argument_whole b p end Unclosed start x q l x.kind refl h,
-        ),
-        λ f. refl,
-      )
-  token_whole p t b l = refl
+    token_whole : (p : ℕ) (t : Token) → node_whole (token_node nodes p t b) ≡ true
+    token_whole p argument =
+        let end = (argument_from b.place b).rest.place in
+        argument_kind (λ k. node_whole (piece_node nodes p end k) ≡ true) b
+        (λ start x q h. grind (arith, group_whole), λ f. refl)
+    token_whole p t = refl
 
   whole_by : (o : Option (Token × At)) → first_token a ≡ o → Whole a
   whole_by None e = rw (nodes_none a e) refl
   whole_by (Some w) e =
-      rw (nodes_first a w.1 w.0 e, token_whole a.place w.0 w.1 (token_shorter a w e))
+      rw (nodes_first a w.1 w.0 e, token_whole w.1 (token_shorter a w e) a.place w.0)
       (shorter (past_token w.0 w.1) (scan_shorter a _ w e refl))
 
 -- all that is stored of the pieces of a text fits it

@@ -29,8 +29,7 @@ pub rest_fits :
     (xs ys : List Node) → forest_whole (as_forest (xs ++ ys)) ≡ true
     → forest_whole (as_forest ys) ≡ true
 rest_fits [] ys h = h
-rest_fits (x ∷ xs) ys h =
-    rest_fits xs ys (both (node_whole x) (forest_whole (as_forest (xs ++ ys))) h).1
+rest_fits (x ∷ xs) ys h = grind (arith, both, rest_fits xs ys)
 
 -- so it is with stored pieces after the first ones
 pub pieces_whole :
@@ -38,8 +37,7 @@ pub pieces_whole :
     → forest_whole (as_forest (nodes_of bs (drop n xs))) ≡ true
 pieces_whole bs xs zero h = h
 pieces_whole bs [] (suc n) h = refl
-pieces_whole bs (x ∷ xs) (suc n) h =
-    pieces_whole bs xs n (both (node_whole (node_of bs x)) (forest_whole (as_forest (nodes_of bs xs))) h).1
+pieces_whole bs (x ∷ xs) (suc n) h = grind (arith, both, pieces_whole bs xs n)
 
 -- and with each stored piece
 pub piece_whole :
@@ -69,20 +67,12 @@ group_most None = 0
 group_most (Some v) = most size-Piece v.items
 
 module _ (x : Piece) where
-  item_by : (o : Option (Vec Piece)) → (out-Piece x).item ≡ o → group_most o < size-Piece x
-  item_by None is = let size = rw is at (size_is-Piece x) in omega (arith, size)
-  item_by (Some v) is = let size = rw is at (size_is-Piece x) in omega (arith, size)
-
-  join_by : (o : Option (Vec Piece)) → (out-Piece x).join ≡ o → group_most o < size-Piece x
-  join_by None is = let size = rw is at (size_is-Piece x) in omega (arith, size)
-  join_by (Some v) is = let size = rw is at (size_is-Piece x) in omega (arith, size)
-
   -- a group is smaller than its piece
   pub item_smaller : group_most (out-Piece x).item < size-Piece x
-  item_smaller = grind (arith, item_by)
+  item_smaller = grind (arith, size_is-Piece)
 
   pub join_smaller : group_most (out-Piece x).join < size-Piece x
-  join_smaller = grind (arith, join_by)
+  join_smaller = grind (arith, size_is-Piece)
 
 -- the pieces of a group are no greater than it
 pub group_smaller : (group : Option (Vec Piece)) (v : Vec Piece) (xs : List Piece)
@@ -97,13 +87,9 @@ pub record InGroup (bs : List ℕ) (x : Piece) (xs : List Piece) : Type 0 where
 module _ (bs : List ℕ) (x : Piece) (v : Vec Piece) (xs : List Piece) (same : xs ≡ v.items)
     (h : node_whole (node_of bs x) ≡ true) where
   pub in_item : (out-Piece x).item ≡ Some v → InGroup bs x xs
-  in_item is = record {
-    whole = group_whole bs (out-Piece x).item v xs (fits_text bs x h).item is same;
-    smaller = rw same (item_by x (Some v) is);
-  }
+  in_item is =
+      grind (arith, fits_text bs x h, item_smaller x, group_smaller (out-Piece x).item v xs is same)
 
   pub in_join : (out-Piece x).join ≡ Some v → InGroup bs x xs
-  in_join is = record {
-    whole = group_whole bs (out-Piece x).join v xs (fits_text bs x h).join is same;
-    smaller = rw same (join_by x (Some v) is);
-  }
+  in_join is =
+      grind (arith, fits_text bs x h, join_smaller x, group_smaller (out-Piece x).join v xs is same)

@@ -1,8 +1,7 @@
 -- Texts that lie in another text, each at its place.
-use Rattle.std.proofs.Common.{◌≡◌, List, [], ◌++◌, ℕ, arith, ap, ◌∙◌, sym, append_assoc}
-use Rattle.std.proofs.lemmas.List.{append-nil}
+use Rattle.std.proofs.Common.{◌≡◌, List, [], ◌++◌, ℕ, arith, sym, append_assoc, append-nil}
 use Rattle.interpolator_syntax.specs.At.{At, after}
-use Rattle.interpolator_syntax.specs.Classes.{front_of, after_of, in_class}
+use Rattle.interpolator_syntax.specs.Classes.{front_of, in_class}
 use Rattle.interpolator_syntax.specs.Groups.{Group, inside}
 use Rattle.interpolator_syntax.specs.declared.class.Class.TheVariants.{WhiteSpace, Name}
 use Rattle.interpolator_syntax.proofs.FrontLemmas.{front_after}
@@ -11,19 +10,12 @@ use Rattle.interpolator_syntax.proofs.LocalityLemmas.{size-append}
 use Rattle.interpolator_syntax.proofs.SizeLemmas.{GroupIn}
 use Rattle.interpolator_pieces.specs.Stored.{Within}
 
-nested : (f g cs k b : List ℕ) → f ++ ((g ++ (cs ++ k)) ++ b) ≡ (f ++ g) ++ (cs ++ (k ++ b))
-nested f g cs k b =
-    ap (λ t. f ++ t) (append_assoc g (cs ++ k) b ∙ ap (λ t. g ++ t) (append_assoc cs k b))
-    ∙ sym (append_assoc f g (cs ++ (k ++ b)))
-
 -- what lies in a part of a text lies in the text
 pub within_then : (a b c : At) → Within a b → Within b c → Within a c
 within_then a b c h k = record {
   front = h.front ++ k.front;
   back = k.back ++ h.back;
-  split =
-      h.split ∙ ap (λ t. h.front ++ (t ++ h.back)) k.split
-      ∙ nested h.front k.front c.text k.back h.back;
+  split = rw (h.split, k.split) (simp append_assoc);
   place = omega (arith, h.place, k.place, size-append h.front k.front);
 }
 
@@ -32,7 +24,7 @@ pub after_front : (a b : At) → Takes a b → Within a b
 after_front a b t = record {
   front = t.front;
   back = [];
-  split = t.split ∙ ap (λ cs. t.front ++ cs) (sym (append-nil b.text));
+  split = rw append-nil t.split;
   place = t.place;
 }
 
@@ -47,8 +39,7 @@ front_within a cs more e =
 
 -- a group
 pub group_stands : (a : At) (g : Group) → GroupIn g a → Within a (inside g)
-group_stands a g h =
-    record { front = h.front; back = h.back; split = h.split; place = h.place }
+group_stands a g h = record { front = h.front; back = h.back; split = h.split; place = h.place }
 
 -- ---- a name
 
@@ -59,6 +50,5 @@ pub name_within :
 name_within a =
     let from = after (in_class WhiteSpace) a in
     let name = front_of (in_class Name) from.text in
-    within_then a from (stands from.place name) (after_front a from (takes_after (in_class WhiteSpace) a))
-    (front_within from name (after_of (in_class Name) from.text)
-    (sym (front_after (in_class Name) from.text)))
+    within_then a from _ (after_front a from (takes_after (in_class WhiteSpace) a))
+    (front_within from name _ (sym (front_after (in_class Name) from.text)))

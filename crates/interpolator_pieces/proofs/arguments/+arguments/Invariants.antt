@@ -1,5 +1,4 @@
-use Rattle.std.proofs.Common.{map, length, ◌+◌, ◌*◌, option_map}
-use Rattle.std.specs.Str.{chars}
+use Rattle.std.proofs.Common.{map, length, ◌+◌, ◌*◌, option_map, chars}
 use Rattle.interpolator_syntax.specs.Arguments.{argument_of, kind_of}
 use Rattle.interpolator_syntax.specs.At.{at}
 use Rattle.interpolator_syntax.specs.Groups.{group_of}

@@ -1,13 +1,13 @@
-use Rattle.std.proofs.Common.{rules, arith, Some, None, ap, ◌∙◌}
+use Rattle.std.proofs.Common.{rules, arith, Some, None}
 use Rattle.std.proofs.lemmas.Result.{err_from_is_err_and}
 use Rattle.interpolator_syntax.specs.Faults.{answer_of}
-use Rattle.interpolator_eval.specs.Meaning.Samples.{sample_of, level_in, bind_each}
-use Rattle.interpolator_pieces.specs.NodeChecks.{stored_own_fault, stored_end_fault}
-use Rattle.interpolator_pieces.proofs.CollectLemmas.{piece_ends, piece_goes_on, pieces_over}
-use Rattle.interpolator_pieces.proofs.CollectLemmas.{collects_nothing}
-use Rattle.interpolator_pieces.proofs.CollectLemmas.{group_deep, item_told, asked_ends, own_ends}
+use Rattle.interpolator_eval.specs.Meaning.Samples.{sample_of}
+use Rattle.interpolator_pieces.proofs.CollectLemmas.{collects_nothing, collects_before}
+use Rattle.interpolator_pieces.proofs.CollectLemmas.{collects_after}
+use Rattle.interpolator_pieces.proofs.CollectLemmas.{asked_ends, own_ends, item_ends}
+use Rattle.interpolator_pieces.proofs.CollectLemmas.{join_ends, last_told, group_deep, item_told}
+use Rattle.interpolator_pieces.proofs.StoredLemmas.{left_next, left_none}
 use Rattle.interpolator_pieces.proofs.WalkLemmas.{piece_depth, piece_within}
-use Rattle.interpolator_pieces.proofs.CollectLemmas.{item_ends, join_ends, last_told}
 use Rattle.interpolator_pieces.proofs.WholePieceLemmas.{in_item, in_join, fits_text}
 use Rattle.interpolator_pieces.proofs.WholePieceLemmas.{piece_whole, most_at}
 use Rattle.interpolator_pieces.proofs.piece.Piece.TheLaws.{the_size}
@@ -20,136 +20,80 @@ collect_pieces-loop-piece-init g t c = λ new r k. k
 
 pub collect_pieces-collect_piece-requires : goal.collect_pieces-collect_piece-requires
 collect_pieces-collect_piece-requires g t c κs within =
-    let xs = c.args.pieces.now in
-    let i = c.loop-piece.piece-index in
-    let x = c.piece-item.result in
-    let whole = piece_whole c.args.text.now xs i x (search rules) c.loop-piece-test.true
-    c.piece-item.is in
-    let within_all = piece_within c.args.text.now xs i x c.loop-piece-test.true c.piece-item.is in
-    let smaller = most_at the_size xs i x c.loop-piece-test.true c.piece-item.is in
-    (search (rules, smaller), (within.0, (within.1, (whole, omega (arith, within_all)))))
+    grind (arith, piece_whole, piece_within, most_at the_size, within)
 
 pub collect_pieces-returns-in_err-collect_piece : goal.collect_pieces-returns-in_err-collect_piece
 collect_pieces-returns-in_err-collect_piece g t c =
-    let err = err_from_is_err_and c.from_residual.result c.from_residual.ensures.1 in
-    rw (err.1, err.2) (record {
-      collects = c.loop-piece.invariant c.collect_piece.new.collector
-          (Some (answer_of c.in_err-collect_piece.field-0.0))
-          (piece_ends _ _ _ _ _ _ c.loop-piece.collector c.collect_piece.new.collector _
-          c.loop-piece-test.true c.piece-item.is c.in_err-collect_piece.ensures.collects);
-    })
+    let ends = c.loop-piece.invariant c.collect_piece.new.collector
+    (Some (answer_of c.in_err-collect_piece.field-0.0)) in
+    grind (arith, err_from_is_err_and, left_next, collects_before, ends)
 
 pub collect_pieces-loop-piece-preserved : goal.collect_pieces-loop-piece-preserved
 collect_pieces-loop-piece-preserved g t c = λ new r k.
-    c.loop-piece.invariant new r
-    (piece_goes_on _ _ _ _ _ _ c.loop-piece.collector c.collect_piece.new.collector new r
-    c.loop-piece-test.true c.piece-item.is c.in_ok-collect_piece.ensures.collects k)
+    grind (arith, left_next, collects_after, c.loop-piece.invariant new r)
 
 pub collect_pieces-returns : goal.collect_pieces-returns
-collect_pieces-returns g t c = record {
-  collects = c.loop-piece.invariant c.loop-piece.collector None
-      (pieces_over _ _ _ _ _ c.loop-piece.collector c.loop-piece-test.false);
-}
+collect_pieces-returns g t c =
+    grind (arith, left_none, collects_nothing, c.loop-piece.invariant c.loop-piece.collector None)
 
 -- ---- one piece
 
 pub collect_piece-returns-then-is_plainly_right : goal.collect_piece-returns-then-is_plainly_right
-collect_piece-returns-then-is_plainly_right g t c = record {
-  collects = rw (c.is_plainly_right.ensures.right c.if-is_plainly_right.true) (collects_nothing c.args.collector.now);
-}
+collect_piece-returns-then-is_plainly_right g t c = grind (arith, collects_nothing)
 
 pub collect_parts-collect_item-requires : goal.collect_parts-collect_item-requires
-collect_parts-collect_item-requires g t c κs within =
-    let depth = piece_depth c.args.text.now c.args.piece.now in
-    (search rules, (within.0, (within.1, (search rules, omega (arith, depth)))))
+collect_parts-collect_item-requires g t c κs within = grind (arith, piece_depth, within)
 
 pub collect_parts-collect_join-requires : goal.collect_parts-collect_join-requires
-collect_parts-collect_join-requires g t c κs within =
-    let depth = piece_depth c.args.text.now c.args.piece.now in
-    (search rules, (within.0, (within.1, (search rules, omega (arith, depth)))))
+collect_parts-collect_join-requires g t c κs within = grind (arith, piece_depth, within)
 
 pub collect_parts-returns-in_err-collect_asked : goal.collect_parts-returns-in_err-collect_asked
-collect_parts-returns-in_err-collect_asked g t c =
-    let err = err_from_is_err_and c.from_residual.result c.from_residual.ensures.1 in
-    rw (err.1, err.2) (record {
-      collects = asked_ends _ _ c.args.text.now c.args.piece.now (search rules) c.args.collector.now
-          c.collect_asked.new.collector _ c.in_err-collect_asked.ensures.collects;
-    })
+collect_parts-returns-in_err-collect_asked g t c = grind (arith, err_from_is_err_and, asked_ends)
 
 pub collect_parts-returns-in_err-collect_checked : goal.collect_parts-returns-in_err-collect_checked
 collect_parts-returns-in_err-collect_checked g t c =
-    let residual = c.from_residual-in_err-collect_checked in
-    let err = err_from_is_err_and residual.result residual.ensures.1 in
-    rw (err.1, err.2) (record {
-      collects = own_ends _ _ c.args.text.now c.args.piece.now (search rules) c.args.collector.now
-          c.collect_asked.new.collector c.in_ok-collect_asked.ensures.collects c.collect_checked.new.self _
-          (c.in_err-collect_checked.ensures (stored_own_fault c.args.piece.now)
-          c.check_own.ensures.own);
-    })
+    let own = c.in_err-collect_checked.ensures _ c.check_own.ensures.own in
+    let told = own_ends g.C.Object.Value.shows (sample_of g.C.Context.finds c.args.sample.now) _
+    c.args.piece.now (search rules) c.args.collector.now c.collect_asked.new.collector
+    c.in_ok-collect_asked.ensures.collects c.collect_checked.new.self _ own in
+    grind (arith, err_from_is_err_and, told)
 
 pub collect_parts-returns-in_err-collect_item : goal.collect_parts-returns-in_err-collect_item
 collect_parts-returns-in_err-collect_item g t c =
-    let residual = c.from_residual-in_err-collect_item in
-    let err = err_from_is_err_and residual.result residual.ensures.1 in
-    rw (err.1, err.2) (record {
-      collects = item_ends _ _ c.args.text.now c.args.piece.now (search rules) c.args.collector.now
-          c.collect_asked.new.collector c.in_ok-collect_asked.ensures.collects c.collect_checked.new.self
-          (c.in_ok-collect_checked.ensures (stored_own_fault c.args.piece.now)
-          c.check_own.ensures.own)
-          c.collect_item.new.collector _ c.in_err-collect_item.ensures.collects;
-    })
+    let own = c.in_ok-collect_checked.ensures _ c.check_own.ensures.own in
+    let told = item_ends g.C.Object.Value.shows (sample_of g.C.Context.finds c.args.sample.now)
+    c.args.text.now c.args.piece.now (search rules) c.args.collector.now
+    c.collect_asked.new.collector c.in_ok-collect_asked.ensures.collects c.collect_checked.new.self
+    own c.collect_item.new.collector _ c.in_err-collect_item.ensures.collects in
+    grind (arith, err_from_is_err_and, told)
 
 pub collect_parts-returns-in_err-collect_join : goal.collect_parts-returns-in_err-collect_join
 collect_parts-returns-in_err-collect_join g t c =
-    let residual = c.from_residual-in_err-collect_join in
-    let err = err_from_is_err_and residual.result residual.ensures.1 in
-    rw (err.1, err.2) (record {
-      collects = join_ends _ _ c.args.text.now c.args.piece.now (search rules) c.args.collector.now
-          c.collect_asked.new.collector c.in_ok-collect_asked.ensures.collects c.collect_checked.new.self
-          (c.in_ok-collect_checked.ensures (stored_own_fault c.args.piece.now)
-          c.check_own.ensures.own)
-          c.collect_item.new.collector c.in_ok-collect_item.ensures.collects
-          c.collect_join.new.collector _ c.in_err-collect_join.ensures.collects;
-    })
+    let own = c.in_ok-collect_checked.ensures _ c.check_own.ensures.own in
+    let told = join_ends g.C.Object.Value.shows (sample_of g.C.Context.finds c.args.sample.now)
+    c.args.text.now c.args.piece.now (search rules) c.args.collector.now
+    c.collect_asked.new.collector c.in_ok-collect_asked.ensures.collects c.collect_checked.new.self
+    own c.collect_item.new.collector c.in_ok-collect_item.ensures.collects
+    c.collect_join.new.collector _ c.in_err-collect_join.ensures.collects in
+    grind (arith, err_from_is_err_and, told)
 
 pub collect_parts-returns : goal.collect_parts-returns
-collect_parts-returns g t c = record {
-  collects = last_told _ _ c.args.text.now c.args.piece.now (search rules) c.args.collector.now
-      c.collect_asked.new.collector c.in_ok-collect_asked.ensures.collects c.collect_checked.new.self
-      (c.in_ok-collect_checked.ensures (stored_own_fault c.args.piece.now)
-      c.check_own.ensures.own)
-      c.collect_item.new.collector c.in_ok-collect_item.ensures.collects
-      c.collect_join.new.collector c.collect_checked-2.new.self _ c.in_ok-collect_join.ensures.collects
-      (c.collect_checked-2.ensures (stored_end_fault c.args.piece.now) c.check_end.ensures.end);
-}
+collect_parts-returns g t c =
+    let own = c.in_ok-collect_checked.ensures _ c.check_own.ensures.own in
+    let last = c.collect_checked-2.ensures _ c.check_end.ensures.end in
+    grind (arith, last_told, own, last)
 
 -- ---- groups
 
 pub collect_item-returns-in-Some : goal.collect_item-returns-in-Some
-collect_item-returns-in-Some g t c =
-    let s = sample_of g.C.Context.finds c.args.sample.now in
-    let fits = fits_text c.args.text.now c.args.piece.now (search rules) in
-    record {
-      collects = item_told _ _ _ _ _ _ _ _ c.args.collector.now c.collect_pieces.new.collector _
-          fits.held c.in-Some.is c.deref.ensures.value
-          (c.bind_each.ensures.sample ∙ ap (bind_each s) c.items_of-items.ensures.items)
-          c.collect_pieces.ensures.collects;
-    }
+collect_item-returns-in-Some g t c = grind (arith, fits_text, item_told)
 
 pub collect_item-collect_pieces-requires : goal.collect_item-collect_pieces-requires
 collect_item-collect_pieces-requires g t c κs within =
     let group = in_item c.args.text.now c.args.piece.now _ c.deref.result.now
-    c.deref.ensures.value (search rules) c.in-Some.is in
-    let smaller = group.smaller in
-    let deep = group_deep c.args.text.now _ _ c.deref.result.now (level_in c.args.sample.now)
-    (level_in c.bind_each.result) _ c.in-Some.is c.deref.ensures.value (search rules) (search rules) in
-    (search (rules, smaller), (within.0, (within.1, (group.whole, deep))))
+    c.deref.ensures.value (search rules) c.in-Some.is in grind (arith, group, group_deep, within)
 
 pub collect_join-collect_pieces-requires : goal.collect_join-collect_pieces-requires
 collect_join-collect_pieces-requires g t c κs within =
     let group = in_join c.args.text.now c.args.piece.now _ c.deref.result.now
-    c.deref.ensures.value (search rules) c.in-Some.is in
-    let smaller = group.smaller in
-    let deep = group_deep c.args.text.now _ _ c.deref.result.now (level_in c.args.sample.now)
-    (level_in c.args.sample.now) _ c.in-Some.is c.deref.ensures.value (omega arith) (search rules) in
-    (search (rules, smaller), (within.0, (within.1, (group.whole, deep))))
+    c.deref.ensures.value (search rules) c.in-Some.is in grind (arith, group, group_deep, within)

@@ -1,5 +1,4 @@
-use Rattle.std.proofs.Common.{◌≡◌, ◌∙◌, ap, Some}
-use Rattle.interpolator_pieces.specs.declared.piece.Piece.TheViews.{out-Piece}
+use Rattle.std.proofs.Common.{arith}
 use Rattle.interpolator_pieces.proofs.RunLemmas.{first_piece}
 use Rattle.interpolator_pieces.proofs.WholePieceLemmas.{in_item}
 use Rattle.interpolator_pieces.proofs.stored_source.StoredFormatSource.item.Goals as goal
@@ -10,9 +9,7 @@ invariant_of-result c =
     let x = c.index-pieces-0.result in
     let first = first_piece source.text.now source.pieces.now x c.requires.met c.index-pieces-0.is
     source.fits in
-    let is : (out-Piece x).item ≡ Some c.in-Some.item =
-    ap (λ p. (out-Piece p).item) c.index-pieces-0.is ∙ c.in-Some.is in
     record {
       fits = (in_item source.text.now x c.in-Some.item c.deref.result.now c.deref.ensures.value
-          first.whole is).whole;
+          first.whole (grind arith)).whole;
     }
