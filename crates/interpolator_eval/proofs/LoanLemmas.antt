@@ -1,11 +1,8 @@
 -- What an insertion into a map of names leaves, and what a loan of a value does.
-use Rattle.std.proofs.Common.{◌≡◌, ◌≢◌, refl, sym, ◌∙◌, ℕ, ◌+◌, List, Option, None, Some}
-use Rattle.std.proofs.Common.{true, false, arith, String, Global}
-use Rattle.std.specs.Borrow.{Bor, MutBor}
-use Rattle.std.specs.Option.{option_copied, option_copied_mut, is_some, OnSome}
-use Rattle.std.specs.Str.{bytes_eq, encode_utf8_all}
-use Rattle.std.specs.String.{string_bytes, string_eq}
-use Rattle.std.specs.Prelude.{if◌then◌else◌}
+use Rattle.std.proofs.Common.{◌≡◌, ◌≢◌, refl, ℕ, ◌+◌, List, Option, None, Some, true, false, arith}
+use Rattle.std.proofs.Common.{String, Global, Bor, MutBor, option_copied, is_some, OnSome, bytes_eq}
+use Rattle.std.proofs.Common.{encode_utf8_all, string_bytes, string_eq, if◌then◌else◌}
+use Rattle.std.specs.Option.{option_copied_mut}
 use Rattle.std.specs.HashMap.{get_by_text, WritesThrough, Updates, UpdatesBy}
 use Rattle.std.proofs.lemmas.Bool.{false_from_ne_true}
 use Rattle.std.proofs.lemmas.Map.Text.{hash_map_updates_text}
@@ -26,10 +23,11 @@ module _ {T : Type 0} where
       → UpdatesBy string_eq (λ key. bytes_eq bytes (string_bytes key)) old.map new.map value
       → (other : List ℕ) → other ≢ name → under new other ≡ under old other
   others_kept old new name bytes value spelt updates other differs =
-      let unequal : bytes_eq bytes (encode_utf8_all other) ≡ false =
-      rw spelt (other_bytes name other differs) in
-      hash_map_updates_text bytes old.map new.map value updates (encode_utf8_all other)
-      ∙ rw unequal refl
+      rw (
+        hash_map_updates_text bytes old.map new.map value updates (encode_utf8_all other),
+        spelt,
+        other_bytes name other differs,
+      ) refl
 
   -- what was written through a loan of the value under a name
   pub lent_in :
@@ -59,7 +57,7 @@ module _ {T : Type 0} where
   put_in old new key name value replaced spelt updates was count = record {
     here = rw (← spelt) updates.1;
     others = others_kept old new name (string_bytes key) (Some value) spelt updates;
-    count = let stood : under old name ≡ replaced = rw (← spelt) (sym was) in rw stood count;
+    count = rw (← spelt, ← was) count;
   }
 
   -- what a look-up that finds nothing says

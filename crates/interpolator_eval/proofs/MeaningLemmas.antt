@@ -19,4 +19,3 @@ pub mod EnvironmentLemmas
 pub mod ScanLemmas
 pub mod SinkLemmas
 pub mod SourceLemmas
-pub mod WorkLemmas

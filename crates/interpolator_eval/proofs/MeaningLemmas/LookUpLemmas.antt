@@ -1,7 +1,7 @@
 -- What is looked up under a name, by the trait; and the list under it: which of its items are
 -- chosen, or why none are, and what is written for each.
-use Rattle.std.proofs.Common.{◌≡◌, refl, ap, ◌∙◌, ℕ, Bool, false, cond, List, map, Option, None}
-use Rattle.std.proofs.Common.{Some, option_map, is_some}
+use Rattle.std.proofs.Common.{arith, ◌≡◌, ℕ, Bool, false, cond, List, map, Option, Some, option_map}
+use Rattle.std.proofs.Common.{is_some}
 use Rattle.interpolator_render.specs.Written.{Written}
 use Rattle.interpolator_render.specs.declared.view.Spec.{Spec}
 use Rattle.interpolator_render.specs.declared.view.Trait.{Trait}
@@ -16,10 +16,8 @@ use Rattle.interpolator_eval.specs.Slots.{Slots, items}
 use Rattle.interpolator_eval.specs.Meaning.Choices.{chosen_items}
 use Rattle.interpolator_eval.specs.Meaning.Environments.{Environment, slots_under}
 use Rattle.interpolator_eval.specs.Meaning.Lists.{IsChosen, IsNotChosen, list_under_name}
-use Rattle.interpolator_eval.specs.Meaning.Lists.{ChosenUnder}
-use Rattle.interpolator_eval.specs.Meaning.Lists.{padded_list_means}
-use Rattle.interpolator_eval.specs.Meaning.Meanings.{Meaning, items_mean, listed_means, under_name}
-use Rattle.interpolator_eval.specs.Meaning.Meanings.{padded_list, forbids_list}
+use Rattle.interpolator_eval.specs.Meaning.Lists.{ChosenUnder, padded_list_means}
+use Rattle.interpolator_eval.specs.Meaning.Meanings.{Meaning, items_mean, forbids_list}
 use Rattle.interpolator_eval.specs.Meaning.Sinks.{Writes, taken_by}
 use Rattle.interpolator_eval.specs.declared.evaluate.sink.Sink.{Sink}
 use Rattle.interpolator_eval.proofs.MeaningLemmas.ChoiceLemmas.{map-chosen}
@@ -28,8 +26,18 @@ use Rattle.interpolator_eval.proofs.MeaningLemmas.SinkLemmas.{same_end}
 -- each trait but `Iter` stands for a value
 pub value_asked : (t : Trait) (form : ListRequest) → (t ≡ traits.Iter → ⊥)
     → kind_under t form ≡ of_value t
-value_asked traits.Iter form h = absurd (h refl)
-value_asked t form h = refl
+value_asked t form h = grind arith
+
+-- the items that a range chooses of a list are those that are chosen under its name
+pub chosen_under : {F X : Type 0} (e : Environment X) (name : List ℕ) (range : Option Range)
+    (tree : F → Slots X) (xs ys : List F)
+    → Some (Some (map tree xs)) ≡ option_map items (slots_under e name)
+    → ys ≡ chosen_items range xs → ChosenUnder e name range (map tree ys)
+chosen_under e name range tree xs ys found chosen = record {
+  listed = map tree xs;
+  found = found;
+  chosen_of = rw chosen (map-chosen tree range xs);
+}
 
 module _ {X : Type 0} (e : Environment X) (name : List ℕ) (start : ℕ) (range : Option Range)
     (spec : Spec) (end : ℕ) where
@@ -37,27 +45,7 @@ module _ {X : Type 0} (e : Environment X) (name : List ℕ) (start : ℕ) (range
   pub list_chosen : {F : Type 0} (tree : F → Slots X) (xs ys : List F)
       → Some (Some (map tree xs)) ≡ option_map items (slots_under e name) → forbids_list spec ≡ false
       → ys ≡ chosen_items range xs → IsChosen e name start range spec end (map tree ys)
-  list_chosen tree xs ys found may chosen join item = by_found (slots_under e name) found
-    where
-      same_items : map tree ys ≡ chosen_items range (map tree xs)
-      same_items = ap (map tree) chosen ∙ map-chosen tree range xs
-
-      by_found : (o : Option (Slots X)) → Some (Some (map tree xs)) ≡ option_map items o
-          → under_name name start (λ t. listed_means range spec end join item (items t)) o
-          ≡ padded_list spec end (items_mean join item (map tree ys))
-      by_found None h = absurd (cc)
-      by_found (Some t) h =
-          let same : items t ≡ Some (map tree xs) = cc in rw (same, may, same_items) refl
-
-  -- and they are those
-  pub chosen_under : {F : Type 0} (tree : F → Slots X) (xs ys : List F)
-      → Some (Some (map tree xs)) ≡ option_map items (slots_under e name)
-      → ys ≡ chosen_items range xs → ChosenUnder e name range (map tree ys)
-  chosen_under tree xs ys found chosen = record {
-    listed = map tree xs;
-    found = found;
-    chosen_of = ap (map tree) chosen ∙ map-chosen tree range xs;
-  }
+  list_chosen tree xs ys found may chosen join item = grind (arith, map-chosen tree range xs)
 
   module _ {W : Type 0} (written : W → Written) (join : Meaning) (item : Slots X → Meaning)
       (s : Sink W) where

@@ -1,28 +1,24 @@
 -- What a name may stand for in a sample, and what those values lack.
-use Rattle.std.proofs.Common.{rules}
-use Rattle.std.proofs.lemmas.Grind.{common_steps}
-use Rattle.std.proofs.Common.{◌≡◌, ◌∙◌, refl, sym, ap, arith, ℕ, zero, suc, ◌+◌, ◌<◌, ◌≤◌, Bool}
-use Rattle.std.proofs.Common.{true, false, ◌||◌, List, [], ◌∷◌, length, drop, map, get_or}
-use Rattle.std.proofs.Common.{Option, Some, None, option_map, add-one}
+use Rattle.std.proofs.Common.{rules, ◌≡◌, ◌∙◌, refl, sym, arith, ℕ, zero, suc, ◌+◌, ◌<◌, ◌≤◌}
+use Rattle.std.proofs.Common.{Bool, true, false, ◌||◌, List, [], ◌∷◌, length, drop, map, get_or}
+use Rattle.std.proofs.Common.{Option, Some, option_map, add-one}
+use Rattle.std.proofs.Common.{append-nil, flat_map, MatchOption, chars, IsUtf8}
+use Rattle.std.proofs.lemmas.Grind.{common_steps, flat_map-append}
 use Rattle.std.proofs.Math.Path.{fun_ext}
-use Rattle.std.proofs.lemmas.Grind.{flat_map-append}
-use Rattle.std.proofs.lemmas.List.{append-nil, drop_more, drop_all}
+use Rattle.std.proofs.lemmas.List.{drop_more, drop_all}
 use Rattle.std.proofs.lemmas.List.Concat.{flat_map-cons}
 use Rattle.std.proofs.lemmas.List.Folds.{list_any-append}
 use Rattle.std.proofs.lemmas.Str.{chars-nil, encodes-chars}
-use Rattle.std.specs.List.{flat_map, list_any}
-use Rattle.std.specs.Prelude.{MatchOption, encode_utf8_all}
-use Rattle.std.specs.Str.{chars, IsUtf8}
+use Rattle.std.specs.List.{list_any}
 use Rattle.interpolator_render.specs.Texts.{view_text}
 use Rattle.interpolator_render.specs.Views.{Shown}
 use Rattle.interpolator_render.specs.declared.view.Spec.{Spec}
 use Rattle.interpolator_render.specs.declared.view.Trait.{Trait}
 use Rattle.interpolator_render.specs.declared.view.Trait.TheVariants.{Debug, Display, Iter}
 use Rattle.interpolator_eval.specs.Slots.{Slots}
-use Rattle.interpolator_eval.specs.Meaning.Samples.{is_missing, is_failed, is_for_no_number}
-use Rattle.interpolator_eval.specs.Meaning.Samples.{is_for_numbers, shows_nothing, is_failure}
-use Rattle.interpolator_eval.specs.Meaning.Samples.{alone, each_or, items_or_none, items_of_all}
-use Rattle.interpolator_eval.specs.Meaning.Samples.{at_level}
+use Rattle.interpolator_eval.specs.Meaning.Samples.{is_missing, alone, items_or_none, items_of_all}
+use Rattle.interpolator_eval.specs.Meaning.Samples.{is_failed, is_failure, each_or, at_level}
+use Rattle.interpolator_eval.specs.Meaning.Samples.{is_for_no_number, is_for_numbers, shows_nothing}
 
 -- ---- views that have no text
 
@@ -109,9 +105,4 @@ module _ {X : Type 0} (others : List ℕ → Option (List (Slots X))) where
 
   pub named_at : (each : Option (List (Slots X))) (bs : List ℕ) → IsUtf8 bs → 0 < length bs
       → each_or each others (chars bs) ≡ others (chars bs)
-  named_at None bs u h = refl
-  named_at (Some ts) bs u h = at (chars bs) (encodes-chars bs u)
-    where
-      at : (cs : List ℕ) → encode_utf8_all cs ≡ bs → each_or (Some ts) others cs ≡ others cs
-      at [] e = let n : length bs ≡ 0 = sym (ap length e) in absurd (omega arith)
-      at (c ∷ cs) e = refl
+  named_at each bs u h = grind (arith, encodes-chars bs u)

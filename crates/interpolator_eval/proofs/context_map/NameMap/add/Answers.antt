@@ -1,6 +1,5 @@
-use Rattle.std.proofs.Common.{rules, sym, ◌∙◌, ◌≡◌, None}
-use Rattle.std.specs.Str.{chars, encode_utf8_all}
-use Rattle.std.specs.String.{string_bytes}
+use Rattle.std.proofs.Common.{arith, rules, sym, ◌∙◌, ◌≡◌, None, chars, encode_utf8_all}
+use Rattle.std.proofs.Common.{string_bytes}
 use Rattle.std.proofs.lemmas.Str.{encodes-chars}
 use Rattle.interpolator_eval.specs.NameMaps.{under}
 use Rattle.interpolator_eval.specs.declared.context_map.NameMap.{NameMap}
@@ -8,9 +7,7 @@ use Rattle.interpolator_eval.proofs.LoanLemmas.{put_in, new_name, kept, absent_n
 use Rattle.interpolator_eval.proofs.context_map.NameMap.add.Goals as goal
 
 pub returns-then-is_some-clause-ok : goal.returns-then-is_some-clause-ok
-returns-then-is_some-clause-ok g c =
-    kept g.T.Default.is_default c.args.self.now (chars c.args.name.now) c.find.result c.find.ensures
-    (sym c.is_some.ensures ∙ c.if-is_some.true)
+returns-then-is_some-clause-ok g c = grind (arith, kept)
 
 pub returns-clause-ok : goal.returns-clause-ok
 returns-clause-ok g c =

@@ -1,6 +1,5 @@
-use Rattle.std.proofs.Common.{refl, sym, ◌≡◌}
+use Rattle.std.proofs.Common.{refl, sym, ◌≡◌, chars}
 use Rattle.std.specs.Option.{option_copied_mut}
-use Rattle.std.specs.Str.{chars}
 use Rattle.std.proofs.lemmas.Str.{encodes-chars}
 use Rattle.interpolator_eval.specs.NameMaps.{under}
 use Rattle.interpolator_eval.proofs.LoanLemmas.{lent_in, same}

@@ -1,5 +1,4 @@
-use Rattle.std.proofs.Common.{refl}
-use Rattle.std.specs.Str.{chars}
+use Rattle.std.proofs.Common.{arith, refl, chars}
 use Rattle.interpolator_eval.proofs.LoanLemmas.{put_after, value_after}
 use Rattle.interpolator_eval.proofs.context_map.NameMap.lend_or_add.Goals as goal
 
@@ -14,9 +13,5 @@ returns g c =
             (rw c.in-Some.is at (c.lend.follows.holds last)),
         tt,
       ),
-      (
-        value_after IsDefault map _ name c.in-Some.lent.now c.in_ok-add.ensures.ok
-            c.in-Some.ensures.value,
-        tt,
-      ),
+      grind (arith, value_after),
     )
