@@ -1,5 +1,5 @@
 -- What an insertion into a map of names leaves, and what a loan of a value does.
-use Rattle.std.proofs.Common.{◌≡◌, ◌≢◌, refl, ℕ, ◌+◌, List, Option, None, Some, true, false, arith}
+use Rattle.std.proofs.Common.{◌≡◌, ◌≢◌, refl, ℕ, ◌+◌, List, Option, None, Some, false, arith}
 use Rattle.std.proofs.Common.{String, Global, Bor, MutBor, option_copied, is_some, OnSome, bytes_eq}
 use Rattle.std.proofs.Common.{encode_utf8_all, string_bytes, string_eq, if◌then◌else◌}
 use Rattle.std.specs.Option.{option_copied_mut}
@@ -8,7 +8,7 @@ use Rattle.std.proofs.lemmas.Bool.{false_from_ne_true}
 use Rattle.std.proofs.lemmas.Map.Text.{hash_map_updates_text}
 use Rattle.std.proofs.lemmas.Slice.Eq.{bytes_eq-Decides}
 use Rattle.std.proofs.lemmas.Str.{encodes_same}
-use Rattle.interpolator_eval.specs.NameMaps.{under, name_count, HasPut, IsSame, HasAdded, IsEntry}
+use Rattle.interpolator_eval.specs.NameMaps.{under, name_count, HasPut}
 use Rattle.interpolator_eval.specs.declared.context_map.NameMap.{NameMap}
 
 -- two names with the same bytes are the same name
@@ -44,9 +44,6 @@ module _ {T : Type 0} where
         count = rw (← value) (grind (arith, writes.2));
       }
 
-  pub same : (old new : NameMap T) → new.map ≡ old.map → IsSame old new
-  same old new e = grind arith
-
   -- what an insertion under a name leaves
   pub put_in : (old new : NameMap T) (key : String Global) (name : List ℕ) (value : T)
       (replaced : Option T)
@@ -66,29 +63,3 @@ module _ {T : Type 0} where
       → option_copied found ≡ under old name
       → is_some found ≡ false → under old name ≡ None
   absent_name old name found value e = grind arith
-
-  module _ (IsDefault : T → Type 0) where
-    -- a name that was there
-    pub kept :
-        (old : NameMap T) (name : List ℕ) (found : Option (Bor T))
-        → option_copied found ≡ under old name
-        → is_some found ≡ true → HasAdded IsDefault old name old
-    kept old name found value e = grind arith
-
-    -- a name that was absent
-    pub new_name :
-        (old new : NameMap T) (name : List ℕ) (value : T) → under old name ≡ None → IsDefault value
-        → HasPut old name value new → HasAdded IsDefault old name new
-    new_name old new name value e default put = grind arith
-
-    -- the last value after a loan of a name that was put in first
-    pub put_after :
-        (old added new : NameMap T) (name : List ℕ) (last : T) → HasAdded IsDefault old name added
-        → HasPut added name last new → HasPut old name last new
-    put_after old added new name last adds written = grind arith
-
-    -- the value that is lent for a name that was put in first
-    pub value_after :
-        (old added : NameMap T) (name : List ℕ) (lent : T) → HasAdded IsDefault old name added
-        → Some lent ≡ under added name → IsEntry IsDefault old name lent
-    value_after old added name lent adds found = grind arith

@@ -1,9 +1,6 @@
 -- A text means the same in two contexts that have equal values under the names that it uses.
-use Rattle.std.proofs.Common.{◌≡◌, ℕ, suc, Bool, true, false, cond, List, [], ◌∷◌, ◌++◌}
-use Rattle.std.proofs.Common.{take, drop, arith, refl, Option, Some, None}
-use Rattle.std.specs.List.{AllZip}
-use Rattle.std.proofs.lemmas.Slice.Zip.{AllZip-long}
-use Rattle.std.specs.Prelude.{⊤}
+use Rattle.std.proofs.Common.{map, option_map, ◌≡◌, ℕ, true, false, List, [], ◌∷◌}
+use Rattle.std.proofs.Common.{◌++◌, arith, refl, Option, Some, None}
 use Rattle.interpolator_render.specs.declared.view.Trait.{Trait}
 use Rattle.interpolator_render.specs.declared.view.Trait.TheVariants as traits
 use Rattle.interpolator_render.specs.declared.view.Spec.{Spec}
@@ -29,6 +26,7 @@ use Rattle.interpolator_eval.specs.Meaning.Meanings.{chain, value_means, items_a
 use Rattle.interpolator_eval.specs.Meaning.Meanings.{items_mean, under_name, node_means, means}
 use Rattle.interpolator_eval.specs.Meaning.Meanings.{listed_means, target_means, content_means}
 use Rattle.interpolator_eval.specs.Meaning.Outcomes.{Finished}
+use Rattle.interpolator_eval.proofs.MeaningLemmas.ChoiceLemmas.{map-chosen}
 use Rattle.interpolator_eval.proofs.MeaningLemmas.AskedPieceLemmas.{branch_in_item}
 
 -- a name that is not empty means the same with any inner value
@@ -39,8 +37,22 @@ bound_same e t c cs = grind arith
 both_same : {m k l o : Meaning} → m ≡ k → l ≡ o → chain m l ≡ chain k o
 both_same e h = cc
 
-by_test : (b : Bool) (m k l : Meaning) → k ≡ l → cond b m k ≡ cond b m l
-by_test b m k l e = grind arith
+-- what items mean depends on what each of them means alone
+after_by_meanings : {A : Type 0} (join : Meaning) (item : A → Meaning) (xs : List A)
+    → items_after join item xs ≡ items_after join (λ m. m) (map item xs)
+after_by_meanings join item [] = refl
+after_by_meanings join item (x ∷ xs) = grind (arith, after_by_meanings join item xs)
+
+items_by_meanings : {A : Type 0} (join : Meaning) (item : A → Meaning) (xs : List A)
+    → items_mean join item xs ≡ items_mean join (λ m. m) (map item xs)
+items_by_meanings join item xs = grind (arith, after_by_meanings)
+
+list_by_meanings : {A : Type 0} (range : Option Range) (spec : Spec) (q : ℕ) (join : Meaning)
+    (item : A → Meaning) (o : Option (List A)) → listed_means range spec q join item o
+    ≡ listed_means range spec q join (λ m. m) (option_map (map item) o)
+list_by_meanings range spec q join item None = refl
+list_by_meanings range spec q join item (Some xs) =
+    rw (items_by_meanings join item (chosen_items range xs), map-chosen item range xs) refl
 
 module _ {X Y : Type 0} (shows : X → Trait → Spec → Shown) (others : Y → Trait → Spec → Shown) where
   -- ---- what is under a name
@@ -60,46 +72,27 @@ module _ {X Y : Type 0} (shows : X → Trait → Spec → Shown) (others : Y →
 
   -- ---- lists whose items are equal one by one
 
-  bind_each : (us : SlotsList X) (vs : SlotsList Y) → EqualItems shows others us vs
-      → AllZip Equal (slots_listed us) (slots_listed vs)
-  bind_each (slots_and t us) (slots_and u vs) h = (h.0, bind_each us vs h.1)
-  bind_each us vs h = grind arith
-
-  abbrev EqualLists : Option (List (Slots X)) → Option (List (Slots Y)) → Type 0
-  EqualLists None None = ⊤
-  EqualLists (Some xs) (Some ys) = AllZip Equal xs ys
-  EqualLists _ _ = ⊥
-
-  items_equal : (tree : Slots X) (other : Slots Y) → Equal tree other
-      → EqualLists (items tree) (items other)
-  items_equal tree other h = grind (arith, bind_each)
-
-  -- ---- chosen items
-
-  each_take : (n : ℕ) (xs : List (Slots X)) (ys : List (Slots Y)) → AllZip Equal xs ys
-      → AllZip Equal (take n xs) (take n ys)
-  each_take (suc n) (x ∷ xs) (y ∷ ys) h = (h.0, each_take n xs ys h.1)
-  each_take n xs ys h = grind arith
-
-  each_drop : (n : ℕ) (xs : List (Slots X)) (ys : List (Slots Y)) → AllZip Equal xs ys
-      → AllZip Equal (drop n xs) (drop n ys)
-  each_drop (suc n) (x ∷ xs) (y ∷ ys) h = each_drop n xs ys h.1
-  each_drop n xs ys h = grind arith
-
-  chosen_equal : (range : Option Range) (xs : List (Slots X)) (ys : List (Slots Y))
-      → AllZip Equal xs ys → AllZip Equal (chosen_items range xs) (chosen_items range ys)
-  chosen_equal range xs ys h = grind (arith, AllZip-long, each_drop, each_take)
-
-  module _ (j k : Meaning) (f : Slots X → Meaning) (g : Slots Y → Meaning) (joins : j ≡ k)
+  module _ (f : Slots X → Meaning) (g : Slots Y → Meaning)
       (each : (x : Slots X) (y : Slots Y) → Equal x y → f x ≡ g y) where
-    after_equal : (xs : List (Slots X)) (ys : List (Slots Y)) → AllZip Equal xs ys
-        → items_after j f xs ≡ items_after k g ys
-    after_equal (x ∷ xs) (y ∷ ys) h = grind (arith, both_same, after_equal xs ys h.1)
-    after_equal xs ys h = grind arith
+    mapped_equal : (us : SlotsList X) (vs : SlotsList Y) → EqualItems shows others us vs
+        → map f (slots_listed us) ≡ map g (slots_listed vs)
+    mapped_equal (slots_and t us) (slots_and u vs) h =
+        grind (arith, each t u, mapped_equal us vs h.1)
+    mapped_equal us vs h = grind arith
 
-    items_mean_equal : (xs : List (Slots X)) (ys : List (Slots Y)) → AllZip Equal xs ys
-        → items_mean j f xs ≡ items_mean k g ys
-    items_mean_equal xs ys h = grind (arith, both_same, after_equal)
+    items_equal : (tree : Slots X) (other : Slots Y) → Equal tree other
+        → option_map (map f) (items tree) ≡ option_map (map g) (items other)
+    items_equal tree other h = grind (arith, mapped_equal)
+
+    list_equal : (range : Option Range) (spec : Spec) (q : ℕ) (j k : Meaning) (x : Slots X)
+        (y : Slots Y) → j ≡ k → Equal x y
+        → listed_means range spec q j f (items x) ≡ listed_means range spec q k g (items y)
+    list_equal range spec q j k x y joins h = rw (
+      list_by_meanings range spec q j f (items x),
+      list_by_meanings range spec q k g (items y),
+      items_equal x y h,
+      joins,
+    ) refl
 
   -- ---- environments
 
@@ -115,25 +108,17 @@ module _ {X Y : Type 0} (shows : X → Trait → Spec → Shown) (others : Y →
       (names : List (List ℕ)) → Equal t u → Agree e d (without_empty names)
       → Agree (bind e t) (bind d u) names
   agree_bound e d t u [] k h = tt
-  agree_bound e d t u ([] ∷ names) k h = (k, agree_bound e d t u names k h)
-  agree_bound e d t u ((c ∷ cs) ∷ names) k h =
-      grind (arith, bound_same, agree_bound e d t u names k h.1)
+  agree_bound e d t u (name ∷ names) k h =
+      grind (arith, bound_same, agree_bound e d t u names k)
 
   -- ---- a text
-
-  list_equal : (range : Option Range) (spec : Spec) (q : ℕ) (j k : Meaning) (f : Slots X → Meaning)
-      (g : Slots Y → Meaning) (o : Option (List (Slots X))) (p : Option (List (Slots Y))) → j ≡ k
-      → ((x : Slots X) (y : Slots Y) → Equal x y → f x ≡ g y) → EqualLists o p
-      → listed_means range spec q j f o ≡ listed_means range spec q k g p
-  list_equal range spec q j k f g o p joins each h =
-      grind (arith, by_test, items_mean_equal, chosen_equal)
 
   target_equal : (asked : Target) (spec : Spec) (q : ℕ) (j k : Meaning) (f : Slots X → Meaning)
       (g : Slots Y → Meaning) (x : Slots X) (y : Slots Y) → j ≡ k
       → ((x : Slots X) (y : Slots Y) → Equal x y → f x ≡ g y) → Equal x y
       → target_means shows asked spec q j f x ≡ target_means others asked spec q k g y
   target_equal asked spec q j k f g x y joins each h =
-      grind (arith, value_equal, values_equal, list_equal, items_equal)
+      grind (arith, value_equal, values_equal, list_equal f g each)
 
   found_equal : (name : List ℕ) (start : ℕ) (means : Slots X → Meaning) (mean : Slots Y → Meaning)
       (o : Option (Slots X)) (p : Option (Slots Y))

@@ -1,5 +1,6 @@
 -- Pieces up to their first list: from the first piece, and from those after it.
-use Rattle.std.proofs.Common.{◌≡◌, refl, arith, ℕ, ◌+◌, ◌≤◌, Bool, true, false, Option, None, Some}
+use Rattle.std.proofs.Common.{rules, ◌≡◌, refl, arith, ℕ, ◌+◌, ◌≤◌, Bool, true, false, Option, None}
+use Rattle.std.proofs.Common.{Some}
 use Rattle.interpolator_render.specs.Written.{Written}
 use Rattle.interpolator_render.specs.declared.view.Trait.{Trait}
 use Rattle.interpolator_render.specs.declared.view.Spec.{Spec}
@@ -118,8 +119,7 @@ module _ {X W : Type 0} (shows : X → Trait → Spec → Shown) (e : Environmen
       → Writes written (Means all) old s None × (from_list all ≡ no_nodes)
       × (count ≡ n + (Pieces all + 0))
   passed_all a p h = (
-    goes_on _ _ _ _ _ _ _ p.so_far p.same
-        (record { outcome = rw (text_none _ h) (nothing_done _); same = same_end _ }),
+    goes_on _ _ _ _ _ _ _ p.so_far p.same (search (rules, text_none a h, nothing_done, same_end)),
     rw (p.left, text_none _ h) refl,
     grind (arith, p.gone, text_none _ h),
   )

@@ -1,7 +1,7 @@
 -- What a list argument means, in the words of the laws: its padding, its width, its faults.
 use Rattle.std.proofs.lemmas.Grind.{common_steps}
-use Rattle.std.proofs.Common.{◌≡◌, ℕ, false, cond, List, [], ◌∷◌, ◌++◌, length, flat_map}
-use Rattle.std.proofs.Common.{append_assoc, arith, refl, ◌⊎◌, inl, inr, Some, None, max, replicate}
+use Rattle.std.proofs.Common.{Option, ◌≡◌, ℕ, false, cond, List, [], ◌∷◌, ◌++◌, length, flat_map}
+use Rattle.std.proofs.Common.{append_assoc, arith, refl, inl, inr, Some, None, max, replicate}
 use Rattle.std.proofs.Common.{unwrap_or, append-nil}
 use Rattle.std.proofs.lemmas.List.{length-map, replicate-append-replicate}
 use Rattle.interpolator_render.proofs.LawLemmas.{padded_text_count}
@@ -21,7 +21,7 @@ use Rattle.interpolator_eval.specs.Meaning.ListArguments.{FindsList, AllFinish, 
 use Rattle.interpolator_eval.specs.Meaning.ListArguments.{FirstFault, in_item, in_join}
 use Rattle.interpolator_eval.specs.Meaning.ListArguments.{argument_meaning, items_alone}
 use Rattle.interpolator_eval.specs.Meaning.Meanings.{Meaning, nothing, padded_list, items_mean}
-use Rattle.interpolator_eval.specs.Meaning.Meanings.{fault_alone, chain, items_after, forbids_list}
+use Rattle.interpolator_eval.specs.Meaning.Meanings.{fault_alone, forbids_list}
 
 -- ---- padding
 
@@ -37,26 +37,6 @@ nothing_padded :
     → (padded_list spec q nothing).text
     ≡ placed_at q (replicate (unwrap_or spec.width 0) (fill_of spec))
 nothing_padded spec q = grind (arith, padded_nothing)
-
--- ---- one meaning after another
-
--- the second is written if the first has no fault
-joined_finishes :
-    (m k : Meaning) → (chain m k).fault ≡ None
-    → (m.fault ≡ None) × (k.fault ≡ None) × ((chain m k).text ≡ m.text ++ k.text)
-joined_finishes m k h = grind arith
-
--- a fault is that of the first, or that of the second after the first
-abbrev FailsFirst : Meaning → Placed → Fault → Type 0
-FailsFirst m text f = (m.fault ≡ Some f) × (text ≡ m.text)
-
-abbrev FailsSecond : Meaning → Meaning → Placed → Fault → Type 0
-FailsSecond m k text f = (m.fault ≡ None) × (k.fault ≡ Some f) × (text ≡ m.text ++ k.text)
-
-joined_fails :
-    (m k : Meaning) (f : Fault) → (chain m k).fault ≡ Some f
-    → FailsFirst m (chain m k).text f ⊎ FailsSecond m k (chain m k).text f
-joined_fails m k f h = grind arith
 
 -- ---- the items in order
 
@@ -75,58 +55,47 @@ module _ {A : Type 0} (join : Meaning) (item : A → Meaning) where
       (xs : List A) → (items_mean join item xs).fault ≡ None
       → AllFinish join item xs × ((items_mean join item xs).text ≡ joined_texts join item xs)
   items_finish [] h = (tt, refl)
-  items_finish (x ∷ xs) h = grind (arith, joined_finishes, append_assoc, flat_map, items_finish xs)
+  items_finish (x ∷ xs) h = grind (arith, append_assoc, flat_map, items_finish xs)
 
   -- with a second item the join is written too
   pub join_finishes :
       (x y : A) (more : List A) → (items_mean join item (x ∷ y ∷ more)).fault ≡ None
       → join.fault ≡ None
-  join_finishes x y more h = grind (arith, joined_finishes)
+  join_finishes x y more h = grind arith
 
   -- the first fault of some items
-  abbrev Fails : List A → Fault → Type 0
-  Fails xs f =
-      (items_mean join item xs).fault ≡ Some f
-      → FirstFault join item xs f (items_mean join item xs).text
-
   module _ (x : A) (f : Fault) where
-    by_rest :
-        (xs : List A) (text : Placed) → (item x).fault ≡ None → join.fault ≡ None
-        → FirstFault join item xs f text
-        → FirstFault join item (x ∷ xs) f ((item x).text ++ (join.text ++ text))
-    by_rest xs text i j (in_item front z back split finish none fails is) =
+    fails_first : (xs : List A) → (item x).fault ≡ Some f
+        → FirstFault join item (x ∷ xs) f (items_mean join item (x ∷ xs)).text
+    fails_first xs i = in_item [] x xs refl tt (inl refl) i (grind (arith, append-nil))
+
+    fails_joined : (y : A) (ys : List A) → (item x).fault ≡ None → join.fault ≡ Some f
+        → FirstFault join item (x ∷ y ∷ ys) f (items_mean join item (x ∷ y ∷ ys)).text
+    fails_joined y ys i j = in_join x y ys refl i j (grind arith)
+
+    fails_later : (y : A) (ys : List A) → (item x).fault ≡ None → join.fault ≡ None
+        → FirstFault join item (y ∷ ys) f (items_mean join item (y ∷ ys)).text
+        → FirstFault join item (x ∷ y ∷ ys) f (items_mean join item (x ∷ y ∷ ys)).text
+    fails_later y ys i j (in_item front z back split finish none fails is) =
         in_item (x ∷ front) z back (cc) (i, finish) (inr j) fails
-        (rw (is, texts_after front z) refl)
-    by_rest xs text i j (in_join z y back split none fails is) = absurd (cc)
-
-    by_join :
-        (y : A) (ys : List A) (text rest : Placed) → (item x).fault ≡ None
-        → text ≡ (item x).text ++ rest → Fails (y ∷ ys) f
-        → FailsFirst join rest f ⊎ FailsSecond join (items_mean join item (y ∷ ys)) rest f
-        → FirstFault join item (x ∷ y ∷ ys) f text
-    by_join y ys text rest i t further (inl k) =
-        in_join x y ys refl i k.0 (let same = k.1 in cc)
-    by_join y ys text rest i t further (inr k) =
-        rw (t, k.2) (by_rest (y ∷ ys) _ i k.0 (further k.1))
-
-    fail_after :
-        (xs : List A) (text : Placed) → Fails xs f
-        → FailsFirst (item x) text f ⊎ FailsSecond (item x) (items_after join item xs) text f
-        → FirstFault join item (x ∷ xs) f text
-    fail_after xs text further (inl k) =
-        in_item [] x xs refl tt (inl refl) k.0 (rw append-nil k.1)
-    fail_after [] text further (inr k) = absurd (let f = k.1 in cc)
-    fail_after (y ∷ ys) text further (inr k) =
-        by_join y ys text _ k.0 k.2 further
-        (joined_fails join (items_mean join item (y ∷ ys)) f k.1)
+        (rw (i, j, is, texts_after front z) refl)
+    fails_later y ys i j (in_join z w back split none fails is) = absurd (cc)
 
   pub items_fail :
       (xs : List A) (f : Fault) → (items_mean join item xs).fault ≡ Some f
       → FirstFault join item xs f (items_mean join item xs).text
   items_fail [] f h = absurd (cc)
-  items_fail (x ∷ xs) f h =
-      fail_after x f xs _ (items_fail xs f)
-      (joined_fails (item x) (items_after join item xs) f h)
+  items_fail (x ∷ []) f h = fails_first x f [] (grind arith)
+  items_fail (x ∷ y ∷ ys) f h =
+      by_faults (items_fail (y ∷ ys) f) (item x).fault join.fault refl refl
+    where
+      by_faults : ((items_mean join item (y ∷ ys)).fault ≡ Some f
+          → FirstFault join item (y ∷ ys) f (items_mean join item (y ∷ ys)).text)
+          → (o p : Option Fault) → (item x).fault ≡ o → join.fault ≡ p
+          → FirstFault join item (x ∷ y ∷ ys) f (items_mean join item (x ∷ y ∷ ys)).text
+      by_faults rest (Some g) p i j = fails_first x f (y ∷ ys) (grind arith)
+      by_faults rest None (Some g) i j = fails_joined x f y ys i (grind arith)
+      by_faults rest None None i j = fails_later x f y ys i j (rest (grind arith))
 
 -- ---- list arguments
 

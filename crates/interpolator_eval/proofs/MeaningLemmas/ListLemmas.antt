@@ -1,6 +1,6 @@
 -- Lists: what writing the items one after the other leaves, and how many pieces it goes through.
-use Rattle.std.proofs.Common.{◌≡◌, ℕ, ◌+◌, ◌<◌, ◌≤◌, List, ◌∷◌, map, drop, length, get_or, Option}
-use Rattle.std.proofs.Common.{arith, None, Some, refl}
+use Rattle.std.proofs.Common.{rules, ◌≡◌, ℕ, ◌+◌, ◌<◌, ◌≤◌, List, ◌∷◌, map, drop, length, get_or}
+use Rattle.std.proofs.Common.{Option, arith, None, Some, refl}
 use Rattle.std.proofs.lemmas.List.{drop_more, drop_all}
 use Rattle.interpolator_render.specs.Written.{Written}
 use Rattle.interpolator_syntax.specs.Faults.{Answer}
@@ -48,8 +48,7 @@ module _ {F X W : Type 0} {into : W → Written} {join : Meaning} {joins : Work}
   pub items_done : length xs ≤ i → Writes into (All into join joins item each slots all) old s None
       × (count ≡ n + Pieces into join joins item each slots all)
   items_done h = (
-    goes_on _ _ _ _ _ _ _ p.so_far p.same
-        (record { outcome = rw (drop_all i xs h) (nothing_done _); same = same_end s }),
+    goes_on _ _ _ _ _ _ _ p.so_far p.same (search (rules, drop_all i xs h, nothing_done, same_end)),
     omega (arith, rw (drop_all i xs h) at p.gone),
   )
 
@@ -65,8 +64,7 @@ module _ {F X W : Type 0} {into : W → Written} {join : Meaning} {joins : Work}
     pub join_stops : {t : Sink W} {q : Answer} {now : ℕ} → Writes into join s t (Some q)
         → now ≤ count + joins.pieces → Ends t q now
     join_stops o most = (
-      goes_on _ _ _ _ _ _ _ p.so_far p.same
-          (record { outcome = rw next_item (fault_first _ _ _ _ _ o.outcome); same = o.same }),
+      goes_on _ _ _ _ _ _ _ p.so_far p.same (search (rules, next_item, fault_first)),
       grind (arith, rw next_item at p.gone),
     )
 
@@ -76,11 +74,8 @@ module _ {F X W : Type 0} {into : W → Written} {join : Meaning} {joins : Work}
       pub item_stops : {q : Answer} → Writes into (item (slots x)) t u (Some q)
           → now ≤ mid + (each (slots x)).pieces → Ends u q now
       item_stops o most = (
-        goes_on _ _ _ _ _ _ _ p.so_far p.same (record {
-          outcome =
-              rw next_item (and_then _ _ _ _ _ _ j.outcome (fault_first _ _ _ _ _ o.outcome));
-          same = same_then _ _ _ j.same o.same;
-        }),
+        goes_on _ _ _ _ _ _ _ p.so_far p.same
+            (search (rules, next_item, and_then, fault_first, same_then)),
         grind (arith, rw next_item at p.gone, no_fault _ _ _ j.outcome),
       )
 

@@ -105,8 +105,8 @@ module _ (n : ℕ) {X : Type 0} (shows : X → Trait → Spec → Shown) where
     node_within : (x : Node) (e : Environment X) → NodeLies n x → Within n (node_means shows e x)
     node_within (node place end kind None item join) e h = record { stands = tt; faults = tt }
     node_within (node place end kind (Some held) item join) e h =
-        content_within (join_branch_means shows e join) (join_within join e h.2) e kind held
-        (item_branch_means shows e item) h.0 (λ q x l. item_within item e q x l h.1)
+        content_within _ (join_within join e h.2) e kind held _ h.0
+        (λ q x l. item_within item e q x l h.1)
 
     join_within : (b : Branch) (e : Environment X) → BranchLies n b
         → Within n (join_branch_means shows e b)

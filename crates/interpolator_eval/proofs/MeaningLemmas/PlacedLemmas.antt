@@ -1,14 +1,12 @@
 -- What a writer leaves of a text whose characters have places.
 use Rattle.interpolator_render.proofs.LayoutLemmas.{appends_none}
 use Rattle.std.proofs.Common.{rules, ◌≡◌, refl, ◌∙◌, ℕ, ◌+◌, ◌<◌, List, [], ◌∷◌, ◌++◌, length, None}
-use Rattle.std.proofs.Common.{Some, inl, inr, arith, Ok, Err}
+use Rattle.std.proofs.Common.{Some, inl, inr, arith, Err}
 use Rattle.std.proofs.lemmas.List.{map-append}
 use Rattle.std.specs.Char.{len_utf8}
-use Rattle.interpolator_render.specs.declared.view.Spec.{Spec}
 use Rattle.interpolator_render.specs.declared.view.Trait.{Trait}
 use Rattle.interpolator_render.specs.declared.view.RenderFault.{RenderFault}
 use Rattle.interpolator_render.specs.declared.view.RenderFault.TheVariants as render_faults
-use Rattle.interpolator_render.specs.Padding.{padded_text, displayed_text}
 use Rattle.interpolator_render.specs.Texts.{ViewText, Renders, view_text}
 use Rattle.interpolator_render.specs.Views.{some_text}
 use Rattle.interpolator_render.specs.declared.view.Trait.TheVariants.{Display}
@@ -89,12 +87,7 @@ pub taken_fits :
     (cs : List ℕ) (taken : ℕ) (old new : Written) → Refuses old cs taken new → taken < size cs + 1
 taken_fits cs taken old new h = grind (arith, size-append, length-encodes)
 
--- a view was written whole, or refused
-pub view_wrote :
-    (t : Trait) (p : ℕ) (m : ViewText) (old new : Written) (u : Unit {0}) → Renders m old (Ok u) new
-    → Outcome (view_means t p m) old new None
-view_wrote t p m old new u h = grind (arith, wrote_at)
-
+-- a view was refused
 pub view_refused : (t : Trait) (p : ℕ) (m : ViewText) (old new : Written)
     → Renders m old (Err render_faults.Refused) new
     → Outcome (view_means t p m) old new (Some (fault (fmt p)))
@@ -111,14 +104,3 @@ pub plain_text_means : (p : ℕ) (cs : List ℕ)
     → view_means Display p (view_text (some_text cs) Display plain_spec) ≡ text_alone (placed_at p cs)
 unfolding view_text
 plain_text_means p cs = search (rules, displayed_as_it_is)
-
--- a padded text was written whole, or refused
-module _ (spec : Spec) (cs : List ℕ) (p : ℕ) (old new : Written) (none : spec.precision
-    ≡ None) where
-  pub pad_wrote : Appends old (displayed_text spec cs) new
-      → Outcome (text_alone (placed_at p (padded_text spec cs))) old new None
-  pad_wrote h = grind (arith, wrote_at)
-
-  pub pad_refused : AppendsBeginning old (displayed_text spec cs) new
-      → Outcome (text_alone (placed_at p (padded_text spec cs))) old new (Some (fault (fmt p)))
-  pad_refused h = grind (arith, refused_at)

@@ -1,6 +1,6 @@
 -- Pieces split into those before the first list and those from it on: what they mean, how many are
 -- gone through, and how many there are.
-use Rattle.std.proofs.Common.{◌≡◌, ◌∙◌, refl, sym, arith, ℕ, suc, ◌+◌, ◌<◌, ◌≤◌, Option}
+use Rattle.std.proofs.Common.{rules, ◌≡◌, ◌∙◌, refl, sym, arith, ℕ, suc, ◌+◌, ◌<◌, ◌≤◌, Option}
 use Rattle.std.proofs.Common.{None, Some, if◌then◌else◌}
 use Rattle.interpolator_render.specs.Written.{Written}
 use Rattle.interpolator_render.specs.declared.view.Trait.{Trait}
@@ -126,10 +126,7 @@ module _ {X : Type 0} {shows : X → Trait → Spec → Shown} {e : Environment 
       → mid ≤ count + Gone shows e (before_list xs)
       → Writes written (All shows e all) old t (Some q) × (mid ≤ n + Gone shows e all)
   before_ends o most = (
-    goes_on _ _ _ _ _ _ _ p.so_far p.same (record {
-      outcome = rw (means_split shows e xs) (fault_first _ _ _ _ _ o.outcome);
-      same = o.same;
-    }),
+    goes_on _ _ _ _ _ _ _ p.so_far p.same (search (rules, means_split shows e xs, fault_first)),
     omega (arith, p.gone, before_stops shows e xs),
   )
 
@@ -138,11 +135,8 @@ module _ {X : Type 0} {shows : X → Trait → Spec → Shown} {e : Environment 
     pub all_done : from_list xs ≡ no_nodes → mid ≡ count + Gone shows e (before_list xs)
         → Writes written (All shows e all) old t None × (mid ≡ n + Gone shows e all)
     all_done none exact = (
-      goes_on _ _ _ _ _ _ _ p.so_far p.same (record {
-        outcome = rw (means_split shows e xs, none)
-            (and_then _ _ _ _ _ _ before.outcome (nothing_done _));
-        same = before.same;
-      }),
+      goes_on _ _ _ _ _ _ _ p.so_far p.same
+          (search (rules, means_split shows e xs, none, and_then, nothing_done)),
       grind (arith, p.gone, before_goes shows e xs (no_fault _ _ _ before.outcome)),
     )
 
@@ -153,11 +147,8 @@ module _ {X : Type 0} {shows : X → Trait → Spec → Shown} {e : Environment 
           → now ≤ mid + (list_work shows e x).pieces
           → Writes written (All shows e all) old u (Some q) × (now ≤ n + Gone shows e all)
       list_ends o most = (
-        goes_on _ _ _ _ _ _ _ p.so_far p.same (record {
-          outcome = rw (list_split shows e x after xs h)
-              (and_then _ _ _ _ _ _ before.outcome (fault_first _ _ _ _ _ o.outcome));
-          same = same_then _ _ _ before.same o.same;
-        }),
+        goes_on _ _ _ _ _ _ _ p.so_far p.same
+            (search (rules, list_split shows e x after xs h, and_then, fault_first, same_then)),
         grind (
           arith,
           p.gone,
