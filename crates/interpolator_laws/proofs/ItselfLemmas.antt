@@ -1,5 +1,5 @@
 -- Each context resembles itself.
-use Rattle.std.proofs.Common.{◌≡◌, ℕ, List, [], ◌∷◌, Option, Some, None, All, inl, inr}
+use Rattle.std.proofs.Common.{arith, ◌≡◌, ℕ, List, [], ◌∷◌, Option, Some, None, All, inl, inr}
 use Rattle.std.proofs.lemmas.List.Elements.{All-cons, All-nil}
 use Rattle.interpolator_render.specs.Views.{Shown}
 use Rattle.interpolator_render.specs.declared.view.Spec.{Spec}
@@ -16,16 +16,11 @@ use Rattle.interpolator_pieces.specs.NodeSamples.{faults_over}
 use Rattle.interpolator_laws.proofs.ResembleLemmas.{no_fault}
 
 module _ {X : Type 0} (shows : X → Trait → Spec → Shown) where
-  slot_itself : (t : Trait) (x : Option X) → ResemblesSlot shows shows t x x
-  slot_itself t None = tt
-  slot_itself t (Some x) = λ spec h. h
-
   mutual
     -- a tree resembles itself
     itself : (t : Slots X) → Resembles shows shows t t
-    itself (bare filled) = λ t. slot_itself t (slot_at t filled)
-    itself (listed filled ts) =
-        (λ t. slot_itself t (slot_at t filled), each_some ts ts (λ item h. h))
+    itself (bare filled) = grind arith
+    itself (listed filled ts) = (λ t. grind arith, each_some ts ts (λ item h. h))
 
     -- each of these trees resembles one of all
     each_some : (ts all : SlotsList X)
@@ -38,14 +33,10 @@ module _ {X : Type 0} (shows : X → Trait → Spec → Shown) where
         (lift t (inl (itself t)))
         (each_some ts all (λ item h. lift item (inr h)))
 
-  found_itself : (found : Option (Slots X)) → ResemblesFound shows shows found found
-  found_itself None = tt
-  found_itself (Some t) = itself t
-
   pub resembles_itself : (e : Environment X) (names : List (List ℕ))
       → ResemblesOn shows shows e e names
   resembles_itself e [] = tt
-  resembles_itself e (name ∷ names) = (found_itself (slots_under e name), resembles_itself e names)
+  resembles_itself e (name ∷ names) = grind (arith, itself, resembles_itself e names)
 
   -- so a format without a fault against some values means none with them
   pub no_fault_itself : (finds : List ℕ → Option (Slots X)) (a : At)
