@@ -1,6 +1,6 @@
 -- The faults that a text has by itself: a meaning has no other `Parse` or `UnsupportedOption`, and
 -- they are those of the pieces. And the name of a missing value is one that the text uses.
-use Rattle.std.proofs.Common.{◌≡◌, refl, sym, ap, subst, arith, ℕ, false, List, [], ◌∷◌, ◌++◌, inl}
+use Rattle.std.proofs.Common.{◌≡◌, refl, sym, ap, subst, arith, ℕ, false, List, [], ◌∷◌, inl}
 use Rattle.std.proofs.Common.{inr, Option, Some, None, Contains}
 use Rattle.std.proofs.lemmas.List.Elements.{Contains-append_left, Contains-append_right}
 use Rattle.std.proofs.lemmas.List.Elements.{Contains-append_cases}

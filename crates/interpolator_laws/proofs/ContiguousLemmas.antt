@@ -1,6 +1,6 @@
 -- The nodes of a text follow one another, and those of a group are in their argument.
 use Rattle.std.proofs.Common.{◌≡◌, ℕ, ◌+◌, ◌<◌, ◌≤◌, List, [], ◌∷◌, length, length-append, arith}
-use Rattle.std.proofs.Common.{refl, ap, sym, subst, Option, Some, None, Result, Ok, Err}
+use Rattle.std.proofs.Common.{refl, sym, subst, Option, Some, None, Result, Ok, Err}
 use Rattle.std.proofs.lemmas.Str.{len_utf8_bounds}
 use Rattle.std.specs.Prelude.{⊤}
 use Rattle.interpolator_syntax.specs.ArgumentGrammar.{Asks, request_in}
@@ -134,14 +134,7 @@ goes_on : (a : At) (w : Token × At) → first_token a ≡ Some w
     → a.place < (past_token w.0 w.1).place
 goes_on a w e =
     let t = scan_taken a w e in
-    omega (
-      arith,
-      t.place,
-      ap length t.split,
-      length-append t.front (past_token w.0 w.1).text,
-      length_le_size t.front,
-      scan_shorter a _ w e refl,
-    )
+    grind (arith, t, length-append, length_le_size t.front, scan_shorter a _ w e refl)
 
 nothing_left : (a : At) → first_token a ≡ None → a.place ≡ a.place + size a.text
 nothing_left a e = grind (arith, texts a, hands_nothing a e)

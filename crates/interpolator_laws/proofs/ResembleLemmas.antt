@@ -1,6 +1,6 @@
 -- A format that has no fault against a sample means none in a context that resembles it.
 use Rattle.std.proofs.Common.{◌≡◌, refl, arith, ℕ, Bool, true, false, ◌||◌, List, [], ◌∷◌, ◌++◌}
-use Rattle.std.proofs.Common.{length, take, Option, Some, None, is_some, inl, inr, ◌⊎◌, option_map}
+use Rattle.std.proofs.Common.{length, take, Option, Some, None, is_some, inl, inr, ◌⊎◌}
 use Rattle.std.proofs.Common.{if◌then◌else◌, All, unwrap_or}
 use Rattle.std.proofs.lemmas.List.Elements.{All-head, All-tail, All-take, All-drop}
 use Rattle.std.specs.List.{list_any}
@@ -18,7 +18,7 @@ use Rattle.interpolator_syntax.specs.Nodes.{target_list}
 use Rattle.interpolator_syntax.specs.SpecTexts.{plain_spec}
 use Rattle.interpolator_syntax.specs.declared.piece_kind.PieceKind.{PieceKind}
 use Rattle.interpolator_syntax.specs.declared.range.Range.{Range}
-use Rattle.interpolator_eval.specs.Slots.{Slots, SlotsList, bare, listed, no_slots, slots_and}
+use Rattle.interpolator_eval.specs.Slots.{Slots, SlotsList, listed, no_slots, slots_and}
 use Rattle.interpolator_eval.specs.Slots.{values_of, items, slot_at, slots_listed}
 use Rattle.interpolator_eval.specs.Meaning.AskedNames.{asked_names, context_names, content_names}
 use Rattle.interpolator_eval.specs.Meaning.AskedNames.{node_asks, branch_asks, forest_asks}
@@ -31,8 +31,8 @@ use Rattle.interpolator_eval.specs.Meaning.Meanings.{listed_means, means, and_cl
 use Rattle.interpolator_eval.specs.Meaning.Meanings.{node_means, join_branch_means}
 use Rattle.interpolator_eval.specs.Meaning.Meanings.{item_branch_means, forest_means}
 use Rattle.interpolator_eval.specs.Meaning.Resembling.{IsListOf, Resembles, ResemblesSome}
-use Rattle.interpolator_eval.specs.Meaning.Resembling.{ResemblesFound, ResemblesOn}
-use Rattle.interpolator_eval.specs.Meaning.Samples.{Sample, sample, bind_each, alone}
+use Rattle.interpolator_eval.specs.Meaning.Resembling.{ResemblesOn}
+use Rattle.interpolator_eval.specs.Meaning.Samples.{Sample, sample, bind_each}
 use Rattle.interpolator_eval.specs.Meaning.Samples.{candidates_under, items_of_all, has_no_list}
 use Rattle.interpolator_pieces.specs.NodeChecks.{fault_list, own_fault, end_fault}
 use Rattle.interpolator_pieces.specs.NodeSamples.{fault_if, plain_faults, faults_over, content_pads}
@@ -102,9 +102,8 @@ module _ {X Y : Type 0} (shows : X → Trait → Spec → Shown) (others : Y →
         → value_faults shows t spec end xs ≡ [] → SomeLike u xs
         → Fine pads (value_means others t spec q (slot_at t (values_of u)))
     fine_value t spec end q pads [] u none h = absurd h
-    fine_value t spec end q pads (x ∷ xs) u none (inl r) = grind arith
-    fine_value t spec end q pads (x ∷ xs) u none (inr h) =
-        fine_value t spec end q pads xs u (grind arith) h
+    fine_value t spec end q pads (x ∷ xs) u none h =
+        grind (arith, fine_value t spec end q pads xs u)
 
     -- an item without a format
     fine_plain : (s : Sample X) (held : Content) (q : ℕ) (u : Slots Y)

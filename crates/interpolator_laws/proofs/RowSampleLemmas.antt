@@ -1,5 +1,5 @@
 -- A row means what pairs of its names and values mean, and resembles a sample if they do.
-use Rattle.std.proofs.Common.{◌≡◌, ◌≢◌, ◌∙◌, refl, sym, ap, ℕ, Bool, false, cond, List, [], ◌∷◌}
+use Rattle.std.proofs.Common.{◌≡◌, ◌≢◌, refl, sym, ℕ, Bool, false, cond, List, [], ◌∷◌}
 use Rattle.std.proofs.Common.{◌≤◌, length, map, arith, Option, Some, None, option_map, rules, Bor}
 use Rattle.std.proofs.Common.{find, zip, option_and_then, reverse, bytes_eq, encode_utf8_all}
 use Rattle.std.proofs.lemmas.List.{reverse-append}
