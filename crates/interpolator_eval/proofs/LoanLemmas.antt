@@ -1,17 +1,14 @@
 -- What an insertion into a map of names leaves, and what a loan of a value does.
-use Rattle.std.proofs.Common.{◌≡◌, ◌≢◌, refl, sym, ◌∙◌, ℕ, ◌+◌, List, Option, None, Some}
-use Rattle.std.proofs.Common.{true, false, arith, String, Global}
-use Rattle.std.specs.Borrow.{Bor, MutBor}
-use Rattle.std.specs.Option.{option_copied, option_copied_mut, is_some, OnSome}
-use Rattle.std.specs.Str.{bytes_eq, encode_utf8_all}
-use Rattle.std.specs.String.{string_bytes, string_eq}
-use Rattle.std.specs.Prelude.{if◌then◌else◌}
+use Rattle.std.proofs.Common.{◌≡◌, ◌≢◌, refl, ℕ, ◌+◌, List, Option, None, Some, false, arith}
+use Rattle.std.proofs.Common.{String, Global, Bor, MutBor, option_copied, is_some, OnSome, bytes_eq}
+use Rattle.std.proofs.Common.{encode_utf8_all, string_bytes, string_eq, if◌then◌else◌}
+use Rattle.std.specs.Option.{option_copied_mut}
 use Rattle.std.specs.HashMap.{get_by_text, WritesThrough, Updates, UpdatesBy}
 use Rattle.std.proofs.lemmas.Bool.{false_from_ne_true}
 use Rattle.std.proofs.lemmas.Map.Text.{hash_map_updates_text}
 use Rattle.std.proofs.lemmas.Slice.Eq.{bytes_eq-Decides}
 use Rattle.std.proofs.lemmas.Str.{encodes_same}
-use Rattle.interpolator_eval.specs.NameMaps.{under, name_count, HasPut, IsSame, HasAdded, IsEntry}
+use Rattle.interpolator_eval.specs.NameMaps.{under, name_count, HasPut}
 use Rattle.interpolator_eval.specs.declared.context_map.NameMap.{NameMap}
 
 -- two names with the same bytes are the same name
@@ -26,10 +23,11 @@ module _ {T : Type 0} where
       → UpdatesBy string_eq (λ key. bytes_eq bytes (string_bytes key)) old.map new.map value
       → (other : List ℕ) → other ≢ name → under new other ≡ under old other
   others_kept old new name bytes value spelt updates other differs =
-      let unequal : bytes_eq bytes (encode_utf8_all other) ≡ false =
-      rw spelt (other_bytes name other differs) in
-      hash_map_updates_text bytes old.map new.map value updates (encode_utf8_all other)
-      ∙ rw unequal refl
+      rw (
+        hash_map_updates_text bytes old.map new.map value updates (encode_utf8_all other),
+        spelt,
+        other_bytes name other differs,
+      ) refl
 
   -- what was written through a loan of the value under a name
   pub lent_in :
@@ -46,9 +44,6 @@ module _ {T : Type 0} where
         count = rw (← value) (grind (arith, writes.2));
       }
 
-  pub same : (old new : NameMap T) → new.map ≡ old.map → IsSame old new
-  same old new e = grind arith
-
   -- what an insertion under a name leaves
   pub put_in : (old new : NameMap T) (key : String Global) (name : List ℕ) (value : T)
       (replaced : Option T)
@@ -59,7 +54,7 @@ module _ {T : Type 0} where
   put_in old new key name value replaced spelt updates was count = record {
     here = rw (← spelt) updates.1;
     others = others_kept old new name (string_bytes key) (Some value) spelt updates;
-    count = let stood : under old name ≡ replaced = rw (← spelt) (sym was) in rw stood count;
+    count = rw (← spelt, ← was) count;
   }
 
   -- what a look-up that finds nothing says
@@ -68,29 +63,3 @@ module _ {T : Type 0} where
       → option_copied found ≡ under old name
       → is_some found ≡ false → under old name ≡ None
   absent_name old name found value e = grind arith
-
-  module _ (IsDefault : T → Type 0) where
-    -- a name that was there
-    pub kept :
-        (old : NameMap T) (name : List ℕ) (found : Option (Bor T))
-        → option_copied found ≡ under old name
-        → is_some found ≡ true → HasAdded IsDefault old name old
-    kept old name found value e = grind arith
-
-    -- a name that was absent
-    pub new_name :
-        (old new : NameMap T) (name : List ℕ) (value : T) → under old name ≡ None → IsDefault value
-        → HasPut old name value new → HasAdded IsDefault old name new
-    new_name old new name value e default put = grind arith
-
-    -- the last value after a loan of a name that was put in first
-    pub put_after :
-        (old added new : NameMap T) (name : List ℕ) (last : T) → HasAdded IsDefault old name added
-        → HasPut added name last new → HasPut old name last new
-    put_after old added new name last adds written = grind arith
-
-    -- the value that is lent for a name that was put in first
-    pub value_after :
-        (old added : NameMap T) (name : List ℕ) (lent : T) → HasAdded IsDefault old name added
-        → Some lent ≡ under added name → IsEntry IsDefault old name lent
-    value_after old added name lent adds found = grind arith

@@ -15,8 +15,6 @@ pub mod OutcomeLemmas
 pub mod PlacedLemmas
 pub mod PlaceLemmas
 pub mod SampleLemmas
-pub mod EnvironmentLemmas
 pub mod ScanLemmas
 pub mod SinkLemmas
 pub mod SourceLemmas
-pub mod WorkLemmas

@@ -1,5 +1,5 @@
 -- A list that is cut into rows.
-use Rattle.std.proofs.Common.{◌≡◌, sym, ◌∙◌, ap, ℕ, ◌-◌, List, map, take, drop, min, length}
+use Rattle.std.proofs.Common.{arith, ◌≡◌, ℕ, ◌-◌, List, map, take, drop, min, length}
 use Rattle.std.proofs.lemmas.List.{take_min, drop_min, drop-map, take-map, take_rest}
 
 -- a slice that is cut at the end of its list is the same as one of the list itself
@@ -7,8 +7,4 @@ pub cut_row : {A B : Type 0} (f : A → B) (xs : List A) (from to a b : ℕ) →
     → b ≡ min from (length (take a xs))
     → map f (take (length (take a xs) - b) (drop b (take a xs))) ≡ drop from (take to (map f xs))
 cut_row f xs from to a b p q =
-    ap (map f) (take_rest (take a xs) b)
-    ∙ ap (λ n. map f (drop n (take a xs))) q
-    ∙ ap (map f) (drop_min from (take a xs) ∙ ap (λ n. drop from (take n xs)) p
-    ∙ ap (drop from) (take_min to xs))
-    ∙ sym (drop-map f from (take to xs)) ∙ ap (drop from) (sym (take-map f to xs))
+    grind (arith, take_rest (take a xs), drop_min, take_min, drop-map, take-map)

@@ -1,7 +1,6 @@
 -- The text of the filled slots' names, while they are written one by one.
-use Rattle.std.proofs.Common.{◌≡◌, refl, arith, ℕ, ◌+◌, ◌<◌, List, [], ◌∷◌, ◌++◌}
-use Rattle.std.proofs.Common.{append_assoc, append-nil, get_or, take, map, Bool, true, false}
-use Rattle.std.specs.Prelude.{filter, codes}
+use Rattle.std.proofs.Common.{◌≡◌, refl, arith, ℕ, ◌+◌, ◌<◌, List, [], ◌∷◌, ◌++◌, append_assoc}
+use Rattle.std.proofs.Common.{append-nil, get_or, take, map, Bool, true, false, filter, codes}
 use Rattle.std.specs.List.{join_by}
 use Rattle.std.specs.Fmt.{HasWrittenStyled, IsFlush}
 use Rattle.std.specs.declared.fmt.Formatter.{Formatter}
@@ -40,10 +39,7 @@ module _ (filled : Trait → Bool) (index : ℕ) (below : index < 9) where
       ≡ names_of filled (take index slot_order)
       ++ names_of filled (get_or slot_order index Binary ∷ [])
   next_names =
-      let passed = take index slot_order in
-      let slot = get_or slot_order index Binary in
-      rw (take_more slot_order index Binary below, filter-append filled passed (slot ∷ []))
-      (map-append slot_name _ _)
+      rw (take_more slot_order index Binary below, filter-append) (map-append slot_name _ _)
 
   -- the name of a slot that is filled comes after the names so far
   pub one_more : filled (get_or slot_order index Binary) ≡ true

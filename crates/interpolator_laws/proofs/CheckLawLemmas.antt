@@ -1,17 +1,16 @@
 -- The faults that a text has by itself: a meaning has no other `Parse` or `UnsupportedOption`, and
 -- they are those of the pieces. And the name of a missing value is one that the text uses.
-use Rattle.std.proofs.Common.{◌≡◌, refl, sym, ap, subst, arith, ℕ, false, List, [], ◌∷◌, ◌++◌, inl, inr}
-use Rattle.std.proofs.Common.{Option, Some, None}
+use Rattle.std.proofs.Common.{◌≡◌, refl, sym, ap, subst, arith, ℕ, false, List, [], ◌∷◌, inl}
+use Rattle.std.proofs.Common.{inr, Option, Some, None, Contains}
 use Rattle.std.proofs.lemmas.List.Elements.{Contains-append_left, Contains-append_right}
 use Rattle.std.proofs.lemmas.List.Elements.{Contains-append_cases}
-use Rattle.std.specs.Prelude.{Contains}
 use Rattle.interpolator_render.specs.Views.{Shown}
 use Rattle.interpolator_render.specs.declared.view.Spec.{Spec}
 use Rattle.interpolator_render.specs.declared.view.Trait.{Trait}
 use Rattle.interpolator_syntax.specs.At.{At}
 use Rattle.interpolator_syntax.specs.Faults.{Fault, missing_value}
-use Rattle.interpolator_syntax.specs.Nodes.{Node, node, Branch, no_branch, branch, Forest}
-use Rattle.interpolator_syntax.specs.Nodes.{no_nodes, nodes_and, as_forest, nodes}
+use Rattle.interpolator_syntax.specs.Nodes.{Node, node, Branch, no_branch, branch, Forest, no_nodes}
+use Rattle.interpolator_syntax.specs.Nodes.{nodes_and, as_forest, nodes}
 use Rattle.interpolator_eval.specs.Slots.{Slots}
 use Rattle.interpolator_eval.specs.Meaning.AskedNames.{asked_names}
 use Rattle.interpolator_eval.specs.Meaning.Environments.{Environment, environment}
@@ -60,15 +59,12 @@ module _ (f : Fault) where
     node_has : (x : Node) → Contains (node_faults x) f → NodeHas f x
     node_has (node place end kind None item join) h = absurd (omega (arith, h.1))
     node_has (node place end kind (Some held) item join) h =
-        let own = fault_list (own_fault held) in
         let last = fault_list (end_fault kind held) in
-        let items = branch_faults item in
-        let joins = branch_faults join in
-        elim (Contains-append_cases own (items ++ (joins ++ last)) f h) [
+        elim (Contains-append_cases (fault_list (own_fault held)) _ f h) [
           | inl k ↦ inl (in_one (own_fault held) f k)
-          | inr k ↦ elim (Contains-append_cases items (joins ++ last) f k) [
+          | inr k ↦ elim (Contains-append_cases (branch_faults item) _ f k) [
             | inl k ↦ inr (inl (branch_has item k))
-            | inr k ↦ elim (Contains-append_cases joins last f k) [
+            | inr k ↦ elim (Contains-append_cases (branch_faults join) last f k) [
               | inl k ↦ inr (inr (inl (branch_has join k)))
               | inr k ↦ inr (inr (inr (in_one (end_fault kind held) f k)))
             ]
@@ -142,8 +138,9 @@ first_of : (f : Fault) (xs : List Node) → first_fault (forest_faults (as_fores
 first_of f [] h = absurd (cc)
 first_of f (x ∷ xs) h = by_faults (first_of f xs) (node_faults x) refl
   where
-    later : FirstFaulty f xs → node_faults x ≡ [] → FirstFaulty f (x ∷ xs)
-    later k e = record {
+    by_faults : (first_fault (forest_faults (as_forest xs)) ≡ Some f → FirstFaulty f xs)
+        → (fs : List Fault) → node_faults x ≡ fs → FirstFaulty f (x ∷ xs)
+    by_faults rest [] e = let k = rest (rw e at h) in record {
       front = x ∷ k.front;
       piece = k.piece;
       back = k.back;
@@ -151,10 +148,6 @@ first_of f (x ∷ xs) h = by_faults (first_of f xs) (node_faults x) refl
       none_before = rw (e) k.none_before;
       told = k.told;
     }
-
-    by_faults : (first_fault (forest_faults (as_forest xs)) ≡ Some f → FirstFaulty f xs)
-        → (fs : List Fault) → node_faults x ≡ fs → FirstFaulty f (x ∷ xs)
-    by_faults rest [] e = later (rest (rw e at h)) e
     by_faults rest (g ∷ gs) e = record {
       front = [];
       piece = x;

@@ -1,8 +1,7 @@
 -- The nodes of a text follow one another, and those of a group are in their argument.
 use Rattle.std.proofs.Common.{◌≡◌, ℕ, ◌+◌, ◌<◌, ◌≤◌, List, [], ◌∷◌, length, length-append, arith}
-use Rattle.std.proofs.Common.{refl, ap, sym}
+use Rattle.std.proofs.Common.{refl, sym, subst, Option, Some, None, Result, Ok, Err}
 use Rattle.std.proofs.lemmas.Str.{len_utf8_bounds}
-use Rattle.std.proofs.Common.{subst, Option, Some, None, Result, Ok, Err}
 use Rattle.std.specs.Prelude.{⊤}
 use Rattle.interpolator_syntax.specs.ArgumentGrammar.{Asks, request_in}
 use Rattle.interpolator_syntax.specs.Arguments.{Argument, argument_at}
@@ -10,8 +9,7 @@ use Rattle.interpolator_syntax.specs.At.{At, size, strip}
 use Rattle.interpolator_syntax.specs.Classes.{close_brace}
 use Rattle.interpolator_syntax.specs.Faults.{Fault}
 use Rattle.interpolator_syntax.specs.Groups.{Group}
-use Rattle.interpolator_syntax.specs.Pieces.{argument_from, argument_or_broken}
-use Rattle.interpolator_syntax.specs.Pieces.{argument_step}
+use Rattle.interpolator_syntax.specs.Pieces.{argument_from, argument_or_broken, argument_step}
 use Rattle.interpolator_syntax.specs.SpecGrammar.{kind}
 use Rattle.interpolator_syntax.specs.SpecTexts.{Kind, of_value, of_list, Request}
 use Rattle.interpolator_syntax.specs.Tokens.{Token, argument, first_token, past_token}
@@ -28,8 +26,7 @@ use Rattle.interpolator_syntax.proofs.ReaderLemmas.{argument_takes}
 use Rattle.interpolator_syntax.proofs.ScanLemmas.{hands_nothing}
 use Rattle.interpolator_syntax.proofs.SizeLemmas.{GroupIfIn, KindIn, argument_in}
 use Rattle.interpolator_syntax.proofs.TokenLemmas.{scan_shorter, token_shorter}
-use Rattle.interpolator_syntax.proofs.NodeLemmas.{by_length, nodes_first}
-use Rattle.interpolator_syntax.proofs.NodeLemmas.{nodes_none}
+use Rattle.interpolator_syntax.proofs.NodeLemmas.{by_length, nodes_first, nodes_none}
 use Rattle.interpolator_syntax.proofs.SplitLemmas.{texts}
 use Rattle.interpolator_syntax.proofs.TokenTextLemmas.{takes_token, scan_taken}
 
@@ -76,8 +73,7 @@ module _ (p end : ℕ) (kind : told.PieceKind) (has : HasGroups kind) (b : At) (
   both_inside : (k : Kind) → KindIn k b → KindBefore end k
       → GroupInside p end kind (item_branch nodes k)
       × GroupInside p end kind (join_branch nodes k)
-  both_inside (of_value t) h k = (tt, tt)
-  both_inside (of_list l) h k = (one_inside l.item h.item k.0, one_inside l.join h.join k.1)
+  both_inside k h l = grind (arith, one_inside)
 
 kind_later : (k : Kind) (m n : ℕ) → m ≤ n → KindBefore m k → KindBefore n k
 kind_later k m n h before = grind (arith, group_later)
@@ -138,14 +134,7 @@ goes_on : (a : At) (w : Token × At) → first_token a ≡ Some w
     → a.place < (past_token w.0 w.1).place
 goes_on a w e =
     let t = scan_taken a w e in
-    omega (
-      arith,
-      t.place,
-      ap length t.split,
-      length-append t.front (past_token w.0 w.1).text,
-      length_le_size t.front,
-      scan_shorter a _ w e refl,
-    )
+    grind (arith, t, length-append, length_le_size t.front, scan_shorter a _ w e refl)
 
 nothing_left : (a : At) → first_token a ≡ None → a.place ≡ a.place + size a.text
 nothing_left a e = grind (arith, texts a, hands_nothing a e)
@@ -156,14 +145,13 @@ first_reaches a w e more =
     let rest = past_token w.0 w.1 in
     let end = a.place + size a.text in
     let reach = takes_reaches _ a rest (scan_taken a w e) refl in
-    let after = subst (λ n. Contiguous rest.place (as_forest (nodes rest)) n) reach
-    (more rest (scan_shorter a _ w e refl)) in
+    let after = rw reach at (more rest (scan_shorter a _ w e refl)) in
     let there = token_stands a.place w.0 w.1 in
     subst (λ xs. Contiguous a.place (as_forest xs) end) (sym (nodes_first a w.1 w.0 e)) (
       there.0,
       rw there.1 (goes_on a w e),
       token_inside a w.0 w.1 e more,
-      subst (λ p. Contiguous p (as_forest (nodes rest)) end) (sym there.1) after,
+      rw there.1 after,
     )
 
 pub nodes_contiguous : (a : At)

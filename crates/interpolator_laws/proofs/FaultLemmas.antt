@@ -1,28 +1,27 @@
 -- What a fault of a meaning comes from: it is one that the text has by itself, or that of a missing
 -- value, unless some value has no slot or fails; and faults in lists of faults.
 use Rattle.std.proofs.lemmas.Grind.{common_steps}
-use Rattle.std.proofs.Common.{◌≡◌, refl, arith, ℕ, Bool, true, false}
-use Rattle.std.proofs.Common.{List, [], ◌∷◌, ◌++◌, Option, Some, None, inl, inr, ◌⊎◌}
+use Rattle.std.proofs.Common.{◌≡◌, refl, arith, ℕ, Bool, true, false, List, ◌∷◌, ◌++◌, Option}
+use Rattle.std.proofs.Common.{Some, None, inl, inr, ◌⊎◌, Contains}
 use Rattle.std.proofs.lemmas.List.Elements.{Contains-append_left, Contains-append_right}
-use Rattle.std.specs.Prelude.{⊤, Contains}
+use Rattle.std.specs.Prelude.{⊤}
 use Rattle.interpolator_render.specs.Views.{Shown}
 use Rattle.interpolator_render.specs.declared.view.Spec.{Spec}
 use Rattle.interpolator_render.specs.declared.view.Trait.{Trait}
 use Rattle.interpolator_render.specs.declared.view.Trait.TheVariants as traits
-use Rattle.interpolator_syntax.specs.Faults.{Fault, missing_trait_impl, fmt}
-use Rattle.interpolator_syntax.specs.Faults.{missing_value}
+use Rattle.interpolator_syntax.specs.Faults.{Fault, missing_trait_impl, fmt, missing_value}
 use Rattle.interpolator_syntax.specs.SpecTexts.{plain_spec}
 use Rattle.interpolator_syntax.specs.Nodes.{Node, node, Branch, no_branch, branch, Forest, no_nodes}
-use Rattle.interpolator_syntax.specs.Nodes.{nodes_and, Content, text_content, argument_content, fault_content}
+use Rattle.interpolator_syntax.specs.Nodes.{nodes_and, Content, argument_content}
 use Rattle.interpolator_syntax.specs.Nodes.{Target, target_value, target_list}
 use Rattle.interpolator_syntax.specs.declared.piece_kind.PieceKind.{PieceKind}
-use Rattle.interpolator_eval.specs.Slots.{Slots, values_of, slot_at}
+use Rattle.interpolator_eval.specs.Slots.{Slots}
 use Rattle.interpolator_eval.specs.Meaning.AskedNames.{context_names, content_names, node_asks}
 use Rattle.interpolator_eval.specs.Meaning.AskedNames.{branch_asks, forest_asks}
 use Rattle.interpolator_eval.specs.Meaning.Environments.{Environment, slots_under, bind}
-use Rattle.interpolator_eval.specs.Meaning.Meanings.{Meaning, chain, value_means, items_after, items_mean}
-use Rattle.interpolator_eval.specs.Meaning.Meanings.{content_means, node_means, join_branch_means}
-use Rattle.interpolator_eval.specs.Meaning.Meanings.{item_branch_means, forest_means}
+use Rattle.interpolator_eval.specs.Meaning.Meanings.{Meaning, join_branch_means, item_branch_means}
+use Rattle.interpolator_eval.specs.Meaning.Meanings.{chain, items_after, items_mean, node_means}
+use Rattle.interpolator_eval.specs.Meaning.Meanings.{value_means, content_means, forest_means}
 use Rattle.interpolator_eval.proofs.MeaningLemmas.EqualLemmas.{bound_same}
 use Rattle.interpolator_pieces.specs.NodeChecks.{fault_list, first_fault, own_fault, end_fault}
 use Rattle.interpolator_pieces.specs.NodeChecks.{node_faults, branch_faults, forest_faults}
@@ -36,8 +35,7 @@ pub one_in : (o : Option Fault) (f : Fault) → o ≡ Some f → Contains (fault
 one_in o f h = grind arith
 
 pub none_in : (xs : List Fault) (f : Fault) → first_fault xs ≡ None → ¬ (Contains xs f)
-none_in [] f h k = absurd (omega (arith, k.1))
-none_in (x ∷ xs) f h k = absurd (cc)
+none_in xs f h k = grind arith
 
 -- among four lists, one after the other
 module _ (xs ys zs ws : List Fault) (f : Fault) where
@@ -89,8 +87,8 @@ module _ (f : Fault) (filled : (t : Trait) (q : ℕ) → ¬ (missing_trait_impl 
     module _ {A : Type 0} (join : Meaning) (item : A → Meaning) (joins : If R join)
         (each : (x : A) → If R (item x)) where
       if_after : (xs : List A) → If R (items_after join item xs)
-      if_after [] e = absurd (cc)
       if_after (x ∷ xs) e = grind (arith, joins, each x, if_after xs)
+      if_after xs e = grind arith
 
       if_items : (xs : List A) → If R (items_mean join item xs)
       if_items xs e = grind (arith, if_after)
@@ -108,8 +106,6 @@ module _ (f : Fault) (filled : (t : Trait) (q : ℕ) → ¬ (missing_trait_impl 
           → missing_value name start ≡ f → R)
           → If R join → ((q : ℕ) (x : Slots X) → If R (item q x))
           → If R (content_means shows e kind held join item)
-      if_content e kind (text_content from cs) join item own last missing j i is = absurd (cc)
-      if_content e kind (fault_content g) join item own last missing j i is = own is
       if_content e kind (argument_content start name spec (target_value t) q) join item own last missing j i
           is =
           grind (arith, last, missing start q name spec (target_value t) refl, if_value)
@@ -123,6 +119,7 @@ module _ (f : Fault) (filled : (t : Trait) (q : ℕ) → ¬ (missing_trait_impl 
             missing start q name spec (target_list range) refl,
             if_items join (item q) j (i q),
           )
+      if_content e kind held join item own last missing j i is = grind (arith, own)
 
   -- the fault is among these, or that of a missing value whose name is one of these, and the
   -- environment gives nothing under it
@@ -182,8 +179,7 @@ module _ (f : Fault) (filled : (t : Trait) (q : ℕ) → ¬ (missing_trait_impl 
 
       item_cause : (x : Branch) (e : Environment X) (q : ℕ) (found : Slots X)
           → If (Cause e (branch_faults x) (branch_asks true x)) (item_branch_means shows e x q found)
-      item_cause no_branch e q found is =
-          if_value _ shows traits.Display plain_spec q (slot_at traits.Display (values_of found)) is
+      item_cause no_branch e q found is = if_value _ shows traits.Display plain_spec q _ is
       item_cause (branch xs) e q found is =
           cause_outside e found (forest_faults xs) (forest_asks true xs)
           (forest_cause xs true (bind e found) (found, refl) is)
@@ -192,13 +188,12 @@ module _ (f : Fault) (filled : (t : Trait) (q : ℕ) → ¬ (missing_trait_impl 
           → If (Cause e (forest_faults xs) (forest_asks in_item xs)) (forest_means shows e xs)
       forest_cause no_nodes in_item e b is = absurd (cc)
       forest_cause (nodes_and x xs) in_item e b is =
-          let first = cause_more e (node_faults x) (node_faults x ++ forest_faults xs) (node_asks in_item x)
-          (node_asks in_item x ++ forest_asks in_item xs)
+          if_joined _ _ _
+          (λ h. cause_more e (node_faults x) _ (node_asks in_item x) _
           (Contains-append_left (node_faults x) (forest_faults xs) f)
-          (Contains-append_left (node_asks in_item x) (forest_asks in_item xs)) in
-          let rest = cause_more e (forest_faults xs) (node_faults x ++ forest_faults xs)
-          (forest_asks in_item xs) (node_asks in_item x ++ forest_asks in_item xs)
+          (Contains-append_left (node_asks in_item x) (forest_asks in_item xs))
+          (node_cause x in_item e b h))
+          (λ h. cause_more e (forest_faults xs) _ (forest_asks in_item xs) _
           (Contains-append_right (node_faults x) (forest_faults xs) f)
-          (Contains-append_right (node_asks in_item x) (forest_asks in_item xs)) in
-          if_joined _ _ _ (λ h. first (node_cause x in_item e b h))
-          (λ h. rest (forest_cause xs in_item e b h)) is
+          (Contains-append_right (node_asks in_item x) (forest_asks in_item xs))
+          (forest_cause xs in_item e b h)) is

@@ -1,18 +1,15 @@
 -- The argument found at a place has it, and none in its groups does; if none is found, none has it.
 use Rattle.std.proofs.Common.{◌≡◌, ◌∙◌, ap, refl, arith, ℕ, ◌<◌, ◌≤◌, Bool, true, false, inl, inr}
-use Rattle.std.proofs.Common.{Option, Some, None}
-use Rattle.std.specs.Prelude.{if◌then◌else◌, unwrap_or, ◌⊎◌}
+use Rattle.std.proofs.Common.{Option, Some, None, if◌then◌else◌, unwrap_or, ◌⊎◌}
 use Rattle.std.specs.Option.{option_or}
 use Rattle.interpolator_syntax.specs.At.{At}
-use Rattle.interpolator_syntax.specs.Nodes.{Node, node, Branch, no_branch, branch}
-use Rattle.interpolator_syntax.specs.Nodes.{Forest, no_nodes, nodes_and, as_forest, nodes, Content}
+use Rattle.interpolator_syntax.specs.Nodes.{Node, node, Branch, no_branch, branch, Forest, no_nodes}
+use Rattle.interpolator_syntax.specs.Nodes.{nodes_and, as_forest, nodes, Content}
 use Rattle.interpolator_syntax.specs.Splits.{Contiguous, GroupsInside, GroupInside, HasGroups}
 use Rattle.interpolator_syntax.specs.Splits.{node_place, node_end}
 use Rattle.interpolator_syntax.specs.declared.piece_kind.PieceKind.{PieceKind}
-use Rattle.interpolator_syntax.specs.declared.piece_kind.PieceKind.TheVariants as kinds
-use Rattle.interpolator_pieces.specs.NodePlaces.{has_place, node_has, innermost, argument_in}
-use Rattle.interpolator_pieces.specs.NodePlaces.{argument_among, InForest, InGroups, InBranch}
-use Rattle.interpolator_pieces.specs.NodePlaces.{IsInnermost}
+use Rattle.interpolator_pieces.specs.NodePlaces.{has_place, innermost, InForest, InGroups, InBranch}
+use Rattle.interpolator_pieces.specs.NodePlaces.{node_has, argument_in, argument_among, IsInnermost}
 use Rattle.interpolator_syntax.proofs.CaseLemmas.{some_same}
 use Rattle.interpolator_laws.proofs.ContiguousLemmas.{nodes_contiguous}
 
@@ -21,10 +18,7 @@ use Rattle.interpolator_laws.proofs.ContiguousLemmas.{nodes_contiguous}
 -- a node that has a place has it between its bytes
 kind_reaches : (place from end : ℕ) (kind : PieceKind) → has_place place from end kind ≡ true
     → (from < place) × (place ≤ end)
-kind_reaches place from end kinds.Closed h = grind arith
-kind_reaches place from end kinds.Unclosed h = grind arith
-kind_reaches place from end kinds.Broken h = grind arith
-kind_reaches place from end kind h = absurd (cc)
+kind_reaches place from end kind h = grind arith
 
 reaches : (place : ℕ) (x : Node) → node_has place x ≡ true
     → (node_place x < place) × (place ≤ node_end x)
@@ -33,9 +27,7 @@ reaches place (node from end kind held item join) h = kind_reaches place from en
 -- an argument with groups has every place between its first byte and its last
 kind_has : (place from end : ℕ) (kind : PieceKind) → HasGroups kind → from < place → place < end
     → has_place place from end kind ≡ true
-kind_has place from end kinds.Closed g l m = grind arith
-kind_has place from end kinds.Unclosed g l m = grind arith
-kind_has place from end kind g l m = absurd g
+kind_has place from end kind g l m = grind arith
 
 -- nodes end at or behind the place at which they begin
 goes_up : (p : ℕ) (xs : Forest) (end : ℕ) → Contiguous p xs end → p ≤ end

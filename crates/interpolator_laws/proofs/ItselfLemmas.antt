@@ -1,31 +1,25 @@
 -- Each context resembles itself.
-use Rattle.std.proofs.Common.{◌≡◌, ℕ, List, [], ◌∷◌, Option, Some, None, All, inl, inr}
+use Rattle.std.proofs.Common.{arith, ◌≡◌, ℕ, List, [], ◌∷◌, Option, None, All, inl, inr}
 use Rattle.std.proofs.lemmas.List.Elements.{All-cons, All-nil}
 use Rattle.interpolator_render.specs.Views.{Shown}
 use Rattle.interpolator_render.specs.declared.view.Spec.{Spec}
 use Rattle.interpolator_render.specs.declared.view.Trait.{Trait}
 use Rattle.interpolator_syntax.specs.At.{At}
 use Rattle.interpolator_eval.specs.Meaning.AskedNames.{asked_names}
-use Rattle.interpolator_eval.specs.Meaning.Environments.{Environment, environment, slots_under}
+use Rattle.interpolator_eval.specs.Meaning.Environments.{Environment, environment}
 use Rattle.interpolator_eval.specs.Meaning.Meanings.{means}
-use Rattle.interpolator_eval.specs.Meaning.Resembling.{Resembles, ResemblesFound, ResemblesOn}
-use Rattle.interpolator_eval.specs.Meaning.Resembling.{ResemblesSlot, ResemblesSome}
+use Rattle.interpolator_eval.specs.Meaning.Resembling.{Resembles, ResemblesOn, ResemblesSome}
 use Rattle.interpolator_eval.specs.Slots.{Slots, SlotsList, bare, listed, no_slots, slots_and}
-use Rattle.interpolator_eval.specs.Slots.{slot_at, slots_listed}
+use Rattle.interpolator_eval.specs.Slots.{slots_listed}
 use Rattle.interpolator_pieces.specs.NodeSamples.{faults_over}
 use Rattle.interpolator_laws.proofs.ResembleLemmas.{no_fault}
 
 module _ {X : Type 0} (shows : X → Trait → Spec → Shown) where
-  slot_itself : (t : Trait) (x : Option X) → ResemblesSlot shows shows t x x
-  slot_itself t None = tt
-  slot_itself t (Some x) = λ spec h. h
-
   mutual
     -- a tree resembles itself
     itself : (t : Slots X) → Resembles shows shows t t
-    itself (bare filled) = λ t. slot_itself t (slot_at t filled)
-    itself (listed filled ts) =
-        (λ t. slot_itself t (slot_at t filled), each_some ts ts (λ item h. h))
+    itself (bare filled) = grind arith
+    itself (listed filled ts) = (λ t. grind arith, each_some ts ts (λ item h. h))
 
     -- each of these trees resembles one of all
     each_some : (ts all : SlotsList X)
@@ -38,14 +32,10 @@ module _ {X : Type 0} (shows : X → Trait → Spec → Shown) where
         (lift t (inl (itself t)))
         (each_some ts all (λ item h. lift item (inr h)))
 
-  found_itself : (found : Option (Slots X)) → ResemblesFound shows shows found found
-  found_itself None = tt
-  found_itself (Some t) = itself t
-
   pub resembles_itself : (e : Environment X) (names : List (List ℕ))
       → ResemblesOn shows shows e e names
   resembles_itself e [] = tt
-  resembles_itself e (name ∷ names) = (found_itself (slots_under e name), resembles_itself e names)
+  resembles_itself e (name ∷ names) = grind (arith, itself, resembles_itself e names)
 
   -- so a format without a fault against some values means none with them
   pub no_fault_itself : (finds : List ℕ → Option (Slots X)) (a : At)

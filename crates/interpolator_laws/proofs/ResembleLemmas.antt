@@ -1,10 +1,10 @@
 -- A format that has no fault against a sample means none in a context that resembles it.
-use Rattle.std.proofs.Common.{◌≡◌, refl, arith, ℕ, Bool, true}
-use Rattle.std.proofs.Common.{false, ◌||◌, List, [], ◌∷◌, ◌++◌, length, take, Option, Some, None}
-use Rattle.std.proofs.Common.{is_some, inl, inr, ◌⊎◌, option_map}
+use Rattle.std.proofs.Common.{◌≡◌, refl, arith, ℕ, Bool, true, false, ◌||◌, List, [], ◌∷◌, ◌++◌}
+use Rattle.std.proofs.Common.{length, take, Option, Some, None, is_some, inl, inr, ◌⊎◌}
+use Rattle.std.proofs.Common.{if◌then◌else◌, All, unwrap_or}
 use Rattle.std.proofs.lemmas.List.Elements.{All-head, All-tail, All-take, All-drop}
 use Rattle.std.specs.List.{list_any}
-use Rattle.std.specs.Prelude.{⊤, if◌then◌else◌, All, unwrap_or}
+use Rattle.std.specs.Prelude.{⊤}
 use Rattle.interpolator_render.specs.Views.{Shown}
 use Rattle.interpolator_render.specs.declared.view.Spec.{Spec}
 use Rattle.interpolator_render.specs.declared.view.Trait.{Trait}
@@ -12,39 +12,34 @@ use Rattle.interpolator_render.specs.declared.view.Trait.TheVariants as traits
 use Rattle.interpolator_syntax.specs.At.{At}
 use Rattle.interpolator_syntax.specs.Faults.{Fault, parse, iter}
 use Rattle.interpolator_syntax.specs.Nodes.{Node, node, Branch, no_branch, branch, Forest, no_nodes}
-use Rattle.interpolator_syntax.specs.Nodes.{nodes_and, as_forest, nodes, Content, text_content, argument_content, fault_content}
-use Rattle.interpolator_syntax.specs.Nodes.{Target, target_value, target_list}
+use Rattle.interpolator_syntax.specs.Nodes.{nodes_and, as_forest, nodes, Content, text_content}
+use Rattle.interpolator_syntax.specs.Nodes.{argument_content, fault_content, Target, target_value}
+use Rattle.interpolator_syntax.specs.Nodes.{target_list}
 use Rattle.interpolator_syntax.specs.SpecTexts.{plain_spec}
 use Rattle.interpolator_syntax.specs.declared.piece_kind.PieceKind.{PieceKind}
 use Rattle.interpolator_syntax.specs.declared.range.Range.{Range}
-use Rattle.interpolator_eval.specs.Slots.{Slots, SlotsList, bare, listed, no_slots, slots_and}
+use Rattle.interpolator_eval.specs.Slots.{Slots, SlotsList, listed, no_slots, slots_and}
 use Rattle.interpolator_eval.specs.Slots.{values_of, items, slot_at, slots_listed}
-use Rattle.interpolator_eval.specs.Meaning.AskedNames.{asked_names}
+use Rattle.interpolator_eval.specs.Meaning.AskedNames.{asked_names, context_names, content_names}
+use Rattle.interpolator_eval.specs.Meaning.AskedNames.{node_asks, branch_asks, forest_asks}
 use Rattle.interpolator_eval.specs.Meaning.Choices.{chosen_items, chosen_places}
 use Rattle.interpolator_eval.specs.Meaning.Environments.{Environment, slots_under, bind}
 use Rattle.interpolator_eval.specs.Meaning.Environments.{environment}
-use Rattle.interpolator_eval.specs.Meaning.Meanings.{Meaning, chain}
-use Rattle.interpolator_eval.specs.Meaning.Meanings.{value_means, forbids_list}
-use Rattle.interpolator_eval.specs.Meaning.Meanings.{items_after, items_mean, under_name, listed_means}
-use Rattle.interpolator_eval.specs.Meaning.Meanings.{means}
-use Rattle.interpolator_eval.specs.Meaning.Resembling.{IsListOf}
-use Rattle.interpolator_eval.specs.Meaning.Resembling.{Resembles, ResemblesSome}
-use Rattle.interpolator_eval.specs.Meaning.Resembling.{ResemblesFound, ResemblesOn}
-use Rattle.interpolator_eval.specs.Meaning.Samples.{Sample, sample, bind_each, alone}
-use Rattle.interpolator_eval.specs.Meaning.Samples.{candidates_under}
-use Rattle.interpolator_eval.specs.Meaning.Samples.{items_of_all, has_no_list}
+use Rattle.interpolator_eval.specs.Meaning.Meanings.{Meaning, chain, value_means, forbids_list}
+use Rattle.interpolator_eval.specs.Meaning.Meanings.{items_after, items_mean, under_name}
+use Rattle.interpolator_eval.specs.Meaning.Meanings.{listed_means, means, and_closed, content_means}
+use Rattle.interpolator_eval.specs.Meaning.Meanings.{node_means, join_branch_means}
+use Rattle.interpolator_eval.specs.Meaning.Meanings.{item_branch_means, forest_means}
+use Rattle.interpolator_eval.specs.Meaning.Resembling.{IsListOf, Resembles, ResemblesSome}
+use Rattle.interpolator_eval.specs.Meaning.Resembling.{ResemblesOn}
+use Rattle.interpolator_eval.specs.Meaning.Samples.{Sample, sample, bind_each}
+use Rattle.interpolator_eval.specs.Meaning.Samples.{candidates_under, items_of_all, has_no_list}
 use Rattle.interpolator_pieces.specs.NodeChecks.{fault_list, own_fault, end_fault}
-use Rattle.interpolator_eval.specs.Meaning.Meanings.{and_closed, content_means, node_means}
-use Rattle.interpolator_eval.specs.Meaning.Meanings.{join_branch_means, item_branch_means}
-use Rattle.interpolator_eval.specs.Meaning.Meanings.{forest_means}
-use Rattle.interpolator_eval.specs.Meaning.AskedNames.{context_names, content_names, node_asks}
-use Rattle.interpolator_eval.specs.Meaning.AskedNames.{branch_asks, forest_asks}
-use Rattle.interpolator_pieces.specs.NodeSamples.{fault_if, may_be_items, value_faults, found_faults}
-use Rattle.interpolator_pieces.specs.NodeSamples.{target_faults}
-use Rattle.interpolator_pieces.specs.NodeSamples.{asked_faults, plain_faults, node_faults_in}
-use Rattle.interpolator_pieces.specs.NodeSamples.{item_faults_in, join_faults_in, forest_faults_in}
-use Rattle.interpolator_pieces.specs.NodeSamples.{faults_over, content_pads, node_pads, branch_pads}
-use Rattle.interpolator_pieces.specs.NodeSamples.{forest_pads, pads_a_list}
+use Rattle.interpolator_pieces.specs.NodeSamples.{fault_if, plain_faults, faults_over, content_pads}
+use Rattle.interpolator_pieces.specs.NodeSamples.{may_be_items, target_faults, join_faults_in}
+use Rattle.interpolator_pieces.specs.NodeSamples.{value_faults, found_faults, asked_faults}
+use Rattle.interpolator_pieces.specs.NodeSamples.{node_faults_in, item_faults_in, forest_faults_in}
+use Rattle.interpolator_pieces.specs.NodeSamples.{node_pads, branch_pads, forest_pads, pads_a_list}
 use Rattle.interpolator_pieces.specs.StoredMeanings.{unclosed_fault_of}
 
 -- no faults, and none of the parts
@@ -71,16 +66,14 @@ module _ {A : Type 0} (pads : Bool) (join : Meaning) (item : A → Meaning) (joi
   fine_after : (xs : List A) → All (λ x. Fine pads (item x)) xs → Fine pads (items_after join item xs)
   fine_after [] h = (refl, λ n. refl)
   fine_after (x ∷ xs) h =
-      let first = All-head (λ x. Fine pads (item x)) x xs h in
-      let rest = fine_after xs (All-tail (λ x. Fine pads (item x)) x xs h) in
-      grind (arith, joins, first, rest)
+      let P = λ (y : A). Fine pads (item y) in
+      grind (arith, joins, All-head P x xs h, fine_after xs (All-tail P x xs h))
 
   fine_items : (xs : List A) → All (λ x. Fine pads (item x)) xs → Fine pads (items_mean join item xs)
   fine_items [] h = (refl, λ n. refl)
   fine_items (x ∷ xs) h =
-      let first = All-head (λ x. Fine pads (item x)) x xs h in
-      let rest = fine_after xs (All-tail (λ x. Fine pads (item x)) x xs h) in
-      grind (arith, first, rest)
+      let P = λ (y : A). Fine pads (item y) in
+      grind (arith, All-head P x xs h, fine_after xs (All-tail P x xs h))
 
 module _ {X Y : Type 0} (shows : X → Trait → Spec → Shown) (others : Y → Trait → Spec → Shown)
   where
@@ -92,8 +85,7 @@ module _ {X Y : Type 0} (shows : X → Trait → Spec → Shown) (others : Y →
 
     like_front : (u : Slots Y) (xs ys : List (Slots X)) → SomeLike u xs → SomeLike u (xs ++ ys)
     like_front u [] ys h = absurd h
-    like_front u (x ∷ xs) ys (inl h) = inl h
-    like_front u (x ∷ xs) ys (inr h) = inr (like_front u xs ys h)
+    like_front u (x ∷ xs) ys h = grind (arith, like_front u xs ys)
 
     like_back : (u : Slots Y) (xs ys : List (Slots X)) → SomeLike u ys → SomeLike u (xs ++ ys)
     like_back u [] ys h = h
@@ -102,8 +94,7 @@ module _ {X Y : Type 0} (shows : X → Trait → Spec → Shown) (others : Y →
     like_listed : (u : Slots Y) (xs : SlotsList X) → ResemblesSome shows others u xs
         → SomeLike u (slots_listed xs)
     like_listed u no_slots h = absurd h
-    like_listed u (slots_and x xs) (inl h) = inl h
-    like_listed u (slots_and x xs) (inr h) = inr (like_listed u xs h)
+    like_listed u (slots_and x xs) h = grind (arith, like_listed u xs)
 
     -- ---- values
 
@@ -111,16 +102,15 @@ module _ {X Y : Type 0} (shows : X → Trait → Spec → Shown) (others : Y →
         → value_faults shows t spec end xs ≡ [] → SomeLike u xs
         → Fine pads (value_means others t spec q (slot_at t (values_of u)))
     fine_value t spec end q pads [] u none h = absurd h
-    fine_value t spec end q pads (x ∷ xs) u none (inl r) = grind arith
-    fine_value t spec end q pads (x ∷ xs) u none (inr h) =
-        fine_value t spec end q pads xs u (grind arith) h
+    fine_value t spec end q pads (x ∷ xs) u none h =
+        grind (arith, fine_value t spec end q pads xs u)
 
     -- an item without a format
     fine_plain : (s : Sample X) (held : Content) (q : ℕ) (u : Slots Y)
         → plain_faults shows held (may_be_items s held) ≡ [] → SomeLike u (may_be_items s held)
         → Fine false (value_means others traits.Display plain_spec q (slot_at traits.Display (values_of u)))
     fine_plain s (argument_content start name spec wanted end) q u none like =
-        fine_value traits.Display plain_spec end q false (may_be_items s (argument_content start name spec wanted end)) u none like
+        fine_value traits.Display plain_spec end q false _ u none like
     fine_plain s (text_content from cs) q u none like = absurd like
     fine_plain s (fault_content f) q u none like = absurd like
 
@@ -137,12 +127,11 @@ module _ {X Y : Type 0} (shows : X → Trait → Spec → Shown) (others : Y →
 
     list_among : (xs : List (Slots X)) (u : Slots Y) → list_any has_no_list xs ≡ false
         → SomeLike u xs → ListLike (items u) (items_of_all xs)
-    list_among [] u m h = absurd h
-    list_among (bare filled ∷ xs) u m h = absurd (cc)
     list_among (listed filled inner ∷ xs) u m (inl r) = by_items inner (items_of_all xs) (items u) r.1
     list_among (listed filled inner ∷ xs) u m (inr h) =
         let more = list_among xs u m h in
         (more.0, more.1, λ k d l. like_back _ (slots_listed inner) (items_of_all xs) (more.2 k d l))
+    list_among xs u m h = absurd (grind arith)
 
     fine_list : (range : Option Range) (spec : Spec) (q : ℕ) (join : Meaning)
         (item : Slots Y → Meaning) (xs : List (Slots X)) (u : Slots Y) (a b : Bool)
@@ -178,7 +167,7 @@ module _ {X Y : Type 0} (shows : X → Trait → Spec → Shown) (others : Y →
         → LikeOn s e xs × LikeOn s e ys
     like_parts s e [] ys h = (tt, h)
     like_parts s e (x ∷ xs) ys h =
-        let parts = like_parts s e xs ys h.1 in ((h.0, parts.0), parts.1)
+        grind (arith, like_parts s e xs ys h.1)
 
     -- in an item format the empty name is not among them
     abbrev Inner : (in_item : Bool) → Sample X → Environment Y → Type 0
@@ -194,21 +183,13 @@ module _ {X Y : Type 0} (shows : X → Trait → Spec → Shown) (others : Y →
         (names : List (List ℕ)) → SomeLike u xs → LikeOn s e names
         → LikeOn (bind_each s xs) (bind e u) names
     bound_like s e xs u [] like h = tt
-    bound_like s e xs u ([] ∷ names) like h = (like, bound_like s e xs u names like h.1)
-    bound_like s e xs u ((c ∷ cs) ∷ names) like h =
-        grind (arith, bound_like s e xs u names like h.1)
+    bound_like s e xs u (name ∷ names) like h = grind (arith, bound_like s e xs u names like h.1)
 
     from_resembling : (finds : List ℕ → Option (Slots X)) (e : Environment Y) (names : List (List ℕ))
         → ResemblesOn shows others e (environment finds) names → LikeOn (sample finds) e names
     from_resembling finds e [] h = tt
     from_resembling finds e (name ∷ names) h =
-        (by_found (slots_under e name) (finds name) h.0, from_resembling finds e names h.1)
-      where
-        by_found : (o : Option (Slots Y)) (p : Option (Slots X)) → ResemblesFound shows others o p
-            → LikeFound o (option_map alone p)
-        by_found o None h = tt
-        by_found None (Some x) h = absurd h
-        by_found (Some u) (Some x) h = inl h
+        grind (arith, from_resembling finds e names h.1)
 
     -- ---- what a piece holds
 
@@ -227,9 +208,6 @@ module _ {X Y : Type 0} (shows : X → Trait → Spec → Shown) (others : Y →
         → LikeOn s e (content_names in_item (Some held)) → Fine b join
         → ((q : ℕ) (u : Slots Y) → SomeLike u (may_be_items s held) → Fine a (item q u))
         → Fine (content_pads (Some held) || (a || b)) (content_means others e kind held join item)
-    fine_content in_item s e kind (text_content from cs) join item a b none own last i h joins each =
-        (refl, λ n. refl)
-    fine_content in_item s e kind (fault_content f) join item a b none own last i h joins each = absurd (cc)
     fine_content in_item s e kind (argument_content start name spec (target_value t) q) join item a b none own
         last i h joins each =
         fine_closed (a || b) kind q _ last
@@ -242,6 +220,7 @@ module _ {X Y : Type 0} (shows : X → Trait → Spec → Shown) (others : Y →
         (own_like in_item s e name i h) none
         (λ u faults like. fine_list range spec q join (item q) _ u a b (not_so _ _ faults) own joins
         (each q) like))
+    fine_content in_item s e kind held join item a b none own last i h joins each = grind arith
 
     -- ---- at every depth
 

@@ -1,14 +1,11 @@
 -- A row means what pairs of its names and values mean, and resembles a sample if they do.
-use Rattle.std.proofs.Common.{◌≡◌, ◌≢◌, ◌∙◌, refl, sym, ap, ℕ, Bool, false, cond}
-use Rattle.std.proofs.Common.{List, [], ◌∷◌, ◌≤◌, length, map, arith}
-use Rattle.std.proofs.Common.{Option, Some, None, option_map, rules}
+use Rattle.std.proofs.Common.{◌≡◌, ◌≢◌, refl, sym, ℕ, Bool, false, cond, List, [], ◌∷◌}
+use Rattle.std.proofs.Common.{◌≤◌, length, map, arith, Option, Some, None, option_map, rules, Bor}
+use Rattle.std.proofs.Common.{find, zip, option_and_then, reverse, bytes_eq, encode_utf8_all}
 use Rattle.std.proofs.lemmas.List.{reverse-append}
 use Rattle.std.proofs.lemmas.List.Folds.{find-append}
-use Rattle.std.specs.Borrow.{Bor}
-use Rattle.std.specs.List.{find, zip}
-use Rattle.std.specs.Option.{option_and_then, option_or}
-use Rattle.std.specs.Prelude.{⊤, reverse}
-use Rattle.std.specs.Str.{bytes_eq, encode_utf8_all}
+use Rattle.std.specs.Option.{option_or}
+use Rattle.std.specs.Prelude.{⊤}
 use Rattle.interpolator_render.specs.Views.{Shown}
 use Rattle.interpolator_render.specs.Written.{Written}
 use Rattle.interpolator_render.specs.declared.view.Spec.{Spec}
@@ -19,13 +16,12 @@ use Rattle.interpolator_eval.specs.Contexts.{found_by_pairs}
 use Rattle.interpolator_eval.specs.Meaning.AskedNames.{asked_names}
 use Rattle.interpolator_eval.specs.Meaning.Environments.{Environment, environment}
 use Rattle.interpolator_eval.specs.Meaning.Meanings.{means}
-use Rattle.interpolator_eval.specs.Meaning.Outcomes.{Outcome}
+use Rattle.interpolator_eval.specs.Meaning.Outcomes.{Outcome, OnlyRefused}
 use Rattle.interpolator_eval.specs.Meaning.Resembling.{ResemblesOn}
 use Rattle.interpolator_eval.specs.Slots.{slots_of}
 use Rattle.interpolator_eval.specs.declared.slots.Formattable.{Formattable}
 use Rattle.interpolator_eval.proofs.MeaningLemmas.EqualLemmas.{means_same}
 use Rattle.interpolator_laws.specs.SamplePairs.{PairsResemble, RowResembles}
-use Rattle.interpolator_eval.specs.Meaning.Outcomes.{OnlyRefused}
 use Rattle.interpolator_pieces.specs.NodeSamples.{faults_over, pads_a_list}
 use Rattle.interpolator_prepared.specs.Rows.{found_by_row, last_position, later_or_first}
 use Rattle.interpolator_prepared.specs.Rows.{pair_names, row_at}
@@ -66,14 +62,11 @@ module _ {Y : Type 0} where
   agree [] (n ∷ names) bytes h = absurd (omega (arith, h))
   agree (x ∷ row) (n ∷ names) bytes h =
       let pairs = zip names row in
-      let found : find (is_named bytes) (reverse ((n, x) ∷ pairs))
-      ≡ option_or (find (is_named bytes) (reverse pairs))
-      (cond (bytes_eq bytes n.now) (Some (n, x)) None) =
-      ap (find (is_named bytes)) (reverse-append ((n, x) ∷ []) pairs)
-      ∙ find-append (is_named bytes) (reverse pairs) ((n, x) ∷ []) in
-      rw (found) (agree_more bytes x row n (last_position (map (λ name. name.now) names) bytes)
-      (find (is_named bytes) (reverse pairs)) (bytes_eq bytes n.now)
-      (agree row names bytes (omega (arith, h))))
+      let rest = agree row names bytes (omega (arith, h)) in
+      rw (
+        reverse-append ((n, x) ∷ []) pairs,
+        find-append (is_named bytes) (reverse pairs) ((n, x) ∷ []),
+      ) (agree_more bytes x row n _ _ (bytes_eq bytes n.now) rest)
 
   -- the values of a row under names are those of their pairs
   pub found_in_pairs : (row : List (Formattable Y)) (names : List (Bor (List ℕ))) (name : List ℕ)
@@ -82,8 +75,7 @@ module _ {Y : Type 0} where
       ≡ found_by_row (map (λ own. own.now) names) (row_at row) name
   found_in_pairs row names name h =
       let bytes = encode_utf8_all name in
-      sym (agree_found bytes row (last_position (map (λ own. own.now) names) bytes)
-      (find (is_named bytes) (reverse (zip names row))) (agree row names bytes h))
+      sym (agree_found bytes row _ _ (agree row names bytes h))
 
   -- so a format means with a row what it means with these pairs
   pub row_means : (shows : Y → Trait → Spec → Shown) (row : List (Formattable Y))

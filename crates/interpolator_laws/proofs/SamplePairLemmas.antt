@@ -1,20 +1,15 @@
 -- Pairs that resemble those of a sample, and views that have a text by their kind.
-use Rattle.std.proofs.Common.{arith}
-use Rattle.std.proofs.Common.{◌≡◌, ℕ, false, List, []}
-use Rattle.std.proofs.Common.{◌∷◌, ◌++◌, Option, option_map}
+use Rattle.std.proofs.Common.{arith, ◌≡◌, ℕ, List, [], ◌∷◌, ◌++◌, Option, option_map, Bor, find}
+use Rattle.std.proofs.Common.{reverse, bytes_eq}
 use Rattle.std.proofs.lemmas.List.{reverse-append}
-use Rattle.std.specs.Borrow.{Bor}
-use Rattle.std.specs.List.{find}
-use Rattle.std.specs.Prelude.{reverse}
-use Rattle.std.specs.Str.{bytes_eq}
-use Rattle.interpolator_render.specs.Texts.{ViewText, view_text}
+use Rattle.interpolator_render.specs.Texts.{view_text}
 use Rattle.interpolator_render.specs.Views.{Shown}
 use Rattle.interpolator_render.specs.declared.view.Spec.{Spec}
 use Rattle.interpolator_render.specs.declared.view.Trait.{Trait}
 use Rattle.interpolator_eval.specs.Contexts.{found_by_pairs}
 use Rattle.interpolator_eval.specs.Meaning.Environments.{environment}
 use Rattle.interpolator_eval.specs.Meaning.Resembling.{HasText, ResemblesFound, ResemblesOn}
-use Rattle.interpolator_eval.specs.Meaning.Samples.{is_missing, is_failed, shows_nothing, is_failure}
+use Rattle.interpolator_eval.specs.Meaning.Samples.{shows_nothing, is_failure}
 use Rattle.interpolator_eval.specs.Slots.{Slots, slots_of}
 use Rattle.interpolator_eval.specs.declared.slots.Formattable.{Formattable}
 use Rattle.interpolator_laws.specs.SamplePairs.{PairsResemble}
@@ -32,21 +27,17 @@ module _ {X Y : Type 0} (shows : X → Trait → Spec → Shown) (others : Y →
   both_resemble : (ps : Ours) (qs : Theirs) (more : Ours) (others_more : Theirs)
       → PairsResemble shows others ps qs → PairsResemble shows others more others_more
       → PairsResemble shows others (ps ++ more) (qs ++ others_more)
-  both_resemble [] [] more others_more h k = k
-  both_resemble [] (q ∷ qs) more others_more h k = absurd h
-  both_resemble (p ∷ ps) [] more others_more h k = absurd h
   both_resemble (p ∷ ps) (q ∷ qs) more others_more h k =
       (h.0, h.1, both_resemble ps qs more others_more h.2 k)
+  both_resemble ps qs more others_more h k = grind arith
 
   reversed_resemble : (ps : Ours) (qs : Theirs) → PairsResemble shows others ps qs
       → PairsResemble shows others (reverse ps) (reverse qs)
-  reversed_resemble [] [] h = tt
-  reversed_resemble [] (q ∷ qs) h = absurd h
-  reversed_resemble (p ∷ ps) [] h = absurd h
   reversed_resemble (p ∷ ps) (q ∷ qs) h =
       rw (reverse-append (p ∷ []) ps, reverse-append (q ∷ []) qs)
       (both_resemble (reverse ps) (reverse qs) (p ∷ []) (q ∷ [])
       (reversed_resemble ps qs h.2) (h.0, h.1, tt))
+  reversed_resemble ps qs h = grind arith
 
   -- what the first pair of a name holds
   abbrev found_first : {Z : Type 0} → List (Bor (List ℕ) × Formattable Z) → List ℕ → Option (Slots Z)
@@ -56,10 +47,8 @@ module _ {X Y : Type 0} (shows : X → Trait → Spec → Shown) (others : Y →
 
   first_resembles : (ps : Ours) (qs : Theirs) (bytes : List ℕ) → PairsResemble shows others ps qs
       → ResemblesFound shows others (found_first ps bytes) (found_first qs bytes)
-  first_resembles [] [] bytes h = tt
-  first_resembles [] (q ∷ qs) bytes h = absurd h
-  first_resembles (p ∷ ps) [] bytes h = absurd h
   first_resembles (p ∷ ps) (q ∷ qs) bytes h = grind (arith, first_resembles ps qs bytes h.2)
+  first_resembles ps qs bytes h = grind arith
 
   pub pairs_resemble : (ps : Ours) (qs : Theirs) (names : List (List ℕ))
       → PairsResemble shows others ps qs
@@ -71,14 +60,9 @@ module _ {X Y : Type 0} (shows : X → Trait → Spec → Shown) (others : Y →
 
 -- ---- views
 
-shown_text : (v : ViewText) → is_missing v ≡ false → is_failed v ≡ false → HasText v
-shown_text v m f = grind arith
-
-text_shown : (v : ViewText) → HasText v → (is_missing v ≡ false) × (is_failed v ≡ false)
-text_shown v h = grind arith
-
 -- two views that show nothing under the same traits and fail alike have a text alike
 pub kind_has_text : (x y : Shown) (t : Trait) (spec : Spec) → shows_nothing x t ≡ shows_nothing y t
     → is_failure x ≡ is_failure y → HasText (view_text x t spec) → HasText (view_text y t spec)
 kind_has_text x y t spec same fail h =
-    grind (arith, text_shown, shown_text, view_missing, view_failed)
+    let missing = view_missing x t spec in let failed = view_failed x t spec in
+    grind (arith, missing, failed, view_missing y t spec, view_failed y t spec)

@@ -1,7 +1,6 @@
 -- The names that a text uses, by the relation and as computed, are the same list.
 use Rattle.std.proofs.Common.{◌≡◌, ℕ, zero, suc, ◌<◌, List, [], ◌∷◌, length, arith, refl}
-use Rattle.std.proofs.Common.{sym, subst, Option, true, false}
-use Rattle.std.specs.List.{filter}
+use Rattle.std.proofs.Common.{Option, true, false, filter}
 use Rattle.interpolator_syntax.specs.At.{At}
 use Rattle.interpolator_syntax.specs.Groups.{Group, inside}
 use Rattle.interpolator_syntax.specs.SpecTexts.{Kind}
@@ -14,13 +13,12 @@ use Rattle.interpolator_eval.specs.Meaning.AskedNames.{asked_names}
 use Rattle.interpolator_syntax.proofs.SizeLemmas.{GroupIn, GroupIfIn, KindIn, PieceIn, PiecesIn}
 use Rattle.interpolator_syntax.proofs.SizeLemmas.{pieces_in}
 use Rattle.interpolator_eval.proofs.MeaningLemmas.AskedPieceLemmas.{group_asks, kind_asks}
-use Rattle.interpolator_eval.proofs.MeaningLemmas.AskedPieceLemmas.{pieces_ask}
-use Rattle.interpolator_eval.proofs.MeaningLemmas.AskedPieceLemmas.{branch_in_item, asked_pieces}
+use Rattle.interpolator_eval.proofs.MeaningLemmas.AskedPieceLemmas.{pieces_ask, branch_in_item}
+use Rattle.interpolator_eval.proofs.MeaningLemmas.AskedPieceLemmas.{asked_pieces}
 
 named_kept : (names : List (List ℕ)) → without_empty names ≡ filter is_named names
 named_kept [] = refl
-named_kept ([] ∷ names) = named_kept names
-named_kept ((c ∷ cs) ∷ names) = grind (arith, named_kept names)
+named_kept (name ∷ names) = grind (arith, named_kept names)
 
 -- the names of an item format are those of its text that are not empty
 item_named : (o : Option Group)
@@ -48,8 +46,7 @@ module _ (a : At) (Asks : At → List (List ℕ) → Type 0)
 within_holds : (n : ℕ) (a : At) → length a.text < n → AsksWithin n a (asked_names a)
 within_holds zero a h = absurd (omega (arith, h))
 within_holds (suc n) a h =
-    subst (PiecesAsk (AsksWithin n) (pieces a)) (sym (asked_pieces a))
-    (pieces_hold a (AsksWithin n)
+    rw (asked_pieces a) (pieces_hold a (AsksWithin n)
     (λ g l. within_holds n (inside g) (omega (arith, h, l.shorter))) (pieces a) (pieces_in a))
 
 -- a text uses the names that are computed

@@ -1,52 +1,39 @@
 -- The names that a text uses are those of its pieces.
-use Rattle.std.proofs.Common.{◌≡◌, ℕ, ◌+◌, true, false, List, [], ◌∷◌, ◌++◌, map, refl, ap, ◌∙◌}
-use Rattle.std.proofs.Common.{sym, Option, Some, None}
+use Rattle.std.proofs.Common.{arith, ◌≡◌, ℕ, ◌+◌, true, false, List, [], ◌∷◌, ◌++◌, map, refl, ap}
+use Rattle.std.proofs.Common.{Option}
 use Rattle.std.specs.Char.{len_utf8}
 use Rattle.interpolator_syntax.specs.At.{At}
 use Rattle.interpolator_syntax.specs.Groups.{Group}
 use Rattle.interpolator_syntax.specs.Nodes.{Node, node, Branch, no_branch, branch, as_forest}
-use Rattle.interpolator_syntax.specs.Nodes.{Forest, no_nodes, nodes_and, nodes}
-use Rattle.interpolator_syntax.specs.Nodes.{group_branch, item_branch, join_branch}
-use Rattle.interpolator_syntax.specs.Nodes.{Content, text_content, argument_content, fault_content}
+use Rattle.interpolator_syntax.specs.Nodes.{Forest, no_nodes, nodes_and, nodes, group_branch}
+use Rattle.interpolator_syntax.specs.Nodes.{item_branch, join_branch, Content}
 use Rattle.interpolator_syntax.specs.Pieces.{Piece, pieces}
 use Rattle.interpolator_syntax.specs.SpecTexts.{Kind}
 use Rattle.interpolator_syntax.specs.Splits.{literal_nodes, node_alone}
 use Rattle.interpolator_syntax.proofs.SplitLemmas.{gathered_alone}
-use Rattle.interpolator_eval.specs.Meaning.AskedNames.{context_names, content_names, node_asks}
-use Rattle.interpolator_eval.specs.Meaning.AskedNames.{branch_asks, forest_asks, asked_names}
-use Rattle.interpolator_eval.specs.Meaning.AskedNames.{without_empty}
+use Rattle.interpolator_eval.specs.Meaning.AskedNames.{content_names, node_asks, branch_asks}
+use Rattle.interpolator_eval.specs.Meaning.AskedNames.{forest_asks, asked_names, without_empty}
 
 -- ---- in an item format the empty name is left out
 
 pub without_append : (xs ys : List (List ℕ))
     → without_empty (xs ++ ys) ≡ without_empty xs ++ without_empty ys
 without_append [] ys = refl
-without_append ([] ∷ xs) ys = without_append xs ys
-without_append ((c ∷ cs) ∷ xs) ys = ap (λ zs. (c ∷ cs) ∷ zs) (without_append xs ys)
+without_append (x ∷ xs) ys = grind (arith, without_append xs ys)
 
 pub without_twice : (xs : List (List ℕ)) → without_empty (without_empty xs) ≡ without_empty xs
 without_twice [] = refl
-without_twice ([] ∷ xs) = without_twice xs
-without_twice ((c ∷ cs) ∷ xs) = ap (λ zs. (c ∷ cs) ∷ zs) (without_twice xs)
-
-name_in_item : (name : List ℕ) → context_names true name ≡ without_empty (context_names false name)
-name_in_item [] = refl
-name_in_item (c ∷ cs) = refl
+without_twice (x ∷ xs) = grind (arith, without_twice xs)
 
 content_in_item : (h : Option Content)
     → content_names true h ≡ without_empty (content_names false h)
-content_in_item None = refl
-content_in_item (Some (text_content from cs)) = refl
-content_in_item (Some (argument_content start name spec target end)) = name_in_item name
-content_in_item (Some (fault_content f)) = refl
+content_in_item h = grind arith
 
 mutual
   node_in_item : (x : Node) → node_asks true x ≡ without_empty (node_asks false x)
   node_in_item (node place end kind held item join) =
-      let e = branch_in_item item in
-      let kept : without_empty (branch_asks true item) ≡ branch_asks true item =
-      ap without_empty e ∙ without_twice (branch_asks false item) ∙ sym e in
-      rw (without_append, without_append, content_in_item held, kept, branch_in_item join) refl
+      let item_names = branch_in_item item in let join_names = branch_in_item join in
+      grind (arith, without_append, without_twice, content_in_item, item_names, join_names)
 
   pub branch_in_item : (b : Branch) → branch_asks true b ≡ without_empty (branch_asks false b)
   branch_in_item no_branch = refl
@@ -55,8 +42,7 @@ mutual
   forest_in_item : (xs : Forest) → forest_asks true xs ≡ without_empty (forest_asks false xs)
   forest_in_item no_nodes = refl
   forest_in_item (nodes_and x xs) =
-      rw (node_in_item x, forest_in_item xs)
-      (sym (without_append (node_asks false x) (forest_asks false xs)))
+      grind (arith, node_in_item x, forest_in_item xs, without_append)
 
 -- ---- the pieces of a text
 

@@ -1,8 +1,6 @@
 -- A text means the same in two contexts that have equal values under the names that it uses.
-use Rattle.std.proofs.Common.{◌≡◌, ℕ, zero, suc, Bool, true, false, cond, List, [], ◌∷◌, ◌++◌}
-use Rattle.std.proofs.Common.{length, take, drop, arith, refl, subst, Option, Some, None}
-use Rattle.std.specs.List.{AllZip}
-use Rattle.std.specs.Prelude.{⊤}
+use Rattle.std.proofs.Common.{map, option_map, ◌≡◌, ℕ, true, false, List, [], ◌∷◌}
+use Rattle.std.proofs.Common.{◌++◌, arith, refl, Option, Some, None}
 use Rattle.interpolator_render.specs.declared.view.Trait.{Trait}
 use Rattle.interpolator_render.specs.declared.view.Trait.TheVariants as traits
 use Rattle.interpolator_render.specs.declared.view.Spec.{Spec}
@@ -10,29 +8,25 @@ use Rattle.interpolator_render.specs.Views.{Shown}
 use Rattle.interpolator_render.specs.Written.{Written}
 use Rattle.interpolator_syntax.specs.At.{At}
 use Rattle.interpolator_syntax.specs.Faults.{Answer}
-use Rattle.interpolator_syntax.specs.Nodes.{Node, node, Branch, no_branch, branch}
-use Rattle.interpolator_syntax.specs.Nodes.{Forest, no_nodes, nodes_and}
-use Rattle.interpolator_syntax.specs.Nodes.{Content}
-use Rattle.interpolator_syntax.specs.Nodes.{Target}
+use Rattle.interpolator_syntax.specs.Nodes.{Node, node, Branch, no_branch, branch, Forest, no_nodes}
+use Rattle.interpolator_syntax.specs.Nodes.{nodes_and, Content, Target}
 use Rattle.interpolator_syntax.specs.SpecTexts.{plain_spec}
 use Rattle.interpolator_syntax.specs.declared.piece_kind.PieceKind.{PieceKind}
 use Rattle.interpolator_syntax.specs.declared.range.Range.{Range}
-use Rattle.interpolator_eval.specs.Slots.{Slots, SlotsList, bare, listed, no_slots, slots_and, values_of}
-use Rattle.interpolator_eval.specs.Slots.{Values, slot_at, slots_listed, items}
-use Rattle.interpolator_eval.specs.Meaning.AskedNames.{without_empty, content_names, node_asks}
-use Rattle.interpolator_eval.specs.Meaning.AskedNames.{branch_asks}
-use Rattle.interpolator_eval.specs.Meaning.AskedNames.{forest_asks, asked_names, AgreeOn}
+use Rattle.interpolator_eval.specs.Slots.{Slots, SlotsList, bare, listed, no_slots, slots_and}
+use Rattle.interpolator_eval.specs.Slots.{values_of, Values, slots_listed, items}
+use Rattle.interpolator_eval.specs.Meaning.AskedNames.{without_empty, content_names, branch_asks}
+use Rattle.interpolator_eval.specs.Meaning.AskedNames.{node_asks, forest_asks, asked_names, AgreeOn}
 use Rattle.interpolator_eval.specs.Meaning.Choices.{chosen_items}
 use Rattle.interpolator_eval.specs.Meaning.Environments.{Environment, slots_under, bind}
-use Rattle.interpolator_eval.specs.Meaning.EqualValues.{EqualSlot, EqualValues, EqualSlots, EqualItems}
-use Rattle.interpolator_eval.specs.Meaning.EqualValues.{EqualFound, EqualOn}
-use Rattle.interpolator_eval.specs.Meaning.Meanings.{Meaning, chain, value_means}
-use Rattle.interpolator_eval.specs.Meaning.Meanings.{items_after}
-use Rattle.interpolator_eval.specs.Meaning.Meanings.{items_mean, listed_means, under_name}
-use Rattle.interpolator_eval.specs.Meaning.Meanings.{target_means, content_means, node_means, means}
-use Rattle.interpolator_eval.specs.Meaning.Meanings.{join_branch_means, item_branch_means}
-use Rattle.interpolator_eval.specs.Meaning.Meanings.{forest_means}
+use Rattle.interpolator_eval.specs.Meaning.EqualValues.{EqualSlot, EqualValues, EqualSlots}
+use Rattle.interpolator_eval.specs.Meaning.EqualValues.{EqualItems, EqualFound, EqualOn}
+use Rattle.interpolator_eval.specs.Meaning.Meanings.{Meaning, join_branch_means, item_branch_means}
+use Rattle.interpolator_eval.specs.Meaning.Meanings.{chain, value_means, items_after, forest_means}
+use Rattle.interpolator_eval.specs.Meaning.Meanings.{items_mean, under_name, node_means, means}
+use Rattle.interpolator_eval.specs.Meaning.Meanings.{listed_means, target_means, content_means}
 use Rattle.interpolator_eval.specs.Meaning.Outcomes.{Finished}
+use Rattle.interpolator_eval.proofs.MeaningLemmas.ChoiceLemmas.{map-chosen}
 use Rattle.interpolator_eval.proofs.MeaningLemmas.AskedPieceLemmas.{branch_in_item}
 
 -- a name that is not empty means the same with any inner value
@@ -43,8 +37,22 @@ bound_same e t c cs = grind arith
 both_same : {m k l o : Meaning} → m ≡ k → l ≡ o → chain m l ≡ chain k o
 both_same e h = cc
 
-by_test : (b : Bool) (m k l : Meaning) → k ≡ l → cond b m k ≡ cond b m l
-by_test b m k l e = grind arith
+-- what items mean depends on what each of them means alone
+after_by_meanings : {A : Type 0} (join : Meaning) (item : A → Meaning) (xs : List A)
+    → items_after join item xs ≡ items_after join (λ m. m) (map item xs)
+after_by_meanings join item [] = refl
+after_by_meanings join item (x ∷ xs) = grind (arith, after_by_meanings join item xs)
+
+items_by_meanings : {A : Type 0} (join : Meaning) (item : A → Meaning) (xs : List A)
+    → items_mean join item xs ≡ items_mean join (λ m. m) (map item xs)
+items_by_meanings join item xs = grind (arith, after_by_meanings)
+
+list_by_meanings : {A : Type 0} (range : Option Range) (spec : Spec) (q : ℕ) (join : Meaning)
+    (item : A → Meaning) (o : Option (List A)) → listed_means range spec q join item o
+    ≡ listed_means range spec q join (λ m. m) (option_map (map item) o)
+list_by_meanings range spec q join item None = refl
+list_by_meanings range spec q join item (Some xs) =
+    rw (items_by_meanings join item (chosen_items range xs), map-chosen item range xs) refl
 
 module _ {X Y : Type 0} (shows : X → Trait → Spec → Shown) (others : Y → Trait → Spec → Shown) where
   -- ---- what is under a name
@@ -64,60 +72,27 @@ module _ {X Y : Type 0} (shows : X → Trait → Spec → Shown) (others : Y →
 
   -- ---- lists whose items are equal one by one
 
-  bind_each : (us : SlotsList X) (vs : SlotsList Y) → EqualItems shows others us vs
-      → AllZip Equal (slots_listed us) (slots_listed vs)
-  bind_each no_slots no_slots h = tt
-  bind_each (slots_and t us) (slots_and u vs) h = (h.0, bind_each us vs h.1)
-  bind_each _ _ h = absurd h
-
-  abbrev EqualLists : Option (List (Slots X)) → Option (List (Slots Y)) → Type 0
-  EqualLists None None = ⊤
-  EqualLists (Some xs) (Some ys) = AllZip Equal xs ys
-  EqualLists _ _ = ⊥
-
-  items_equal : (tree : Slots X) (other : Slots Y) → Equal tree other
-      → EqualLists (items tree) (items other)
-  items_equal tree other h = grind (arith, bind_each)
-
-  -- ---- chosen items
-
-  each_length : (xs : List (Slots X)) (ys : List (Slots Y)) → AllZip Equal xs ys
-      → length xs ≡ length ys
-  each_length [] [] h = refl
-  each_length (x ∷ xs) (y ∷ ys) h = omega (arith, each_length xs ys h.1)
-  each_length _ _ h = absurd h
-
-  each_take : (n : ℕ) (xs : List (Slots X)) (ys : List (Slots Y)) → AllZip Equal xs ys
-      → AllZip Equal (take n xs) (take n ys)
-  each_take zero [] [] h = tt
-  each_take zero (x ∷ xs) (y ∷ ys) h = tt
-  each_take (suc n) [] [] h = tt
-  each_take (suc n) (x ∷ xs) (y ∷ ys) h = (h.0, each_take n xs ys h.1)
-  each_take n _ _ h = absurd h
-
-  each_drop : (n : ℕ) (xs : List (Slots X)) (ys : List (Slots Y)) → AllZip Equal xs ys
-      → AllZip Equal (drop n xs) (drop n ys)
-  each_drop zero [] [] h = tt
-  each_drop zero (x ∷ xs) (y ∷ ys) h = h
-  each_drop (suc n) [] [] h = tt
-  each_drop (suc n) (x ∷ xs) (y ∷ ys) h = each_drop n xs ys h.1
-  each_drop n _ _ h = absurd h
-
-  chosen_equal : (range : Option Range) (xs : List (Slots X)) (ys : List (Slots Y))
-      → AllZip Equal xs ys → AllZip Equal (chosen_items range xs) (chosen_items range ys)
-  chosen_equal range xs ys h = grind (arith, each_length, each_drop, each_take)
-
-  module _ (j k : Meaning) (f : Slots X → Meaning) (g : Slots Y → Meaning) (joins : j ≡ k)
+  module _ (f : Slots X → Meaning) (g : Slots Y → Meaning)
       (each : (x : Slots X) (y : Slots Y) → Equal x y → f x ≡ g y) where
-    after_equal : (xs : List (Slots X)) (ys : List (Slots Y)) → AllZip Equal xs ys
-        → items_after j f xs ≡ items_after k g ys
-    after_equal [] [] h = refl
-    after_equal (x ∷ xs) (y ∷ ys) h = grind (arith, both_same, after_equal xs ys h.1)
-    after_equal _ _ h = absurd h
+    mapped_equal : (us : SlotsList X) (vs : SlotsList Y) → EqualItems shows others us vs
+        → map f (slots_listed us) ≡ map g (slots_listed vs)
+    mapped_equal (slots_and t us) (slots_and u vs) h =
+        grind (arith, each t u, mapped_equal us vs h.1)
+    mapped_equal us vs h = grind arith
 
-    items_mean_equal : (xs : List (Slots X)) (ys : List (Slots Y)) → AllZip Equal xs ys
-        → items_mean j f xs ≡ items_mean k g ys
-    items_mean_equal xs ys h = grind (arith, both_same, after_equal)
+    items_equal : (tree : Slots X) (other : Slots Y) → Equal tree other
+        → option_map (map f) (items tree) ≡ option_map (map g) (items other)
+    items_equal tree other h = grind (arith, mapped_equal)
+
+    list_equal : (range : Option Range) (spec : Spec) (q : ℕ) (j k : Meaning) (x : Slots X)
+        (y : Slots Y) → j ≡ k → Equal x y
+        → listed_means range spec q j f (items x) ≡ listed_means range spec q k g (items y)
+    list_equal range spec q j k x y joins h = rw (
+      list_by_meanings range spec q j f (items x),
+      list_by_meanings range spec q k g (items y),
+      items_equal x y h,
+      joins,
+    ) refl
 
   -- ---- environments
 
@@ -127,32 +102,23 @@ module _ {X Y : Type 0} (shows : X → Trait → Spec → Shown) (others : Y →
   agree_each : (e : Environment X) (d : Environment Y) (xs ys : List (List ℕ))
       → Agree e d (xs ++ ys) → Agree e d xs × Agree e d ys
   agree_each e d [] ys h = (tt, h)
-  agree_each e d (x ∷ xs) ys h =
-      let each = agree_each e d xs ys h.1 in ((h.0, each.0), each.1)
+  agree_each e d (x ∷ xs) ys h = grind (arith, agree_each e d xs ys h.1)
 
   agree_bound : (e : Environment X) (d : Environment Y) (t : Slots X) (u : Slots Y)
       (names : List (List ℕ)) → Equal t u → Agree e d (without_empty names)
       → Agree (bind e t) (bind d u) names
   agree_bound e d t u [] k h = tt
-  agree_bound e d t u ([] ∷ names) k h = (k, agree_bound e d t u names k h)
-  agree_bound e d t u ((c ∷ cs) ∷ names) k h =
-      grind (arith, bound_same, agree_bound e d t u names k h.1)
+  agree_bound e d t u (name ∷ names) k h =
+      grind (arith, bound_same, agree_bound e d t u names k)
 
   -- ---- a text
-
-  list_equal : (range : Option Range) (spec : Spec) (q : ℕ) (j k : Meaning) (f : Slots X → Meaning)
-      (g : Slots Y → Meaning) (o : Option (List (Slots X))) (p : Option (List (Slots Y))) → j ≡ k
-      → ((x : Slots X) (y : Slots Y) → Equal x y → f x ≡ g y) → EqualLists o p
-      → listed_means range spec q j f o ≡ listed_means range spec q k g p
-  list_equal range spec q j k f g o p joins each h =
-      grind (arith, by_test, items_mean_equal, chosen_equal)
 
   target_equal : (asked : Target) (spec : Spec) (q : ℕ) (j k : Meaning) (f : Slots X → Meaning)
       (g : Slots Y → Meaning) (x : Slots X) (y : Slots Y) → j ≡ k
       → ((x : Slots X) (y : Slots Y) → Equal x y → f x ≡ g y) → Equal x y
       → target_means shows asked spec q j f x ≡ target_means others asked spec q k g y
   target_equal asked spec q j k f g x y joins each h =
-      grind (arith, value_equal, values_equal, list_equal, items_equal)
+      grind (arith, value_equal, values_equal, list_equal f g each)
 
   found_equal : (name : List ℕ) (start : ℕ) (means : Slots X → Meaning) (mean : Slots Y → Meaning)
       (o : Option (Slots X)) (p : Option (Slots Y))
@@ -172,13 +138,10 @@ module _ {X Y : Type 0} (shows : X → Trait → Spec → Shown) (others : Y →
         → node_means shows e x ≡ node_means others d x
     node_equal (node place end kind None item join) e d h = refl
     node_equal (node place end kind (Some held) item join) e d h =
-        let own = agree_each e d (content_names false (Some held))
-        (branch_asks true item ++ branch_asks false join) h in
+        let own = agree_each e d (content_names false (Some held)) _ h in
         let groups = agree_each e d (branch_asks true item) (branch_asks false join) own.1 in
-        content_equal e d kind held (join_branch_means shows e join)
-        (join_branch_means others d join)
-        (item_branch_means shows e item) (item_branch_means others d item)
-        (join_equal join e d groups.1) (item_equal item e d groups.0) own.0
+        content_equal e d kind held _ _ _ _ (join_equal join e d groups.1)
+        (item_equal item e d groups.0) own.0
 
     join_equal : (b : Branch) (e : Environment X) (d : Environment Y)
         → Agree e d (branch_asks false b)
@@ -193,14 +156,13 @@ module _ {X Y : Type 0} (shows : X → Trait → Spec → Shown) (others : Y →
         value_equal traits.Display plain_spec q _ _ (values_equal x y same traits.Display)
     item_equal (branch xs) e d h q x y same =
         forest_equal xs (bind e x) (bind d y)
-        (agree_bound e d x y (forest_asks false xs) same
-        (subst (Agree e d) (branch_in_item (branch xs)) h))
+        (agree_bound e d x y _ same (rw (branch_in_item (branch xs)) at h))
 
     forest_equal : (xs : Forest) (e : Environment X) (d : Environment Y)
         → Agree e d (forest_asks false xs) → forest_means shows e xs ≡ forest_means others d xs
     forest_equal no_nodes e d h = refl
     forest_equal (nodes_and x xs) e d h =
-        let each = agree_each e d (node_asks false x) (forest_asks false xs) h in
+        let each = agree_each e d (node_asks false x) _ h in
         both_same (node_equal x e d each.0) (forest_equal xs e d each.1)
 
   -- with equal values under the names that are used, a text means the same
@@ -221,12 +183,8 @@ module _ {X Y : Type 0} (shows : X → Trait → Spec → Shown) (others : Y →
 -- ---- one type of values
 
 module _ {X : Type 0} (shows : X → Trait → Spec → Shown) where
-  slot_itself : (t : Trait) (o : Option X) → EqualSlot shows shows t o o
-  slot_itself t None = tt
-  slot_itself t (Some x) = λ spec. refl
-
   values_itself : (v : Values X) → EqualValues shows shows v v
-  values_itself v t = slot_itself t (slot_at t v)
+  values_itself v = grind arith
 
   mutual
     slots_itself : (tree : Slots X) → EqualSlots shows shows tree tree
@@ -237,17 +195,10 @@ module _ {X : Type 0} (shows : X → Trait → Spec → Shown) where
     list_itself no_slots = tt
     list_itself (slots_and tree us) = (slots_itself tree, list_itself us)
 
-  found_itself : (o : Option (Slots X)) → EqualFound shows shows o o
-  found_itself None = tt
-  found_itself (Some tree) = slots_itself tree
-
   agree_equal : (e d : Environment X) (names : List (List ℕ)) → AgreeOn e d names
       → EqualOn shows shows e d names
   agree_equal e d [] h = tt
-  agree_equal e d (name ∷ names) h = (
-    subst (EqualFound shows shows (slots_under e name)) h.0 (found_itself (slots_under e name)),
-    agree_equal e d names h.1,
-  )
+  agree_equal e d (name ∷ names) h = grind (arith, slots_itself, agree_equal e d names h.1)
 
   -- what environments have under names that are not used does not matter
   pub means_same : (e d : Environment X) (a : At) → AgreeOn e d (asked_names a)

@@ -1,12 +1,16 @@
 -- Pieces up to their first list: from the first piece, and from those after it.
-use Rattle.std.proofs.Common.{◌≡◌, ◌∙◌, refl, ap, arith, ℕ, ◌+◌, ◌≤◌, Bool, true, false}
-use Rattle.std.proofs.Common.{Option, None, Some}
+use Rattle.std.proofs.Common.{rules, ◌≡◌, refl, arith, ℕ, ◌+◌, ◌≤◌, Bool, true, false, Option, None}
+use Rattle.std.proofs.Common.{Some}
 use Rattle.interpolator_render.specs.Written.{Written}
 use Rattle.interpolator_render.specs.declared.view.Trait.{Trait}
 use Rattle.interpolator_render.specs.declared.view.Spec.{Spec}
 use Rattle.interpolator_render.specs.Views.{Shown}
 use Rattle.interpolator_syntax.specs.Faults.{Answer}
-use Rattle.interpolator_syntax.specs.Nodes.{Node, Forest, no_nodes, nodes_and}
+use Rattle.interpolator_syntax.specs.At.{At}
+use Rattle.interpolator_syntax.specs.Nodes.{Node, node, Forest, no_nodes, nodes_and, nodes}
+use Rattle.interpolator_syntax.specs.Nodes.{token_node}
+use Rattle.interpolator_syntax.specs.Tokens.{Token, first_token, past_token}
+use Rattle.interpolator_eval.specs.Meaning.ScannedLists.{text_forest}
 use Rattle.interpolator_eval.specs.Meaning.Environments.{Environment}
 use Rattle.interpolator_eval.specs.Meaning.Meanings.{Meaning, forest_means}
 use Rattle.interpolator_eval.specs.Meaning.Outcomes.{Outcome}
@@ -16,8 +20,9 @@ use Rattle.interpolator_eval.specs.Meaning.Sources.{unlisted_means}
 use Rattle.interpolator_eval.specs.Meaning.Work.{forest_work, node_work}
 use Rattle.interpolator_eval.specs.declared.evaluate.sink.Sink.{Sink}
 use Rattle.interpolator_eval.proofs.MeaningLemmas.SinkLemmas.{and_then, fault_first, goes_on}
-use Rattle.interpolator_eval.proofs.MeaningLemmas.SinkLemmas.{nothing_fails, same_then}
-use Rattle.interpolator_eval.proofs.MeaningLemmas.WorkLemmas.{counts_first, holds_counts}
+use Rattle.interpolator_eval.proofs.MeaningLemmas.SinkLemmas.{nothing_done, nothing_fails, same_end}
+use Rattle.interpolator_eval.proofs.MeaningLemmas.SinkLemmas.{same_then}
+use Rattle.interpolator_eval.proofs.MeaningLemmas.ScanLemmas.{text_none, text_next, next_holds}
 
 module _ (x : Node) (xs : Forest) where
   abbrev Whole : Forest
@@ -47,11 +52,7 @@ module _ (x : Node) (xs : Forest) where
 
     -- nothing is gone through before it
     pub none_gone : asks_list x ≡ true → Gone Whole ≡ 0
-    none_gone listed = ap (λ ys. (forest_work shows e ys).pieces) (before_none listed)
-
-    gone_is : asks_list x ≡ false
-        → Gone Whole ≡ (forest_work shows e (nodes_and x (before_list xs))).pieces
-    gone_is other = ap (λ ys. (forest_work shows e ys).pieces) (before_after other)
+    none_gone listed = grind (arith, before_none)
 
     module _ {W : Type 0} (written : W → Written) (s t : Sink W) where
       -- it is done, and the rest is written
@@ -79,23 +80,28 @@ module _ (x : Node) (xs : Forest) where
         piece_stops q o = by_asked (asks_list x) refl
           where
             by_asked : (b : Bool) → asks_list x ≡ b → 1 ≤ Gone Whole
-            by_asked false other =
-                omega (arith, gone_is other, counts_first shows e x (before_list xs) one)
+            by_asked false other = grind (arith, before_after)
             by_asked true listed = absurd (nothing_fails _ _ q (rw listed at o.outcome))
 
         -- it is done, and the pieces after it come to it
         pub piece_goes : asks_list x ≡ false → Writes written (unlisted_means shows e x) s t None
             → 1 + Gone xs ≡ Gone Whole
-        piece_goes other o = grind (arith, gone_is other)
+        piece_goes other o = grind (arith, before_after)
 
 -- ---- pieces in order, one after another
 
-module _ {X W : Type 0} (shows : X → Trait → Spec → Shown) (e : Environment X) (written : W → Written) where
+module _ {X W : Type 0} (shows : X → Trait → Spec → Shown) (e : Environment X)
+    (written : W → Written) where
   abbrev Means : Forest → Meaning
   Means xs = forest_means shows e (before_list xs)
 
   abbrev Pieces : Forest → ℕ
   Pieces xs = (forest_work shows e (before_list xs)).pieces
+
+  -- what holds something is at least one piece
+  holds_counts : (x : Node) (xs : Forest) → first_holds (nodes_and x xs) ≡ true
+      → 1 ≤ (node_work shows e x).pieces
+  holds_counts (node p end kind content item join) xs h = grind arith
 
   -- what was written before the pieces `rest` and any outcome of these, up to the first list, are an
   -- outcome of all; the first list is the same; and those gone through so far and the rest are all
@@ -107,41 +113,61 @@ module _ {X W : Type 0} (shows : X → Trait → Spec → Shown) (e : Environmen
     pub left : from_list all ≡ from_list rest
     pub gone : count + Pieces rest ≡ n + Pieces all
 
-  module _ {all rest after : Forest} {x : Node} {old s t : Sink W} {n count now : ℕ}
-      (p : Passed all rest old s n count) (first : rest ≡ nodes_and x after)
-      (one : now ≡ count + 1) where
-    -- a piece ends the run
-    pub passed_stops : {q : Answer} → first_holds rest ≡ true
-        → Writes written (unlisted_means shows e x) s t (Some q)
-        → Writes written (Means all) old t (Some q) × (now ≤ n + Pieces all)
-    passed_stops holds o = (
-      goes_on _ _ _ _ _ _ _ p.so_far p.same (rw first (piece_fault x after shows e _ _ _ _ o)),
-      omega (arith, rw first at p.gone, one, piece_stops x after shows e _ _ _ (holds_counts shows e x after (rw first at holds)) _ o),
+  -- no pieces are left
+  pub passed_all : {all : Forest} (a : At) {old s : Sink W} {n count : ℕ}
+      → Passed all (text_forest a) old s n count → first_token a ≡ None
+      → Writes written (Means all) old s None × (from_list all ≡ no_nodes)
+      × (count ≡ n + (Pieces all + 0))
+  passed_all a p h = (
+    goes_on _ _ _ _ _ _ _ p.so_far p.same (search (rules, text_none a h, nothing_done, same_end)),
+    rw (p.left, text_none _ h) refl,
+    grind (arith, p.gone, text_none _ h),
+  )
+
+  module _ {all : Forest} (a : At) {token : Token × At} {old s : Sink W} {n count now : ℕ}
+      (p : Passed all (text_forest a) old s n count) (one : now ≡ count + 1)
+      (is : first_token a ≡ Some token) where
+    abbrev First : Node
+    First = token_node nodes a.place token.0 token.1
+
+    abbrev After : Forest
+    After = text_forest (past_token token.0 token.1)
+
+    counts : 1 ≤ (node_work shows e First).pieces
+    counts = holds_counts First After (rw (text_next a token is) at (next_holds a token is))
+
+    gone_so_far : count + Pieces (nodes_and First After) ≡ n + Pieces all
+    gone_so_far = rw (← text_next a token is) p.gone
+
+    -- the first piece ends the run
+    pub passed_stops : {t : Sink W} {q : Answer}
+        → Writes written (unlisted_means shows e First) s t (Some q)
+        → Writes written (Means all) old t (Some q) × (now ≤ n + (Pieces all + 0))
+    passed_stops o = (
+      goes_on _ _ _ _ _ _ _ p.so_far p.same
+          (rw (text_next a token is) (piece_fault First After shows e _ _ _ _ o)),
+      omega (arith, gone_so_far, one, piece_stops First After shows e _ _ _ counts _ o),
     )
 
     -- it is a list
-    pub passed_list : asks_list x ≡ true → Writes written (unlisted_means shows e x) s t None
-        → Writes written (Means all) old t None × (from_list all ≡ nodes_and x after)
+    pub passed_list : {t : Sink W} → asks_list First ≡ true
+        → Writes written (unlisted_means shows e First) s t None
+        → Writes written (Means all) old t None × (from_list all ≡ nodes_and First After)
         × (now ≡ n + (Pieces all + 1))
     passed_list listed o = (
-      goes_on _ _ _ _ _ _ _ p.so_far p.same (rw first (list_at x after shows e _ _ _ listed o)),
-      p.left ∙ ap from_list first ∙ left_here x after listed,
-      omega (arith, rw first at p.gone, one, none_gone x after shows e listed),
+      goes_on _ _ _ _ _ _ _ p.so_far p.same
+          (rw (text_next a token is) (list_at First After shows e _ _ _ listed o)),
+      rw (p.left, text_next a token is) (left_here First After listed),
+      omega (arith, gone_so_far, one, none_gone First After shows e listed),
     )
 
     -- it is done
-    pub passed_on : asks_list x ≡ false → first_holds rest ≡ true
-        → Writes written (unlisted_means shows e x) s t None → Passed all after old t n now
-    passed_on other holds o = record {
+    pub passed_on : {t : Sink W} → asks_list First ≡ false
+        → Writes written (unlisted_means shows e First) s t None → Passed all After old t n now
+    passed_on other o = record {
       so_far = λ new answer k. p.so_far new answer
-          (rw first (piece_runs x after shows e _ _ _ _ _ other o k));
+          (rw (text_next a token is) (piece_runs First After shows e _ _ _ _ _ other o k));
       same = same_then _ _ _ p.same o.same;
-      left = p.left ∙ ap from_list first ∙ left_after x after other;
-      gone = omega (
-        arith,
-        rw first at p.gone,
-        one,
-        piece_goes x after shows e _ _ _ (holds_counts shows e x after (rw first at holds))
-            other o,
-      );
+      left = rw (p.left, text_next a token is) (left_after First After other);
+      gone = omega (arith, gone_so_far, one, piece_goes First After shows e _ _ _ counts other o);
     }

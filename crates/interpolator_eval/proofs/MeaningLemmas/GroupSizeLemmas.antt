@@ -22,15 +22,12 @@ kind_size (of_value t) = 0
 kind_size (of_list l) = list_size l
 
 group_within : (g : Option Group) (a : At) → GroupIfIn g a → group_size g ≤ length a.text
-group_within None a h = omega arith
-group_within (Some g) a h = omega (arith, h.shorter)
+group_within g a h = grind arith
 
 kind_within : (kind : Kind) (a : At) → KindIn kind a → kind_size kind ≤ length a.text
-kind_within (of_value t) a h = omega arith
-kind_within (of_list l) a h =
-    omega (arith, group_within l.item a h.item, group_within l.join a h.join)
+kind_within kind a h = grind (arith, group_within)
 
 -- no group has more characters than the text after the argument's brace
 pub groups_within : (a : At) (x : Argument) (q : At) → argument_at a ≡ Ok (x, q)
     → kind_size x.kind ≤ length a.text
-groups_within a x q h = kind_within x.kind a (argument_in a x q h)
+groups_within a x q h = grind (arith, kind_within, argument_in)

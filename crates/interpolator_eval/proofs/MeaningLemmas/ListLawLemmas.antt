@@ -1,10 +1,9 @@
 -- What a list argument means, in the words of the laws: its padding, its width, its faults.
 use Rattle.std.proofs.lemmas.Grind.{common_steps}
-use Rattle.std.proofs.Common.{◌≡◌, ◌∙◌, ℕ, false, cond, List, [], ◌∷◌, ◌++◌}
-use Rattle.std.proofs.Common.{length, flat_map, append_assoc, arith, refl, ap, sym, ◌⊎◌, inl, inr}
-use Rattle.std.proofs.Common.{Some, None}
-use Rattle.std.specs.Prelude.{max, replicate, unwrap_or}
-use Rattle.std.proofs.lemmas.List.{append-nil, length-map, replicate-append-replicate}
+use Rattle.std.proofs.Common.{Option, ◌≡◌, ℕ, false, cond, List, [], ◌∷◌, ◌++◌, length, flat_map}
+use Rattle.std.proofs.Common.{append_assoc, arith, refl, inl, inr, Some, None, max, replicate}
+use Rattle.std.proofs.Common.{unwrap_or, append-nil}
+use Rattle.std.proofs.lemmas.List.{length-map, replicate-append-replicate}
 use Rattle.interpolator_render.proofs.LawLemmas.{padded_text_count}
 use Rattle.interpolator_render.proofs.NumberLemmas.{before_within}
 use Rattle.interpolator_render.specs.declared.view.Trait.{Trait}
@@ -18,12 +17,11 @@ use Rattle.interpolator_syntax.specs.Faults.{Fault, parse, iter}
 use Rattle.interpolator_eval.specs.Slots.{Slots}
 use Rattle.interpolator_eval.specs.Meaning.Choices.{chosen_items}
 use Rattle.interpolator_eval.specs.Meaning.Environments.{Environment}
-use Rattle.interpolator_eval.specs.Meaning.ListArguments.{FindsList, AllFinish, joined_texts, FirstFault}
-use Rattle.interpolator_eval.specs.Meaning.ListArguments.{in_item, in_join, argument_meaning, items_alone}
-use Rattle.interpolator_eval.specs.Meaning.Meanings.{Meaning, nothing, fault_alone, chain, items_after}
-use Rattle.interpolator_eval.specs.Meaning.Meanings.{forbids_list, buffered_means, padded_list}
-use Rattle.interpolator_eval.specs.Meaning.Meanings.{items_mean}
-use Rattle.interpolator_syntax.proofs.CaseLemmas.{none_some}
+use Rattle.interpolator_eval.specs.Meaning.ListArguments.{FindsList, AllFinish, joined_texts}
+use Rattle.interpolator_eval.specs.Meaning.ListArguments.{FirstFault, in_item, in_join}
+use Rattle.interpolator_eval.specs.Meaning.ListArguments.{argument_meaning, items_alone}
+use Rattle.interpolator_eval.specs.Meaning.Meanings.{Meaning, nothing, padded_list, items_mean}
+use Rattle.interpolator_eval.specs.Meaning.Meanings.{fault_alone, forbids_list}
 
 -- ---- padding
 
@@ -39,26 +37,6 @@ nothing_padded :
     → (padded_list spec q nothing).text
     ≡ placed_at q (replicate (unwrap_or spec.width 0) (fill_of spec))
 nothing_padded spec q = grind (arith, padded_nothing)
-
--- ---- one meaning after another
-
--- the second is written if the first has no fault
-joined_finishes :
-    (m k : Meaning) → (chain m k).fault ≡ None
-    → (m.fault ≡ None) × (k.fault ≡ None) × ((chain m k).text ≡ m.text ++ k.text)
-joined_finishes m k h = grind arith
-
--- a fault is that of the first, or that of the second after the first
-abbrev FailsFirst : Meaning → Placed → Fault → Type 0
-FailsFirst m text f = (m.fault ≡ Some f) × (text ≡ m.text)
-
-abbrev FailsSecond : Meaning → Meaning → Placed → Fault → Type 0
-FailsSecond m k text f = (m.fault ≡ None) × (k.fault ≡ Some f) × (text ≡ m.text ++ k.text)
-
-joined_fails :
-    (m k : Meaning) (f : Fault) → (chain m k).fault ≡ Some f
-    → FailsFirst m (chain m k).text f ⊎ FailsSecond m k (chain m k).text f
-joined_fails m k f h = grind arith
 
 -- ---- the items in order
 
@@ -77,60 +55,47 @@ module _ {A : Type 0} (join : Meaning) (item : A → Meaning) where
       (xs : List A) → (items_mean join item xs).fault ≡ None
       → AllFinish join item xs × ((items_mean join item xs).text ≡ joined_texts join item xs)
   items_finish [] h = (tt, refl)
-  items_finish (x ∷ xs) h = grind (arith, joined_finishes, append_assoc, flat_map, items_finish xs)
+  items_finish (x ∷ xs) h = grind (arith, append_assoc, flat_map, items_finish xs)
 
   -- with a second item the join is written too
   pub join_finishes :
       (x y : A) (more : List A) → (items_mean join item (x ∷ y ∷ more)).fault ≡ None
       → join.fault ≡ None
-  join_finishes x y more h = grind (arith, joined_finishes)
+  join_finishes x y more h = grind arith
 
   -- the first fault of some items
-  abbrev Fails : List A → Fault → Type 0
-  Fails xs f =
-      (items_mean join item xs).fault ≡ Some f
-      → FirstFault join item xs f (items_mean join item xs).text
-
   module _ (x : A) (f : Fault) where
-    by_rest :
-        (xs : List A) (text : Placed) → (item x).fault ≡ None → join.fault ≡ None
-        → FirstFault join item xs f text
-        → FirstFault join item (x ∷ xs) f ((item x).text ++ (join.text ++ text))
-    by_rest xs text i j (in_item front z back split finish none fails is) =
-        in_item (x ∷ front) z back (ap (λ ys. x ∷ ys) split) (i, finish) (inr j) fails
-        (ap (λ ys. (item x).text ++ ys)
-        (ap (λ ys. join.text ++ ys) is ∙ texts_after front z))
-    by_rest xs text i j (in_join z y back split none fails is) =
-        absurd (none_some (sym j ∙ fails))
+    fails_first : (xs : List A) → (item x).fault ≡ Some f
+        → FirstFault join item (x ∷ xs) f (items_mean join item (x ∷ xs)).text
+    fails_first xs i = in_item [] x xs refl tt (inl refl) i (grind (arith, append-nil))
 
-    by_join :
-        (y : A) (ys : List A) (text rest : Placed) → (item x).fault ≡ None
-        → text ≡ (item x).text ++ rest → Fails (y ∷ ys) f
-        → FailsFirst join rest f ⊎ FailsSecond join (items_mean join item (y ∷ ys)) rest f
-        → FirstFault join item (x ∷ y ∷ ys) f text
-    by_join y ys text rest i t further (inl k) =
-        in_join x y ys refl i k.0 (t ∙ ap (λ xs. (item x).text ++ xs) k.1)
-    by_join y ys text rest i t further (inr k) =
-        rw (t, k.2) (by_rest (y ∷ ys) _ i k.0 (further k.1))
+    fails_joined : (y : A) (ys : List A) → (item x).fault ≡ None → join.fault ≡ Some f
+        → FirstFault join item (x ∷ y ∷ ys) f (items_mean join item (x ∷ y ∷ ys)).text
+    fails_joined y ys i j = in_join x y ys refl i j (grind arith)
 
-    fail_after :
-        (xs : List A) (text : Placed) → Fails xs f
-        → FailsFirst (item x) text f ⊎ FailsSecond (item x) (items_after join item xs) text f
-        → FirstFault join item (x ∷ xs) f text
-    fail_after xs text further (inl k) =
-        in_item [] x xs refl tt (inl refl) k.0 (k.1 ∙ sym (append-nil (item x).text))
-    fail_after [] text further (inr k) = absurd (none_some k.1)
-    fail_after (y ∷ ys) text further (inr k) =
-        by_join y ys text _ k.0 k.2 further
-        (joined_fails join (items_mean join item (y ∷ ys)) f k.1)
+    fails_later : (y : A) (ys : List A) → (item x).fault ≡ None → join.fault ≡ None
+        → FirstFault join item (y ∷ ys) f (items_mean join item (y ∷ ys)).text
+        → FirstFault join item (x ∷ y ∷ ys) f (items_mean join item (x ∷ y ∷ ys)).text
+    fails_later y ys i j (in_item front z back split finish none fails is) =
+        in_item (x ∷ front) z back (cc) (i, finish) (inr j) fails
+        (rw (i, j, is, texts_after front z) refl)
+    fails_later y ys i j (in_join z w back split none fails is) = absurd (cc)
 
   pub items_fail :
       (xs : List A) (f : Fault) → (items_mean join item xs).fault ≡ Some f
       → FirstFault join item xs f (items_mean join item xs).text
-  items_fail [] f h = absurd (none_some h)
-  items_fail (x ∷ xs) f h =
-      fail_after x f xs _ (items_fail xs f)
-      (joined_fails (item x) (items_after join item xs) f h)
+  items_fail [] f h = absurd (cc)
+  items_fail (x ∷ []) f h = fails_first x f [] (grind arith)
+  items_fail (x ∷ y ∷ ys) f h =
+      by_faults (items_fail (y ∷ ys) f) (item x).fault join.fault refl refl
+    where
+      by_faults : ((items_mean join item (y ∷ ys)).fault ≡ Some f
+          → FirstFault join item (y ∷ ys) f (items_mean join item (y ∷ ys)).text)
+          → (o p : Option Fault) → (item x).fault ≡ o → join.fault ≡ p
+          → FirstFault join item (x ∷ y ∷ ys) f (items_mean join item (x ∷ y ∷ ys)).text
+      by_faults rest (Some g) p i j = fails_first x f (y ∷ ys) (grind arith)
+      by_faults rest None (Some g) i j = fails_joined x f y ys i (grind arith)
+      by_faults rest None None i j = fails_later x f y ys i j (rest (grind arith))
 
 -- ---- list arguments
 
@@ -141,15 +106,11 @@ of_list_means spec q m =
 
 module _ {X : Type 0} (shows : X → Trait → Spec → Shown) (e : Environment X) (start q : ℕ)
     (x : Argument) (l : ListRequest) (ts : List (Slots X)) (f : FindsList e x l ts) where
-  list_is : argument_meaning shows e start x q ≡ of_list_means x.spec q (items_alone shows e l q ts)
+  abbrev Means : Meaning
+  Means = argument_meaning shows e start x q
+
+  list_is : Means ≡ of_list_means x.spec q (items_alone shows e l q ts)
   list_is = grind arith
-
-  succeeds : (argument_meaning shows e start x q).fault ≡ None → forbids_list x.spec ≡ false
-  succeeds h = grind (arith, list_is)
-
-  is_padded : forbids_list x.spec ≡ false
-      → argument_meaning shows e start x q ≡ padded_list x.spec q (items_alone shows e l q ts)
-  is_padded h = list_is ∙ rw h refl
 
   -- ---- no item
 
@@ -157,41 +118,31 @@ module _ {X : Type 0} (shows : X → Trait → Spec → Shown) (e : Environment 
     unpadded_is : items_alone shows e l q ts ≡ nothing
     unpadded_is = grind arith
 
-    pub empty_text : (argument_meaning shows e start x q).fault ≡ None
-        → (argument_meaning shows e start x q).text
-        ≡ placed_at q (replicate (unwrap_or x.spec.width 0) (fill_of x.spec))
-    empty_text h = grind (arith, is_padded, succeeds, unpadded_is, nothing_padded)
+    pub empty_text : Means.fault ≡ None
+        → Means.text ≡ placed_at q (replicate (unwrap_or x.spec.width 0) (fill_of x.spec))
+    empty_text h = grind (arith, list_is, unpadded_is, nothing_padded)
 
-    pub empty_fault : (argument_meaning shows e start x q).fault
-        ≡ cond (forbids_list x.spec) (Some (parse (iter q))) None
+    pub empty_fault : Means.fault ≡ cond (forbids_list x.spec) (Some (parse (iter q))) None
     empty_fault = grind (arith, list_is, unpadded_is)
 
   -- ---- a width
 
   module _ (width : ℕ) (wide : x.spec.width ≡ Some width) where
-    whole_is : forbids_list x.spec ≡ false
-        → argument_meaning shows e start x q
-        ≡ buffered_means x.spec q (items_alone shows e l q ts).fault
-        (text_of (items_alone shows e l q ts).text)
-    whole_is h = grind (arith, is_padded)
+    pub wide_text : Means.fault ≡ None
+        → Means.text ≡ placed_at q (padded_text x.spec (text_of (items_alone shows e l q ts).text))
+    wide_text h = grind (arith, list_is)
 
-    pub wide_text : (argument_meaning shows e start x q).fault ≡ None
-        → (argument_meaning shows e start x q).text
-        ≡ placed_at q (padded_text x.spec (text_of (items_alone shows e l q ts).text))
-    wide_text h = grind (arith, whole_is, succeeds)
-
-    pub wide_count : (argument_meaning shows e start x q).fault ≡ None
-        → length (argument_meaning shows e start x q).text
-        ≡ max width (length (items_alone shows e l q ts).text)
+    pub wide_count : Means.fault ≡ None
+        → length Means.text ≡ max width (length (items_alone shows e l q ts).text)
     wide_count h = grind (arith, wide_text, length-map, padded_text_count)
 
     pub wide_fault : (d : Fault) → forbids_list x.spec ≡ false
         → (items_alone shows e l q ts).fault ≡ Some d
-        → ((argument_meaning shows e start x q).text ≡ []) × ((argument_meaning shows e start x q).fault ≡ Some d)
-    wide_fault d h k = grind (arith, whole_is)
+        → (Means.text ≡ []) × (Means.fault ≡ Some d)
+    wide_fault d h k = grind (arith, list_is)
 
   -- ---- no width
 
   pub narrow : forbids_list x.spec ≡ false → x.spec.width ≡ None
-      → argument_meaning shows e start x q ≡ items_alone shows e l q ts
-  narrow h k = is_padded h ∙ rw k refl
+      → Means ≡ items_alone shows e l q ts
+  narrow h k = grind (arith, list_is)

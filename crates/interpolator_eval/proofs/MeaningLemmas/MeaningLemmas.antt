@@ -20,8 +20,7 @@ use Rattle.interpolator_eval.specs.Meaning.Meanings.{node_means, forest_means, m
 shift_twice : (a b : ℕ) (ns : List ℕ)
     → map (λ n. a + b + n) ns ≡ map (λ n. a + n) (map (λ n. b + n) ns)
 shift_twice a b [] = refl
-shift_twice a b (n ∷ ns) =
-    let e : a + b + n ≡ a + (b + n) = omega arith in rw (e, shift_twice a b ns) refl
+shift_twice a b (n ∷ ns) = grind (arith, shift_twice a b ns)
 
 -- joining is associative
 pub joined_assoc : (m k l : Meaning) → chain (chain m k) l ≡ chain m (chain k l)
@@ -37,7 +36,7 @@ joined_assoc m k l = by_faults m.fault refl k.fault refl
 
 unmoved : (ns : List ℕ) → map (λ n. 0 + n) ns ≡ ns
 unmoved [] = refl
-unmoved (n ∷ ns) = let e : 0 + n ≡ n = omega arith in rw (e, unmoved ns) refl
+unmoved (n ∷ ns) = grind (arith, unmoved ns)
 
 -- an empty text before it changes nothing
 pub joined_none : (m : Meaning) → chain (text_alone []) m ≡ m
@@ -45,11 +44,7 @@ joined_none m = rw (unmoved m.memory_points) refl
 
 -- nor does one after it
 pub nothing_last : (m : Meaning) → chain m nothing ≡ m
-nothing_last m = by_fault m.fault refl
-  where
-    by_fault : (o : Option Fault) → m.fault ≡ o → or_fault o m nothing ≡ m
-    by_fault (Some f) e = refl
-    by_fault None e = rw (append-nil m.text, append-nil m.memory_points, ← e) refl
+nothing_last m = grind (arith, append-nil)
 
 module _ {X : Type 0} (shows : X → Trait → Spec → Shown) (e : Environment X) where
   abbrev All : List Node → Meaning
@@ -58,9 +53,7 @@ module _ {X : Type 0} (shows : X → Trait → Spec → Shown) (e : Environment 
   -- what some nodes mean, and then what those after them mean
   pub forest_joined : (xs ys : List Node) → All (xs ++ ys) ≡ chain (All xs) (All ys)
   forest_joined [] ys = sym (joined_none _)
-  forest_joined (x ∷ xs) ys =
-      ap (chain (node_means shows e x)) (forest_joined xs ys)
-      ∙ sym (joined_assoc (node_means shows e x) _ _)
+  forest_joined (x ∷ xs) ys = rw (joined_assoc, ← forest_joined xs ys) refl
 
   -- ---- the pieces of a text
 
@@ -82,8 +75,7 @@ module _ {X : Type 0} (shows : X → Trait → Spec → Shown) (e : Environment 
   -- what some pieces mean, and then what those after them mean
   pub pieces_mean_append : (xs ys : List Piece)
       → pieces_mean shows e (xs ++ ys) ≡ chain (pieces_mean shows e xs) (pieces_mean shows e ys)
-  pieces_mean_append xs ys =
-      ap All (map-append node_alone xs ys) ∙ forest_joined (map node_alone xs) (map node_alone ys)
+  pieces_mean_append xs ys = rw map-append (forest_joined (map node_alone xs) (map node_alone ys))
 
   -- what the pieces before one mean, what it means, and what those after it mean
   pub means_around : (a : At) (before after : List Piece) (x : Piece)
@@ -91,11 +83,10 @@ module _ {X : Type 0} (shows : X → Trait → Spec → Shown) (e : Environment 
       → means shows e a ≡ chain (pieces_mean shows e before)
       (chain (node_means shows e (node_alone x)) (pieces_mean shows e after))
   means_around a before after x h =
-      means_pieces a ∙ ap (pieces_mean shows e) h ∙ pieces_mean_append before (x ∷ after)
+      rw (means_pieces a, h) (pieces_mean_append before (x ∷ after))
 
   pub means_none : (p : ℕ) → means shows e (record { place = p; text = [] }) ≡ nothing
-  means_none p =
-      means_pieces (record { place = p; text = [] }) ∙ ap (pieces_mean shows e) (pieces_none p)
+  means_none p = rw (means_pieces (record { place = p; text = [] }), pieces_none p) refl
 
   -- the first piece, and then the rest
   pub means_next : (p c : ℕ) (cs : List ℕ)

@@ -1,6 +1,6 @@
 -- A text at another base means the same, with every place moved.
-use Rattle.std.proofs.Common.{◌≡◌, ℕ, ◌+◌, ◌<◌, List, [], ◌∷◌}
-use Rattle.std.proofs.Common.{length, map, arith, refl, ap, ◌∙◌, sym, Option, None, option_map}
+use Rattle.std.proofs.Common.{◌≡◌, ℕ, ◌+◌, ◌<◌, List, [], ◌∷◌, length, map, arith, refl}
+use Rattle.std.proofs.Common.{Option, None, option_map}
 use Rattle.std.proofs.lemmas.List.{map-append, length-map}
 use Rattle.interpolator_render.specs.declared.view.Trait.{Trait}
 use Rattle.interpolator_render.specs.declared.view.Spec.{Spec}
@@ -8,27 +8,19 @@ use Rattle.interpolator_render.specs.Views.{Shown}
 use Rattle.interpolator_syntax.specs.At.{At, Placed, placed_at, text_of, outermost}
 use Rattle.interpolator_syntax.specs.Groups.{Group}
 use Rattle.interpolator_syntax.specs.Lists.{ListRequest}
-use Rattle.interpolator_syntax.specs.Pieces.{Piece, PieceKind}
-use Rattle.interpolator_syntax.specs.Pieces.{pieces}
-use Rattle.interpolator_syntax.specs.Faults.{Fault}
+use Rattle.interpolator_syntax.specs.Pieces.{Piece, PieceKind, pieces}
 use Rattle.interpolator_syntax.specs.Grammar.{from_place}
-use Rattle.interpolator_syntax.specs.Moved.{moved_at, moved_group}
-use Rattle.interpolator_syntax.specs.Moved.{moved_piece_kind, moved_piece}
+use Rattle.interpolator_syntax.specs.Moved.{moved_at, moved_group, moved_piece_kind, moved_piece}
 use Rattle.interpolator_eval.specs.Slots.{Slots}
 use Rattle.interpolator_eval.specs.Meaning.Environments.{Environment}
-use Rattle.interpolator_eval.specs.Meaning.Meanings.{Meaning, chain}
-use Rattle.interpolator_eval.specs.Meaning.Meanings.{value_means}
-use Rattle.interpolator_eval.specs.Meaning.Meanings.{padded_list, items_after, items_mean}
-use Rattle.interpolator_eval.specs.Meaning.Meanings.{listed_means}
-use Rattle.interpolator_eval.specs.Meaning.Meanings.{node_means}
-use Rattle.interpolator_eval.specs.Meaning.Meanings.{item_means}
-use Rattle.interpolator_eval.specs.Meaning.Meanings.{join_means, pieces_mean, means}
+use Rattle.interpolator_eval.specs.Meaning.Meanings.{Meaning, items_after, items_mean, pieces_mean}
+use Rattle.interpolator_eval.specs.Meaning.Meanings.{chain, value_means, padded_list, listed_means}
+use Rattle.interpolator_eval.specs.Meaning.Meanings.{node_means, item_means, join_means, means}
 use Rattle.interpolator_eval.specs.Meaning.Moves.{moved_text, moved_meaning}
 use Rattle.interpolator_syntax.proofs.LongestLemmas.{at_same}
 use Rattle.interpolator_syntax.proofs.MovePieceLemmas.{pieces_move}
 use Rattle.interpolator_syntax.proofs.NodeLemmas.{by_length}
-use Rattle.interpolator_syntax.proofs.SizeLemmas.{GroupIfIn, ListIn, PieceIn, PiecesIn}
-use Rattle.interpolator_syntax.proofs.SizeLemmas.{pieces_in}
+use Rattle.interpolator_syntax.proofs.SizeLemmas.{GroupIfIn, ListIn, PieceIn, PiecesIn, pieces_in}
 use Rattle.interpolator_syntax.specs.Nodes.{nodes, piece_node}
 use Rattle.interpolator_eval.proofs.MeaningLemmas.MeaningLemmas.{means_pieces}
 
@@ -45,15 +37,9 @@ module _ (by : ℕ) where
 
   -- ---- joining
 
-  meaning_same : {text other : Placed} {o : Option Fault} {points more : List ℕ} → text ≡ other
-      → points ≡ more
-      → ◌≡◌ {A = Meaning} (record { text = text; fault = o; memory_points = points })
-      (record { text = other; fault = o; memory_points = more })
-  meaning_same e h = cc
-
   both_move : (m k l o : Meaning) → m ≡ moved_meaning by l → k ≡ moved_meaning by o
       → chain m k ≡ moved_meaning by (chain l o)
-  both_move m k l o e h = grind (arith, length-map, meaning_same, map-append)
+  both_move m k l o e h = grind (arith, length-map, map-append)
 
   -- ---- values
 
@@ -62,7 +48,7 @@ module _ (by : ℕ) where
       (record { text = placed_at (q + by) cs; fault = None; memory_points = points })
       (moved_meaning by
       (record { text = placed_at q cs; fault = None; memory_points = points }))
-  text_moves q cs points = meaning_same (placed_at_moves q cs) refl
+  text_moves q cs points = rw placed_at_moves refl
 
   value_moves :
       {X : Type 0} (shows : X → Trait → Spec → Shown) (t : Trait) (spec : Spec) (q : ℕ)
@@ -128,9 +114,8 @@ module _ (by : ℕ) where
         → means shows e (moved_at by a) ≡ moved_meaning by (means shows e a)
     means_moves e a =
         by_length Moves (λ b shorter d.
-        means_pieces shows d (moved_at by b) ∙ ap (pieces_mean shows d) (pieces_move by b)
-        ∙ pieces_mean_moves b shorter d (pieces b) (pieces_in b)
-        ∙ ap (moved_meaning by) (sym (means_pieces shows d b))) a e
+        rw (means_pieces shows d (moved_at by b), pieces_move by b, means_pieces shows d b)
+        (pieces_mean_moves b shorter d (pieces b) (pieces_in b))) a e
 
 -- so a text at a place means what it means by itself, moved by the place
 pub means_from :
@@ -138,4 +123,4 @@ pub means_from :
     → means shows e (from_place p cs) ≡ moved_meaning p (means shows e (outermost cs))
 means_from shows e p cs =
     let there : from_place p cs ≡ moved_at p (outermost cs) = at_same (omega arith) refl in
-    ap (means shows e) there ∙ means_moves p shows e (outermost cs)
+    rw there (means_moves p shows e (outermost cs))

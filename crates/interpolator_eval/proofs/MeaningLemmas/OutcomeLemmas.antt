@@ -1,31 +1,28 @@
 -- One outcome after another.
-use Rattle.std.proofs.Common.{arith}
+use Rattle.std.proofs.Common.{arith, ◌≡◌, sym, ◌∙◌, ap, ◌+◌, List, ◌++◌, map, length, Option, None}
+use Rattle.std.proofs.Common.{Some, inl, inr, append_assoc, length-append, Contains}
 use Rattle.std.proofs.lemmas.Grind.{common_steps}
-use Rattle.std.proofs.Common.{◌≡◌, sym, ◌∙◌, ap, ◌+◌, List, ◌++◌, map, length}
-use Rattle.std.proofs.Common.{Option, None, Some, option_map, inl, inr, append_assoc, length-append}
 use Rattle.std.proofs.lemmas.List.{map-append, length-map}
 use Rattle.std.proofs.Math.ListN.{get_or-map}
 use Rattle.std.proofs.lemmas.List.Elements.{Contains-append_right}
-use Rattle.std.specs.List.{Contains}
 use Rattle.interpolator_render.proofs.LayoutLemmas.{appends_both}
 use Rattle.interpolator_render.specs.Written.{Written}
 use Rattle.interpolator_syntax.specs.At.{Placed, text_of}
-use Rattle.interpolator_syntax.specs.Faults.{Fault, Answer, fault}
+use Rattle.interpolator_syntax.specs.Faults.{Fault, Answer}
 use Rattle.interpolator_eval.specs.Meaning.Meanings.{Meaning, or_fault, chain}
 use Rattle.interpolator_eval.specs.Meaning.Outcomes.{Finished, Outcome}
 
 text_of-append : (xs ys : Placed) → text_of (xs ++ ys) ≡ text_of xs ++ text_of ys
 text_of-append xs ys = grind (arith, map-append)
 
-pub no_fault : (o : Option Fault) → None ≡ option_map fault o → o ≡ None
-no_fault o e = grind arith
-
 -- of the three outcomes, only the first can be without a fault
 pub finished_if_none : (m : Meaning) (old new : Written) → Outcome m old new None
     → Finished m old new None
-finished_if_none m old new (inl h) = h
-finished_if_none m old new (inr (inl h)) = absurd (let e = h.told in cc)
-finished_if_none m old new (inr (inr h)) = absurd (let e = h.told in cc)
+finished_if_none m old new h = grind arith
+
+-- and so what was written whole has no fault
+pub no_fault : (m : Meaning) (old new : Written) → Outcome m old new None → m.fault ≡ None
+no_fault m old new h = grind arith
 
 Contains-map :
     {A B : Type 0} (f : A → B) (xs : List A) (x : A) → Contains xs x → Contains (map f xs) (f x)
@@ -35,28 +32,23 @@ Contains-map f xs x h = grind (arith, length-map, get_or-map)
 pub after_finished :
     (m k : Meaning) (old mid new : Written) (answer : Option Answer) → Finished m old mid None
     → Outcome k mid new answer → Outcome (chain m k) old new answer
-after_finished m k old mid new answer h (inl o) = rw (no_fault m.fault h.told)
-    (inl (record {
-      all = rw (text_of-append m.text k.text)
-          (appends_both old mid new _ _ h.all o.all);
-      told = o.told;
-    }))
-after_finished m k old mid new answer h (inr (inl o)) = rw (no_fault m.fault h.told)
+after_finished m k old mid new answer h (inl o) = rw (no_fault m old mid (inl h)) (inl (record {
+  all = rw (text_of-append m.text k.text) (appends_both old mid new _ _ h.all o.all);
+  told = o.told;
+}))
+after_finished m k old mid new answer h (inr (inl o)) = rw (no_fault m old mid (inl h))
     (inr (inl (record {
       front = m.text ++ o.front;
       c = o.c;
       place = o.place;
       back = o.back;
       split = ap (λ l. m.text ++ l) o.split ∙ sym (append_assoc m.text o.front _);
-      appended = rw (text_of-append m.text o.front, o.appended, h.all.appended)
-          (append_assoc old.text (text_of m.text) (text_of o.front));
+      appended = grind (arith, text_of-append, append_assoc);
       flag = o.flag;
-      none_after_refusal = λ r.
-          let none = o.none_after_refusal (h.all.same_flag ∙ r) in
-          rw (text_of-append m.text o.front, h.all.only_empty r) none;
+      none_after_refusal = grind (arith, text_of-append);
       told = o.told;
     })))
-after_finished m k old mid new answer h (inr (inr o)) = rw (no_fault m.fault h.told)
+after_finished m k old mid new answer h (inr (inr o)) = rw (no_fault m old mid (inl h))
     (inr (inr (record {
       front = m.text ++ o.front;
       back = o.back;

@@ -1,37 +1,28 @@
 -- Every place of a meaning lies in the text.
-use Rattle.std.proofs.Common.{◌≡◌, ℕ, ◌+◌, ◌≤◌, List, [], ◌∷◌, ◌++◌, arith}
-use Rattle.std.proofs.Common.{Option, Some, None, option_map}
+use Rattle.std.proofs.Common.{◌≡◌, ℕ, ◌+◌, ◌≤◌, List, [], ◌∷◌, ◌++◌, arith, Option, Some, None}
+use Rattle.std.proofs.Common.{option_map}
 use Rattle.std.specs.Char.{len_utf8}
 use Rattle.std.specs.Prelude.{⊤}
 use Rattle.interpolator_render.specs.declared.view.Trait.{Trait}
-use Rattle.interpolator_render.specs.declared.view.Trait.TheVariants as traits
 use Rattle.interpolator_render.specs.declared.view.Spec.{Spec}
 use Rattle.interpolator_render.specs.Views.{Shown}
 use Rattle.interpolator_render.specs.Written.{Written}
 use Rattle.interpolator_syntax.specs.At.{At, Placed, placed_at, placed_from, size}
 use Rattle.interpolator_syntax.specs.Faults.{Answer, fault, PlaceWithin}
 use Rattle.interpolator_syntax.specs.Nodes.{Node, node, Branch, no_branch, branch, Forest, no_nodes}
-use Rattle.interpolator_syntax.specs.Nodes.{nodes_and, as_forest, nodes, Content, text_content, argument_content}
-use Rattle.interpolator_syntax.specs.Nodes.{fault_content}
-use Rattle.interpolator_syntax.specs.Nodes.{Target}
-use Rattle.interpolator_syntax.specs.SpecTexts.{plain_spec}
+use Rattle.interpolator_syntax.specs.Nodes.{nodes_and, Content, argument_content, Target}
 use Rattle.interpolator_syntax.specs.declared.piece_kind.PieceKind.{PieceKind}
 use Rattle.interpolator_syntax.specs.declared.range.Range.{Range}
 use Rattle.interpolator_syntax.proofs.TreePlaceLemmas.{ContentLies, NodeLies, BranchLies}
-use Rattle.interpolator_syntax.proofs.TreePlaceLemmas.{ForestLies}
-use Rattle.interpolator_syntax.proofs.TreePlaceLemmas.{places_lie}
-use Rattle.interpolator_eval.specs.Slots.{Slots, values_of, slot_at}
+use Rattle.interpolator_syntax.proofs.TreePlaceLemmas.{ForestLies, places_lie}
+use Rattle.interpolator_eval.specs.Slots.{Slots}
 use Rattle.interpolator_eval.specs.Meaning.Choices.{chosen_items}
 use Rattle.interpolator_eval.specs.Meaning.Environments.{Environment, bind}
-use Rattle.interpolator_eval.specs.Meaning.Meanings.{Meaning, chain}
-use Rattle.interpolator_eval.specs.Meaning.Meanings.{padded_list, value_means}
-use Rattle.interpolator_eval.specs.Meaning.Meanings.{items_after, items_mean}
-use Rattle.interpolator_eval.specs.Meaning.Meanings.{under_name}
+use Rattle.interpolator_eval.specs.Meaning.Meanings.{Meaning, chain, padded_list, value_means}
+use Rattle.interpolator_eval.specs.Meaning.Meanings.{items_after, items_mean, under_name}
 use Rattle.interpolator_eval.specs.Meaning.Meanings.{listed_means, target_means, content_means}
-use Rattle.interpolator_eval.specs.Meaning.Meanings.{node_means}
-use Rattle.interpolator_eval.specs.Meaning.Meanings.{join_branch_means, item_branch_means}
-use Rattle.interpolator_eval.specs.Meaning.Meanings.{forest_means}
-use Rattle.interpolator_eval.specs.Meaning.Meanings.{means}
+use Rattle.interpolator_eval.specs.Meaning.Meanings.{node_means, join_branch_means}
+use Rattle.interpolator_eval.specs.Meaning.Meanings.{item_branch_means, forest_means, means}
 use Rattle.interpolator_eval.specs.Meaning.Outcomes.{Outcome}
 
 -- ---- meanings whose places are among the first
@@ -72,8 +63,7 @@ padded_within n spec q m h k = grind (arith, stands-at)
 
 placed_within : (n p : ℕ) (cs : List ℕ) → p + size cs ≤ n → StandsWithin n (placed_from p cs)
 placed_within n p [] h = tt
-placed_within n p (c ∷ cs) h =
-    (omega (arith, h), placed_within n (p + len_utf8 c) cs (omega (arith, h)))
+placed_within n p (c ∷ cs) h = grind (arith, placed_within n (p + len_utf8 c) cs)
 
 module _ (n : ℕ) {X : Type 0} (shows : X → Trait → Spec → Shown) where
   value_within : (t : Trait) (spec : Spec) (q : ℕ) (o : Option X) → q ≤ n
@@ -107,17 +97,16 @@ module _ (n : ℕ) {X : Type 0} (shows : X → Trait → Spec → Shown) where
         (item : ℕ → Slots X → Meaning) → ContentLies n held
         → ((q : ℕ) (x : Slots X) → q ≤ n → Within n (item q x))
         → Within n (content_means shows e kind held join item)
-    content_within e kind (text_content from cs) item h each = grind (arith, placed_within)
     content_within e kind (argument_content start name spec target q) item h each =
         grind (arith, found_within, stands-append)
-    content_within e kind (fault_content f) item h each = grind arith
+    content_within e kind held item h each = grind (arith, placed_within)
 
   mutual
     node_within : (x : Node) (e : Environment X) → NodeLies n x → Within n (node_means shows e x)
     node_within (node place end kind None item join) e h = record { stands = tt; faults = tt }
     node_within (node place end kind (Some held) item join) e h =
-        content_within (join_branch_means shows e join) (join_within join e h.2) e kind held
-        (item_branch_means shows e item) h.0 (λ q x l. item_within item e q x l h.1)
+        content_within _ (join_within join e h.2) e kind held _ h.0
+        (λ q x l. item_within item e q x l h.1)
 
     join_within : (b : Branch) (e : Environment X) → BranchLies n b
         → Within n (join_branch_means shows e b)
@@ -126,8 +115,7 @@ module _ (n : ℕ) {X : Type 0} (shows : X → Trait → Spec → Shown) where
 
     item_within : (b : Branch) (e : Environment X) (q : ℕ) (x : Slots X) → q ≤ n → BranchLies n b
         → Within n (item_branch_means shows e b q x)
-    item_within no_branch e q x l h =
-        value_within traits.Display plain_spec q (slot_at traits.Display (values_of x)) l
+    item_within no_branch e q x l h = grind (arith, value_within)
     item_within (branch xs) e q x l h = forest_within xs (bind e x) h
 
     forest_within : (xs : Forest) (e : Environment X) → ForestLies n xs
@@ -156,5 +144,5 @@ pub outcome_lies_from :
     → PlaceWithin n answer
 outcome_lies_from shows e p cs n old new answer h o =
     let a : At = record { place = p; text = cs } in
-    outcome_within n (means shows e a) old new answer
-    (forest_within n shows (as_forest (nodes a)) e (places_lie a n (omega (arith, h)))) o
+    outcome_within n _ old new answer
+    (forest_within n shows _ e (places_lie a n (omega (arith, h)))) o

@@ -1,17 +1,13 @@
 -- What a writer leaves of a text whose characters have places.
-use Rattle.std.proofs.Common.{rules}
-use Rattle.std.proofs.Common.{◌≡◌, refl, ◌∙◌, ap, ℕ, ◌+◌, ◌<◌, List, [], ◌∷◌}
-use Rattle.std.proofs.Common.{◌++◌, length, None, Some, inl, inr, arith}
+use Rattle.interpolator_render.proofs.LayoutLemmas.{appends_none}
+use Rattle.std.proofs.Common.{rules, ◌≡◌, refl, ◌∙◌, ℕ, ◌+◌, ◌<◌, List, [], ◌∷◌, ◌++◌, length, None}
+use Rattle.std.proofs.Common.{Some, inl, inr, arith, Err}
 use Rattle.std.proofs.lemmas.List.{map-append}
 use Rattle.std.specs.Char.{len_utf8}
-use Rattle.std.specs.Prelude.{Ok, Err}
-use Rattle.interpolator_render.specs.declared.view.Spec.{Spec}
 use Rattle.interpolator_render.specs.declared.view.Trait.{Trait}
 use Rattle.interpolator_render.specs.declared.view.RenderFault.{RenderFault}
 use Rattle.interpolator_render.specs.declared.view.RenderFault.TheVariants as render_faults
-use Rattle.interpolator_render.specs.Padding.{padded_text, displayed_text}
-use Rattle.interpolator_render.specs.Texts.{ViewText, Renders, has_failed, has_no_text, has_text}
-use Rattle.interpolator_render.specs.Texts.{view_text}
+use Rattle.interpolator_render.specs.Texts.{ViewText, Renders, view_text}
 use Rattle.interpolator_render.specs.Views.{some_text}
 use Rattle.interpolator_render.specs.declared.view.Trait.TheVariants.{Display}
 use Rattle.interpolator_render.proofs.RenderingLemmas.{displayed_as_it_is}
@@ -30,14 +26,12 @@ text_of-placed_at p (c ∷ cs) = grind (arith, text_of-placed_at p cs)
 
 text_of-placed_from : (p : ℕ) (cs : List ℕ) → text_of (placed_from p cs) ≡ cs
 text_of-placed_from p [] = refl
-text_of-placed_from p (c ∷ cs) = ap (λ xs. c ∷ xs) (text_of-placed_from (p + len_utf8 c) cs)
+text_of-placed_from p (c ∷ cs) = grind (arith, text_of-placed_from (p + len_utf8 c) cs)
 
 pub placed_from-append : (p : ℕ) (xs ys : List ℕ)
     → placed_from p (xs ++ ys) ≡ placed_from p xs ++ placed_from (p + size xs) ys
-placed_from-append p [] ys = let e : p + 0 ≡ p = omega arith in rw e refl
-placed_from-append p (c ∷ cs) ys =
-    let e : p + (len_utf8 c + size cs) ≡ p + len_utf8 c + size cs = omega arith in
-    rw e (ap (λ xs. (c, p) ∷ xs) (placed_from-append (p + len_utf8 c) cs ys))
+placed_from-append p [] ys = grind arith
+placed_from-append p (c ∷ cs) ys = grind (arith, placed_from-append (p + len_utf8 c) cs ys)
 
 -- a writer refused a text whose characters are each at the end of those before it
 module _ (placed : List ℕ → Placed) (own : (cs : List ℕ) → text_of (placed cs) ≡ cs)
@@ -45,11 +39,8 @@ module _ (placed : List ℕ → Placed) (own : (cs : List ℕ) → text_of (plac
     (split : (front : List ℕ) (c : ℕ) (rest : List ℕ)
     → (back : Placed) × (placed (front ++ (c ∷ rest)) ≡ placed front ++ ((c, end front) ∷ back)))
     (cs : List ℕ) (old new : Written) (h : AppendsBeginning old cs new) where
-  abbrev IsRefused : Type 0
-  IsRefused =
-      Outcome (text_alone (placed cs)) old new (Some (fault (fmt (end h.beginning))))
-
-  refused_before : (rest : List ℕ) → cs ≡ h.beginning ++ rest → 0 < length rest → IsRefused
+  refused_before : (rest : List ℕ) → cs ≡ h.beginning ++ rest → 0 < length rest
+      → Outcome (text_alone (placed cs)) old new (Some (fault (fmt (end h.beginning))))
   refused_before [] e n = absurd (omega arith)
   refused_before (c ∷ rest) e n =
       inr (inl (record {
@@ -57,15 +48,15 @@ module _ (placed : List ℕ → Placed) (own : (cs : List ℕ) → text_of (plac
         c = c;
         place = end h.beginning;
         back = (split h.beginning c rest).0;
-        split = ap placed e ∙ (split h.beginning c rest).1;
+        split = rw e (split h.beginning c rest).1;
         appended = rw (own h.beginning) h.appended;
         flag = h.flag_set;
-        none_after_refusal = λ r. own h.beginning ∙ h.none_after_refusal r;
+        none_after_refusal = rw (own h.beginning) h.none_after_refusal;
         told = refl;
       }))
 
-  refused : IsRefused
-  refused = grind (arith, refused_before)
+  refused : Outcome (text_alone (placed cs)) old new (Some (fault (fmt (end h.beginning))))
+  refused = refused_before h.rest h.parts h.not_whole
 
 -- a text whose characters are all at one place was written whole, or refused
 pub wrote_at : (p : ℕ) (cs : List ℕ) (old new : Written) → Appends old cs new
@@ -87,23 +78,16 @@ pub refused_from :
     (p : ℕ) (cs : List ℕ) (taken : ℕ) (old new : Written) → Refuses old cs taken new
     → Outcome (text_alone (placed_from p cs)) old new (Some (fault (fmt (p + taken))))
 refused_from p cs taken old new h =
-    let back = λ (xs : List ℕ) (c : ℕ) (rest : List ℕ).
-    placed_from (p + size xs + len_utf8 c) rest in
     rw (h.counted ∙ length-encodes h.part.beginning)
     (refused (placed_from p) (text_of-placed_from p) (λ xs. p + size xs)
-    (λ front c rest. (back front c rest, placed_from-append p front (c ∷ rest))) cs old new h.part)
+    (λ front c rest. (_, placed_from-append p front (c ∷ rest))) cs old new h.part)
 
 -- a writer takes less of a refused text than all of it
 pub taken_fits :
     (cs : List ℕ) (taken : ℕ) (old new : Written) → Refuses old cs taken new → taken < size cs + 1
 taken_fits cs taken old new h = grind (arith, size-append, length-encodes)
 
--- a view was written whole, or refused
-pub view_wrote :
-    (t : Trait) (p : ℕ) (m : ViewText) (old new : Written) (u : Unit {0}) → Renders m old (Ok u) new
-    → Outcome (view_means t p m) old new None
-view_wrote t p m old new u h = grind (arith, wrote_at)
-
+-- a view was refused
 pub view_refused : (t : Trait) (p : ℕ) (m : ViewText) (old new : Written)
     → Renders m old (Err render_faults.Refused) new
     → Outcome (view_means t p m) old new (Some (fault (fmt p)))
@@ -113,25 +97,10 @@ view_refused t p m old new h = grind (arith, refused_at)
 pub view_failed : (t : Trait) (p : ℕ) (m : ViewText) (old new : Written) (f : RenderFault)
     → ¬ (f ≡ render_faults.NotImplemented) → Renders m old (Err f) new
     → Outcome (view_means t p m) old new (Some (fault (fmt p)))
-view_failed t p m old new render_faults.NotImplemented had h = absurd (had refl)
-view_failed t p (has_text cs) old new render_faults.Failed had h = absurd h
-view_failed t p has_no_text old new render_faults.Failed had h = absurd h
-view_failed t p has_failed old new render_faults.Failed had h = search rules
-view_failed t p m old new render_faults.Refused had h = view_refused t p m old new h
+view_failed t p m old new f had h = grind (arith, view_refused, appends_none)
 
 -- a text that is displayed plainly means itself
 pub plain_text_means : (p : ℕ) (cs : List ℕ)
     → view_means Display p (view_text (some_text cs) Display plain_spec) ≡ text_alone (placed_at p cs)
 unfolding view_text
 plain_text_means p cs = search (rules, displayed_as_it_is)
-
--- a padded text was written whole, or refused
-module _ (spec : Spec) (cs : List ℕ) (p : ℕ) (old new : Written) (none : spec.precision
-    ≡ None) where
-  pub pad_wrote : Appends old (displayed_text spec cs) new
-      → Outcome (text_alone (placed_at p (padded_text spec cs))) old new None
-  pad_wrote h = grind (arith, wrote_at)
-
-  pub pad_refused : AppendsBeginning old (displayed_text spec cs) new
-      → Outcome (text_alone (placed_at p (padded_text spec cs))) old new (Some (fault (fmt p)))
-  pad_refused h = grind (arith, refused_at)

@@ -1,28 +1,18 @@
 -- What a name may stand for in a sample, and what those values lack.
-use Rattle.std.proofs.Common.{rules}
-use Rattle.std.proofs.lemmas.Grind.{common_steps}
-use Rattle.std.proofs.Common.{◌≡◌, ◌∙◌, refl, sym, ap, arith, ℕ, zero, suc, ◌+◌, ◌<◌, ◌≤◌, Bool}
-use Rattle.std.proofs.Common.{true, false, ◌||◌, List, [], ◌∷◌, length, drop, map, get_or}
-use Rattle.std.proofs.Common.{Option, Some, None, option_map, add-one}
-use Rattle.std.proofs.Math.Path.{fun_ext}
+use Rattle.std.proofs.Common.{rules, ◌≡◌, ◌∙◌, refl, sym, arith, ℕ, zero, suc, ◌+◌, true, false}
+use Rattle.std.proofs.Common.{List, [], ◌∷◌, add-one, append-nil, flat_map}
 use Rattle.std.proofs.lemmas.Grind.{flat_map-append}
-use Rattle.std.proofs.lemmas.List.{append-nil, drop_more, drop_all}
+use Rattle.std.proofs.Math.Path.{fun_ext}
 use Rattle.std.proofs.lemmas.List.Concat.{flat_map-cons}
-use Rattle.std.proofs.lemmas.List.Folds.{list_any-append}
-use Rattle.std.proofs.lemmas.Str.{chars-nil, encodes-chars}
-use Rattle.std.specs.List.{flat_map, list_any}
-use Rattle.std.specs.Prelude.{MatchOption, encode_utf8_all}
-use Rattle.std.specs.Str.{chars, IsUtf8}
 use Rattle.interpolator_render.specs.Texts.{view_text}
 use Rattle.interpolator_render.specs.Views.{Shown}
 use Rattle.interpolator_render.specs.declared.view.Spec.{Spec}
 use Rattle.interpolator_render.specs.declared.view.Trait.{Trait}
 use Rattle.interpolator_render.specs.declared.view.Trait.TheVariants.{Debug, Display, Iter}
 use Rattle.interpolator_eval.specs.Slots.{Slots}
-use Rattle.interpolator_eval.specs.Meaning.Samples.{is_missing, is_failed, is_for_no_number}
-use Rattle.interpolator_eval.specs.Meaning.Samples.{is_for_numbers, shows_nothing, is_failure}
-use Rattle.interpolator_eval.specs.Meaning.Samples.{alone, each_or, items_or_none, items_of_all}
-use Rattle.interpolator_eval.specs.Meaning.Samples.{at_level}
+use Rattle.interpolator_eval.specs.Meaning.Samples.{is_missing, alone, items_or_none, items_of_all}
+use Rattle.interpolator_eval.specs.Meaning.Samples.{is_failed, is_failure, at_level}
+use Rattle.interpolator_eval.specs.Meaning.Samples.{is_for_no_number, is_for_numbers, shows_nothing}
 
 -- ---- views that have no text
 
@@ -42,28 +32,6 @@ pub view_failed : (s : Shown) (t : Trait) (spec : Spec)
     → is_failed (view_text s t spec) ≡ is_failure s
 unfolding view_text
 view_failed s t spec = grind arith
-
--- ---- some of the values below items
-
-module _ {A B C : Type 0} (p : C → Bool) (f : B → List C) (v : A → B) where
-  abbrev some : List A → Bool
-  some xs = list_any p (flat_map f (map v xs))
-
-  module _ (xs : List A) (i : ℕ) (x : A) (l : i < length xs) (is : x ≡ get_or xs i x) where
-    some_next : some (drop i xs) ≡ (list_any p (f (v x)) || some (drop (i + 1) xs))
-    some_next = grind (arith, drop_more, flat_map-cons, list_any-append)
-
-    pub some_found : (b whole : Bool) → b ≡ true → b ≡ list_any p (f (v x))
-        → some (drop i xs) ≡ whole → true ≡ whole
-    some_found b whole met told h = grind (arith, some_next)
-
-    pub some_goes_on : (b whole : Bool) → b ≡ false → b ≡ list_any p (f (v x))
-        → some (drop i xs) ≡ whole → some (drop (i + 1) xs) ≡ whole
-    some_goes_on b whole unmet told h = grind (arith, some_next)
-
-  pub some_over : (xs : List A) (i : ℕ) (whole : Bool) → length xs ≤ i
-      → some (drop i xs) ≡ whole → false ≡ whole
-  some_over xs i whole l h = grind (arith, drop_all)
 
 -- ---- the values at a level below trees
 
@@ -97,21 +65,3 @@ module _ {X : Type 0} where
 
   pub items_of_one : (found : Slots X) → items_of_all (alone found) ≡ items_or_none found
   items_of_one found = grind (arith, flat_map-cons, append-nil)
-
--- ---- the empty name and others
-
-module _ {X : Type 0} (others : List ℕ → Option (List (Slots X))) where
-  -- what the item may be is what the empty name may stand for
-  pub each_at : {W : Type 0} (f : W → List (Slots X)) (each : Option W) (bs : List ℕ) → length bs ≡ 0
-      → MatchOption each (each_or (option_map f each) others (chars bs) ≡ others (chars bs))
-      (λ items. each_or (option_map f each) others (chars bs) ≡ Some (f items))
-  each_at f each bs e = grind (arith, common_steps, chars-nil)
-
-  pub named_at : (each : Option (List (Slots X))) (bs : List ℕ) → IsUtf8 bs → 0 < length bs
-      → each_or each others (chars bs) ≡ others (chars bs)
-  named_at None bs u h = refl
-  named_at (Some ts) bs u h = at (chars bs) (encodes-chars bs u)
-    where
-      at : (cs : List ℕ) → encode_utf8_all cs ≡ bs → each_or (Some ts) others cs ≡ others cs
-      at [] e = let n : length bs ≡ 0 = sym (ap length e) in absurd (omega arith)
-      at (c ∷ cs) e = refl

@@ -1,7 +1,7 @@
 -- The outcome of a text up to its first list, from those of its first token and of the rest; and
 -- the outcome of an argument, from that of its value.
-use Rattle.std.proofs.Common.{◌≡◌, ◌≢◌, refl, arith, ℕ, true, false}
-use Rattle.std.proofs.Common.{[], Option, None, Some, option_map, Ok, Err}
+use Rattle.std.proofs.Common.{◌≡◌, ◌≢◌, refl, arith, ℕ, true, false, [], Option, None, Some}
+use Rattle.std.proofs.Common.{option_map, Ok, Err}
 use Rattle.interpolator_render.specs.Written.{Written}
 use Rattle.interpolator_render.specs.declared.view.Trait.{Trait}
 use Rattle.interpolator_render.specs.declared.view.Spec.{Spec}
@@ -12,9 +12,8 @@ use Rattle.interpolator_syntax.specs.At.{At, at, strip}
 use Rattle.interpolator_syntax.specs.Classes.{close_brace}
 use Rattle.interpolator_syntax.specs.Faults.{Fault, Answer, fault}
 use Rattle.interpolator_syntax.specs.Lists.{ListRequest}
-use Rattle.interpolator_syntax.specs.Nodes.{Node}
-use Rattle.interpolator_syntax.specs.Nodes.{no_nodes, nodes_and, nodes}
-use Rattle.interpolator_syntax.specs.Nodes.{group_branch, piece_node, token_node}
+use Rattle.interpolator_syntax.specs.Nodes.{Node, no_nodes, nodes_and, nodes, group_branch}
+use Rattle.interpolator_syntax.specs.Nodes.{piece_node, token_node}
 use Rattle.interpolator_syntax.specs.Pieces.{argument_from, argument_step}
 use Rattle.interpolator_syntax.specs.SpecTexts.{Request, of_value, of_list}
 use Rattle.interpolator_syntax.specs.Tokens.{Token, first_token, past_token, argument}
@@ -22,12 +21,10 @@ use Rattle.interpolator_syntax.specs.declared.argument.ArgumentName.{ArgumentNam
 use Rattle.interpolator_syntax.proofs.NodeLemmas.{nodes_first, nodes_none}
 use Rattle.interpolator_eval.specs.Meaning.Environments.{Environment}
 use Rattle.interpolator_eval.specs.Meaning.Meanings.{Meaning, argument_means}
-use Rattle.interpolator_eval.specs.Meaning.Meanings.{forest_means}
 use Rattle.interpolator_eval.specs.Meaning.ScannedLists.{text_forest}
 use Rattle.interpolator_eval.specs.Meaning.Sinks.{Writes}
-use Rattle.interpolator_eval.specs.Meaning.Sources.{asks_list, before_list, from_list, unlisted_means}
-use Rattle.interpolator_eval.specs.Meaning.Sources.{ListArgument, FirstAsks, first_holds, with_brace}
-use Rattle.interpolator_eval.specs.Meaning.Work.{forest_work}
+use Rattle.interpolator_eval.specs.Meaning.Sources.{asks_list, unlisted_means, ListArgument}
+use Rattle.interpolator_eval.specs.Meaning.Sources.{FirstAsks, first_holds, with_brace}
 use Rattle.interpolator_eval.specs.declared.evaluate.sink.Sink.{Sink}
 use Rattle.interpolator_eval.proofs.MeaningLemmas.SinkLemmas.{fault_first, nothing_done, ended}
 use Rattle.interpolator_eval.proofs.MeaningLemmas.SinkLemmas.{same_end}
@@ -123,16 +120,14 @@ unfolding first_token
 token_none a h = grind arith
 
 module _ (a : At) where
-  text_none : first_token a ≡ None → text_forest a ≡ no_nodes
+  -- without a token, no piece is left
+  pub text_none : first_token a ≡ None → text_forest a ≡ no_nodes
   text_none h = grind (arith, nodes_none)
 
   -- without characters there are none
   pub text_empty : a.text ≡ [] → text_forest a ≡ no_nodes
   unfolding first_token
   text_empty h = text_none (rw h refl)
-
-  pub left_none : first_token a ≡ None → from_list (text_forest a) ≡ no_nodes
-  left_none h = rw (text_none h) refl
 
   module _ (x : Token × At) (h : first_token a ≡ Some x) where
     -- the first piece, and then those of the text after it
@@ -150,14 +145,3 @@ module _ (a : At) where
       by_first : (o : Option (Token × At)) → first_token a ≡ o → first_holds (text_forest a) ≡ true
       by_first None h = absurd (some (token_none a h))
       by_first (Some x) h = next_holds x h
-
--- nothing is left, and so nothing to go through
-pub end_gone : {X : Type 0} (shows : X → Trait → Spec → Shown) (e : Environment X) (a : At)
-    → first_token a ≡ None → (forest_work shows e (before_list (text_forest a))).pieces ≡ 0
-end_gone shows e a h = rw (text_none a h) refl
-
--- nothing is left
-pub end_writes : {X W : Type 0} (shows : X → Trait → Spec → Shown) (e : Environment X)
-    (written : W → Written) (a : At) (s : Sink W) → first_token a ≡ None
-    → Writes written (forest_means shows e (before_list (text_forest a))) s s None
-end_writes shows e written a s h = grind (arith, text_none, nothing_done, same_end)

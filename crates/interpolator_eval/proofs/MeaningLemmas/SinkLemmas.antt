@@ -1,11 +1,10 @@
 -- What is written to a sink, one after another.
-use Rattle.std.proofs.Common.{rules}
-use Rattle.std.proofs.Common.{◌≡◌, ℕ, [], ◌∷◌, ◌++◌, Option, None, Some, option_map, false}
-use Rattle.std.proofs.Common.{inl, inr, arith}
+use Rattle.std.proofs.Common.{ap, length, length-append, rules, ◌≡◌, ℕ, [], ◌∷◌, Option, None, Some}
+use Rattle.std.proofs.Common.{option_map, false, inl, inr, arith}
 use Rattle.interpolator_render.specs.declared.view.Spec.{Spec}
 use Rattle.interpolator_render.proofs.LayoutLemmas.{appends_none}
 use Rattle.interpolator_render.specs.Written.{Written}
-use Rattle.interpolator_syntax.specs.At.{Placed, text_of}
+use Rattle.interpolator_syntax.specs.At.{text_of}
 use Rattle.interpolator_syntax.specs.Faults.{Fault, Answer, fault, no_memory}
 use Rattle.interpolator_eval.specs.Meaning.Meanings.{Meaning, nothing, fault_alone, buffered_means}
 use Rattle.interpolator_eval.specs.Meaning.Meanings.{chain}
@@ -39,11 +38,8 @@ ended f s = grind (arith, stops)
 -- if nothing is meant, no fault is returned
 pub nothing_fails : (s t : Written) (q : Answer) → Outcome nothing s t (Some q) → ⊥
 nothing_fails s t q (inl k) = let told = k.told in cc
-nothing_fails s t q (inr (inl k)) = by_front k.front k.split
-  where
-    by_front : (front : Placed) → [] ≡ front ++ ((k.c, k.place) ∷ k.back) → ⊥
-    by_front [] split = cc
-    by_front (x ∷ front) split = cc
+nothing_fails s t q (inr (inl k)) =
+    omega (arith, ap length k.split, length-append k.front ((k.c, k.place) ∷ k.back))
 nothing_fails s t q (inr (inr k)) = omega (arith, k.point.1)
 
 pub same_end : {W : Type 0} (s : Sink W) → SameEnd s s
@@ -68,15 +64,7 @@ module _ (spec : Spec) (q : ℕ) where
   whole_refused m out = grind (arith, appends_none)
 
   -- what was made went to the buffer `now`, which was `empty`, up to its fault; nothing goes to `out`
-  module _ (m : Meaning) (out empty now : Written) (f : Answer) where
-    abbrev Whole : Type 0
-    Whole = Outcome (buffered_means spec q m.fault (text_of m.text)) out out (Some f)
-
-    by_fault : (o : Option Fault) → Some f ≡ option_map fault o
-        → Outcome (buffered_means spec q o (text_of m.text)) out out (Some f)
-    by_fault o d = grind (arith, stops)
-
-    pub whole_fault : now.refused ≡ false → Outcome m empty now (Some f) → Whole
-    whole_fault kept (inl k) = by_fault m.fault k.told
-    whole_fault kept (inr (inl k)) = absurd (let d = k.flag in cc)
-    whole_fault kept (inr (inr k)) = rw k.told (whole_refused m out)
+  pub whole_fault : (m : Meaning) (out empty now : Written) (f : Answer) → now.refused ≡ false
+      → Outcome m empty now (Some f)
+      → Outcome (buffered_means spec q m.fault (text_of m.text)) out out (Some f)
+  whole_fault m out empty now f kept o = grind (arith, appends_none)

@@ -1,30 +1,27 @@
 -- Pieces split into those before the first list and those from it on: what they mean, how many are
 -- gone through, and how many there are.
-use Rattle.std.proofs.Common.{rules}
-use Rattle.std.proofs.Common.{◌≡◌, ◌∙◌, refl, sym, arith, ℕ, suc, ◌+◌, ◌<◌, ◌≤◌}
-use Rattle.std.proofs.Common.{Option, None, Some, if◌then◌else◌}
+use Rattle.std.proofs.Common.{rules, ◌≡◌, ◌∙◌, refl, sym, arith, ℕ, suc, ◌+◌, ◌<◌, ◌≤◌, Option}
+use Rattle.std.proofs.Common.{None, Some, if◌then◌else◌}
 use Rattle.interpolator_render.specs.Written.{Written}
 use Rattle.interpolator_render.specs.declared.view.Trait.{Trait}
 use Rattle.interpolator_render.specs.declared.view.Spec.{Spec}
 use Rattle.interpolator_render.specs.Views.{Shown}
 use Rattle.interpolator_syntax.specs.Faults.{Answer}
-use Rattle.interpolator_syntax.specs.Nodes.{Node, node, Branch, no_branch, branch}
-use Rattle.interpolator_syntax.specs.Nodes.{Forest, no_nodes, nodes_and, argument_content, target_list}
+use Rattle.interpolator_syntax.specs.Nodes.{Node, node, Branch, no_branch, branch, Forest, no_nodes}
+use Rattle.interpolator_syntax.specs.Nodes.{nodes_and, argument_content, target_list}
 use Rattle.interpolator_syntax.specs.declared.piece_kind.PieceKind.{PieceKind}
 use Rattle.interpolator_eval.specs.Meaning.Environments.{Environment}
-use Rattle.interpolator_eval.specs.Meaning.Meanings.{Meaning, chain, node_means}
-use Rattle.interpolator_eval.specs.Meaning.Meanings.{forest_means}
+use Rattle.interpolator_eval.specs.Meaning.Meanings.{Meaning, chain, node_means, forest_means}
 use Rattle.interpolator_eval.specs.Meaning.Outcomes.{Outcome}
-use Rattle.interpolator_eval.specs.Meaning.Sinks.{Writes, taken_by}
-use Rattle.interpolator_eval.specs.Meaning.Sources.{ListArgument, FirstAsks, before_list}
-use Rattle.interpolator_eval.specs.Meaning.Sources.{from_list, has_brace, list_with_brace}
-use Rattle.interpolator_eval.specs.Meaning.Sources.{list_work}
+use Rattle.interpolator_eval.specs.Meaning.Sinks.{SameEnd, Writes, taken_by}
+use Rattle.interpolator_eval.specs.Meaning.Sources.{ListArgument, FirstAsks, before_list, from_list}
+use Rattle.interpolator_eval.specs.Meaning.Sources.{has_brace, list_with_brace, list_work}
 use Rattle.interpolator_eval.specs.Meaning.Work.{or_stop, node_work, forest_work}
 use Rattle.interpolator_eval.specs.declared.evaluate.sink.Sink.{Sink}
 use Rattle.interpolator_eval.proofs.MeaningLemmas.MeaningLemmas.{joined_assoc, joined_none}
 use Rattle.interpolator_eval.proofs.MeaningLemmas.SinkLemmas.{and_then, fault_first, nothing_done}
-use Rattle.interpolator_eval.proofs.MeaningLemmas.SinkLemmas.{same_then}
-use Rattle.interpolator_eval.proofs.MeaningLemmas.WorkLemmas.{no_fault, stops, goes}
+use Rattle.interpolator_eval.proofs.MeaningLemmas.SinkLemmas.{same_then, goes_on}
+use Rattle.interpolator_eval.proofs.MeaningLemmas.OutcomeLemmas.{no_fault}
 
 -- ---- how many there are
 
@@ -71,48 +68,23 @@ module _ {X : Type 0} (shows : X → Trait → Spec → Shown) (e : Environment 
 
   -- ---- what they mean
 
-  abbrev Split : Forest → Type 0
-  Split xs = All xs ≡ chain (All (before_list xs)) (All (from_list xs))
-
   -- those before the first list, and then those from it on
-  means_split : (xs : Forest) → Split xs
+  means_split : (xs : Forest) → All xs ≡ chain (All (before_list xs)) (All (from_list xs))
   means_split no_nodes = refl
   means_split (nodes_and x xs) = grind (arith, joined_none, joined_assoc, means_split xs)
-
-  -- what comes before the first list ends the run
-  pub before_fault : {W : Type 0} (written : W → Written) (s t : Sink W) (xs : Forest) (q : Answer)
-      → Writes written (All (before_list xs)) s t (Some q) → Writes written (All xs) s t (Some q)
-  before_fault written s t xs q o = record {
-    outcome = rw (means_split xs) (fault_first _ _ _ _ q o.outcome);
-    same = o.same;
-  }
-
-  -- nothing comes after it
-  pub all_before : {W : Type 0} (written : W → Written) (s t : Sink W) (xs : Forest)
-      → from_list xs ≡ no_nodes → Writes written (All (before_list xs)) s t None
-      → Writes written (All xs) s t None
-  all_before written s t xs none o = grind (arith, means_split, and_then, nothing_done)
 
   -- ---- how many are gone through
 
   -- those before the first list
-  pub before_stops : (xs : Forest) → Gone (before_list xs) ≤ Gone xs
+  before_stops : (xs : Forest) → Gone (before_list xs) ≤ Gone xs
   before_stops no_nodes = omega arith
   before_stops (nodes_and x xs) = grind (arith, before_stops xs)
 
-  abbrev Goes : Forest → Type 0
-  Goes xs =
-      (All (before_list xs)).fault ≡ None → Gone (before_list xs) + Gone (from_list xs) ≡ Gone xs
-
   -- and, if they are done, those from it on
-  before_goes : (xs : Forest) → Goes xs
+  before_goes : (xs : Forest) → (All (before_list xs)).fault ≡ None
+      → Gone (before_list xs) + Gone (from_list xs) ≡ Gone xs
   before_goes no_nodes none = refl
   before_goes (nodes_and x xs) none = grind (arith, before_goes xs)
-
-  -- nothing comes after them
-  pub goes_before : (xs : Forest) → from_list xs ≡ no_nodes → (All (before_list xs)).fault ≡ None
-      → Gone (before_list xs) ≡ Gone xs
-  goes_before xs none done = grind (arith, before_goes)
 
   -- ---- the first list
 
@@ -129,31 +101,78 @@ module _ {X : Type 0} (shows : X → Trait → Spec → Shown) (e : Environment 
         ≡ chain (All (before_list xs)) (chain (list_with_brace shows e x after) (All h.rest))
     list_split = grind (arith, means_split, argument_is)
 
-    module _ {W : Type 0} (written : W → Written) (s t u : Sink W)
-        (before : Writes written (All (before_list xs)) s t None) where
-      -- it ends the run
-      pub list_fault : (q : Answer) → Writes written (list_with_brace shows e x after) t u (Some q)
-          → Writes written (All xs) s u (Some q)
-      list_fault q o = search (rules, list_split, and_then, fault_first, same_then)
+    from_gone : Gone (from_list xs)
+        ≡ (or_stop (list_with_brace shows e x after).fault (node_work shows e First)
+        (forest_work shows e h.rest)).pieces
+    from_gone = grind (arith, argument_is)
 
-      -- it is done, and what follows it is written
-      pub list_runs : (rest : Forest) (new : Written) (r : Option Answer) → after ≡ Some rest
+  -- ---- pieces list by list
+
+  module _ {W : Type 0} (written : W → Written) where
+    -- what was written before the pieces `rest` and any outcome of these are an outcome of all; and
+    -- those gone through so far and the rest are all
+    pub record ListsPassed (all rest : Forest) (old s : Sink W) (n count : ℕ) : Type 0 where
+      pub so_far : (new : Written) (answer : Option Answer)
+          → Outcome (All rest) (taken_by written s) new answer
+          → Outcome (All all) (taken_by written old) new answer
+      pub same : SameEnd old s
+      pub gone : count + Gone rest ≡ n + Gone all
+
+module _ {X : Type 0} {shows : X → Trait → Spec → Shown} {e : Environment X} {W : Type 0}
+    {written : W → Written} {all xs : Forest} {old s : Sink W} {n count : ℕ}
+    (p : ListsPassed shows e written all xs old s n count) {t : Sink W} {mid : ℕ} where
+  -- what comes before the first list ends the run
+  pub before_ends : {q : Answer} → Writes written (All shows e (before_list xs)) s t (Some q)
+      → mid ≤ count + Gone shows e (before_list xs)
+      → Writes written (All shows e all) old t (Some q) × (mid ≤ n + Gone shows e all)
+  before_ends o most = (
+    goes_on _ _ _ _ _ _ _ p.so_far p.same (search (rules, means_split shows e xs, fault_first)),
+    omega (arith, p.gone, before_stops shows e xs),
+  )
+
+  module _ (before : Writes written (All shows e (before_list xs)) s t None) where
+    -- nothing comes after it
+    pub all_done : from_list xs ≡ no_nodes → mid ≡ count + Gone shows e (before_list xs)
+        → Writes written (All shows e all) old t None × (mid ≡ n + Gone shows e all)
+    all_done none exact = (
+      goes_on _ _ _ _ _ _ _ p.so_far p.same
+          (search (rules, means_split shows e xs, none, and_then, nothing_done)),
+      grind (arith, p.gone, before_goes shows e xs (no_fault _ _ _ before.outcome)),
+    )
+
+    module _ {x : ListArgument} {after : Option Forest} (h : FirstAsks x after (from_list xs))
+        (exact : mid ≡ count + (Gone shows e (before_list xs) + 1)) {u : Sink W} {now : ℕ} where
+      -- the first list ends the run
+      pub list_ends : {q : Answer} → Writes written (list_with_brace shows e x after) t u (Some q)
+          → now ≤ mid + (list_work shows e x).pieces
+          → Writes written (All shows e all) old u (Some q) × (now ≤ n + Gone shows e all)
+      list_ends o most = (
+        goes_on _ _ _ _ _ _ _ p.so_far p.same
+            (search (rules, list_split shows e x after xs h, and_then, fault_first, same_then)),
+        grind (
+          arith,
+          p.gone,
+          before_goes shows e xs (no_fault _ _ _ before.outcome),
+          from_gone shows e x after xs h,
+        ),
+      )
+
+      -- it is done, and what follows it is left
+      pub list_passed : {rest : Forest} → after ≡ Some rest
           → Writes written (list_with_brace shows e x after) t u None
-          → Outcome (All rest) (taken_by written u) new r
-          → Outcome (All xs) (taken_by written s) new r
-      list_runs rest new r is o k =
-          rw (list_split, brace_rest h.kind h.rest rest (sym h.closing ∙ is))
-          (and_then _ _ _ _ _ _ before.outcome (and_then _ _ _ _ _ _ o.outcome k))
-
-      from_gone : Gone (from_list xs)
-          ≡ (or_stop (list_with_brace shows e x after).fault (node_work shows e First)
-          (forest_work shows e h.rest)).pieces
-      from_gone = grind (arith, argument_is)
-
-      pub list_stops : Gone (before_list xs) + (1 + (list_work shows e x).pieces) ≤ Gone xs
-      list_stops = grind (arith, before_goes, no_fault, from_gone, stops)
-
-      pub list_goes : (rest : Forest) → after ≡ Some rest
-          → Writes written (list_with_brace shows e x after) t u None
-          → Gone (before_list xs) + (1 + (list_work shows e x).pieces) + Gone rest ≡ Gone xs
-      list_goes rest is o = grind (arith, brace_rest, before_goes, no_fault, from_gone, goes)
+          → now ≡ mid + (list_work shows e x).pieces
+          → ListsPassed shows e written all rest old u n now
+      list_passed is o gone = record {
+        so_far = λ new answer k. p.so_far new answer
+            (rw (list_split shows e x after xs h, brace_rest h.kind h.rest _ (sym h.closing ∙ is))
+            (and_then _ _ _ _ _ _ before.outcome (and_then _ _ _ _ _ _ o.outcome k)));
+        same = same_then _ _ _ p.same (same_then _ _ _ before.same o.same);
+        gone = grind (
+          arith,
+          p.gone,
+          before_goes shows e xs (no_fault _ _ _ before.outcome),
+          from_gone shows e x after xs h,
+          no_fault _ _ _ o.outcome,
+          brace_rest h.kind h.rest _ (sym h.closing ∙ is),
+        );
+      }

@@ -1,9 +1,6 @@
-use Rattle.std.proofs.Common.{◌∙◌, ap}
-use Rattle.interpolator_eval.specs.Slots.{slots_of, empty_slots, with_iter}
+use Rattle.std.proofs.Common.{arith}
 use Rattle.interpolator_eval.proofs.RowLemmas.{cut_row}
 use Rattle.interpolator_eval.proofs.rows.row.Goals as goal
 
 pub returns : goal.returns
-returns g c =
-    c.iter.ensures ∙ ap (with_iter empty_slots)
-    (cut_row slots_of c.args.items.now c.args.from c.args.to _ _ c.min.ensures c.min-2.ensures)
+returns g c = grind (arith, cut_row)

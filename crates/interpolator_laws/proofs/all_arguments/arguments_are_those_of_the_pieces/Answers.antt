@@ -9,17 +9,6 @@ use Rattle.interpolator_pieces.specs.AllArguments.{arguments_of}
 use Rattle.interpolator_pieces.proofs.AllArgumentLemmas.{arguments_pieces}
 use Rattle.interpolator_laws.proofs.all_arguments.arguments_are_those_of_the_pieces.Goals as goal
 
-pub returns-clause-pieces : goal.returns-clause-pieces
-returns-clause-pieces c = arguments_pieces
-
-pub returns-clause-value : goal.returns-clause-value
+pub returns : goal.returns
 unfolding arguments_of pieces argument_from argument_at spec_after spec_from_sign list_at range_at group_at
-returns-clause-value c = refl
-
-pub returns-clause-places : goal.returns-clause-places
-unfolding arguments_of pieces argument_from argument_at spec_after spec_from_sign list_at range_at group_at
-returns-clause-places c = refl
-
-pub returns-clause-broken : goal.returns-clause-broken
-unfolding arguments_of pieces argument_from argument_at
-returns-clause-broken c = refl
+returns c = record { pieces = arguments_pieces; value = refl; places = refl; broken = refl }

@@ -11,18 +11,12 @@ use Rattle.interpolator_laws.proofs.CheckLawLemmas.{text_has, none_has, first_fa
 use Rattle.interpolator_pieces.proofs.CheckPlaceLemmas.{faults_of_text}
 use Rattle.interpolator_laws.proofs.checks.a_fault_of_its_own_is_that_of_some_piece.Goals as goal
 
-pub returns-clause-listed : goal.returns-clause-listed
-returns-clause-listed c = text_has
-
-pub returns-clause-first : goal.returns-clause-first
-returns-clause-first c = first_faulty
-
-pub returns-clause-none : goal.returns-clause-none
-returns-clause-none c = none_has
-
-pub returns-clause-of_text : goal.returns-clause-of_text
-returns-clause-of_text c = faults_of_text
-
-pub returns-clause-value : goal.returns-clause-value
+pub returns : goal.returns
 unfolding nodes first_token argument_from argument_at spec_after spec_from_sign list_at range_at group_at
-returns-clause-value c = refl
+returns c = record {
+  listed = text_has;
+  first = first_faulty;
+  none = none_has;
+  of_text = faults_of_text;
+  value = refl;
+}

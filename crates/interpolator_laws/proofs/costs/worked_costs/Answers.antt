@@ -10,26 +10,13 @@ use Rattle.interpolator_syntax.specs.Tokens.{first_token}
 use Rattle.interpolator_syntax.specs.Nodes.{nodes}
 use Rattle.interpolator_laws.proofs.costs.worked_costs.Goals as goal
 
-pub returns-clause-pieces : goal.returns-clause-pieces
+pub returns : goal.returns
 unfolding nodes first_token argument_from argument_at spec_after spec_from_sign list_at range_at group_at most_written
-returns-clause-pieces c = refl
-
-pub returns-clause-traits : goal.returns-clause-traits
-unfolding nodes first_token argument_from argument_at spec_after spec_from_sign list_at range_at group_at most_written
-returns-clause-traits c = refl
-
-pub returns-clause-joins : goal.returns-clause-joins
-unfolding nodes first_token argument_from argument_at spec_after spec_from_sign list_at range_at group_at most_written
-returns-clause-joins c = refl
-
-pub returns-clause-ranges : goal.returns-clause-ranges
-unfolding nodes first_token argument_from argument_at spec_after spec_from_sign list_at range_at group_at most_written
-returns-clause-ranges c = refl
-
-pub returns-clause-buffers : goal.returns-clause-buffers
-unfolding nodes first_token argument_from argument_at spec_after spec_from_sign list_at range_at group_at most_written
-returns-clause-buffers c = refl
-
-pub returns-clause-empty : goal.returns-clause-empty
-unfolding nodes first_token argument_from argument_at spec_after spec_from_sign list_at range_at group_at most_written
-returns-clause-empty c = refl
+returns c = record {
+  pieces = refl;
+  traits = refl;
+  joins = refl;
+  ranges = refl;
+  buffers = refl;
+  empty = refl;
+}

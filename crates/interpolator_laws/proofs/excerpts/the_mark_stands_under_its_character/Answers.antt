@@ -2,17 +2,11 @@ use Rattle.interpolator.proofs.ExcerptLemmas.{first_marked, line_under_marks, ma
 use Rattle.interpolator.proofs.ExcerptLemmas.{marks_from_there, shown_in_characters}
 use Rattle.interpolator_laws.proofs.excerpts.the_mark_stands_under_its_character.Goals as goal
 
-pub returns-clause-text : goal.returns-clause-text
-returns-clause-text c = shown_in_characters
-
-pub returns-clause-above : goal.returns-clause-above
-returns-clause-above c = line_under_marks
-
-pub returns-clause-marks : goal.returns-clause-marks
-returns-clause-marks c = marks_from_there
-
-pub returns-clause-there : goal.returns-clause-there
-returns-clause-there c = first_marked
-
-pub returns-clause-index : goal.returns-clause-index
-returns-clause-index c = mark_at
+pub returns : goal.returns
+returns c = record {
+  text = shown_in_characters;
+  above = line_under_marks;
+  marks = marks_from_there;
+  there = first_marked;
+  index = mark_at;
+}

@@ -10,20 +10,12 @@ use Rattle.interpolator_syntax.specs.Nodes.{nodes}
 use Rattle.interpolator_laws.proofs.InnermostLemmas.{innermost_found, none_found}
 use Rattle.interpolator_laws.proofs.places.argument_at_is_innermost.Goals as goal
 
-pub returns-clause-found : goal.returns-clause-found
-returns-clause-found c = innermost_found
-
-pub returns-clause-none : goal.returns-clause-none
-returns-clause-none c = none_found
-
-pub returns-clause-inner : goal.returns-clause-inner
+pub returns : goal.returns
 unfolding nodes first_token argument_from argument_at spec_after spec_from_sign list_at range_at group_at
-returns-clause-inner c = refl
-
-pub returns-clause-outer : goal.returns-clause-outer
-unfolding nodes first_token argument_from argument_at spec_after spec_from_sign list_at range_at group_at
-returns-clause-outer c = refl
-
-pub returns-clause-outside : goal.returns-clause-outside
-unfolding nodes first_token argument_from argument_at spec_after spec_from_sign list_at range_at group_at
-returns-clause-outside c = refl
+returns c = record {
+  found = innermost_found;
+  none = none_found;
+  inner = refl;
+  outer = refl;
+  outside = refl;
+}

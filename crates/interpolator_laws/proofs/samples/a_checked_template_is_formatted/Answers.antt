@@ -1,4 +1,4 @@
-use Rattle.std.specs.Str.{chars}
+use Rattle.std.proofs.Common.{chars}
 use Rattle.interpolator_syntax.specs.At.{outermost}
 use Rattle.interpolator_eval.specs.Meaning.Environments.{environment}
 use Rattle.interpolator_eval.specs.Meaning.Meanings.{means}

@@ -10,18 +10,6 @@ use Rattle.interpolator_syntax.specs.SpecTexts.{spec_from_sign, spec_after}
 use Rattle.interpolator_syntax.specs.Tokens.{first_token}
 use Rattle.interpolator_laws.proofs.samples.faults_over_examples.Goals as goal
 
-pub returns-clause-range : goal.returns-clause-range
+pub returns : goal.returns
 unfolding nodes first_token argument_from argument_at spec_after spec_from_sign list_at range_at group_at view_text
-returns-clause-range c = refl
-
-pub returns-clause-order : goal.returns-clause-order
-unfolding nodes first_token argument_from argument_at spec_after spec_from_sign list_at range_at group_at view_text
-returns-clause-order c = refl
-
-pub returns-clause-missing : goal.returns-clause-missing
-unfolding nodes first_token argument_from argument_at spec_after spec_from_sign list_at range_at group_at view_text
-returns-clause-missing c = refl
-
-pub returns-clause-fails : goal.returns-clause-fails
-unfolding nodes first_token argument_from argument_at spec_after spec_from_sign list_at range_at group_at view_text
-returns-clause-fails c = refl
+returns c = record { range = refl; order = refl; missing = refl; fails = refl }

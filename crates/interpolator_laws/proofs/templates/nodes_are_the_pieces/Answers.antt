@@ -10,16 +10,11 @@ use Rattle.interpolator_syntax.specs.Nodes.{nodes}
 use Rattle.interpolator_syntax.proofs.SplitLemmas.{literals_as_one, pieces_again}
 use Rattle.interpolator_laws.proofs.templates.nodes_are_the_pieces.Goals as goal
 
-pub returns-clause-merged : goal.returns-clause-merged
-returns-clause-merged c = λ a. sym (literals_as_one a)
-
-pub returns-clause-split : goal.returns-clause-split
-returns-clause-split c = pieces_again
-
-pub returns-clause-value : goal.returns-clause-value
-unfolding nodes first_token argument_from argument_at spec_after spec_from_sign
-returns-clause-value c = refl
-
-pub returns-clause-depth : goal.returns-clause-depth
+pub returns : goal.returns
 unfolding nodes first_token argument_from argument_at spec_after spec_from_sign list_at range_at group_at
-returns-clause-depth c = refl
+returns c = record {
+  merged = λ a. sym (literals_as_one a);
+  split = pieces_again;
+  value = refl;
+  depth = refl;
+}

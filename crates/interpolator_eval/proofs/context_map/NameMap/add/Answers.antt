@@ -1,28 +1,20 @@
-use Rattle.std.proofs.Common.{rules, sym, ◌∙◌, ◌≡◌, None}
-use Rattle.std.specs.Str.{chars, encode_utf8_all}
-use Rattle.std.specs.String.{string_bytes}
+use Rattle.std.proofs.Common.{arith, rules, ◌≡◌, chars, encode_utf8_all, string_bytes}
 use Rattle.std.proofs.lemmas.Str.{encodes-chars}
-use Rattle.interpolator_eval.specs.NameMaps.{under}
 use Rattle.interpolator_eval.specs.declared.context_map.NameMap.{NameMap}
-use Rattle.interpolator_eval.proofs.LoanLemmas.{put_in, new_name, kept, absent_name}
+use Rattle.interpolator_eval.proofs.LoanLemmas.{put_in}
 use Rattle.interpolator_eval.proofs.context_map.NameMap.add.Goals as goal
 
 pub returns-then-is_some-clause-ok : goal.returns-then-is_some-clause-ok
-returns-then-is_some-clause-ok g c =
-    kept g.T.Default.is_default c.args.self.now (chars c.args.name.now) c.find.result c.find.ensures
-    (sym c.is_some.ensures ∙ c.if-is_some.true)
+returns-then-is_some-clause-ok g c = grind arith
 
 pub returns-clause-ok : goal.returns-clause-ok
 returns-clause-ok g c =
     let map = c.args.self.now in
     let name = chars c.args.name.now in
-    let absent : under map name ≡ None =
-    absent_name map name c.find.result c.find.ensures (sym c.is_some.ensures
-    ∙ c.if-is_some.false) in
     let bytes : string_bytes c.in_ok-key.key ≡ encode_utf8_all name =
     rw (encodes-chars c.args.name.now c.utf8.name) (search rules) in
     let new : NameMap g.row.T.Denot =
     record { map = c.insert.new.self; alloc = map.alloc; of = map.of } in
-    new_name g.T.Default.is_default map new name c.default.result absent c.default.ensures
-    (put_in map new c.in_ok-key.key name c.default.result c.in_ok-insert.field-0 bytes
-    c.in_ok-insert.ensures.updates c.in_ok-insert.ensures.old c.in_ok-insert.ensures.len)
+    let put = put_in map new c.in_ok-key.key name c.default.result c.in_ok-insert.field-0 bytes
+    c.in_ok-insert.ensures.updates c.in_ok-insert.ensures.old c.in_ok-insert.ensures.len in
+    grind (arith, put)

@@ -1,9 +1,8 @@
-use Rattle.std.proofs.Common.{refl, sym, ◌≡◌}
+use Rattle.std.proofs.Common.{arith, refl, sym, ◌≡◌, chars}
 use Rattle.std.specs.Option.{option_copied_mut}
-use Rattle.std.specs.Str.{chars}
 use Rattle.std.proofs.lemmas.Str.{encodes-chars}
 use Rattle.interpolator_eval.specs.NameMaps.{under}
-use Rattle.interpolator_eval.proofs.LoanLemmas.{lent_in, same}
+use Rattle.interpolator_eval.proofs.LoanLemmas.{lent_in}
 use Rattle.interpolator_eval.proofs.context_map.NameMap.lend.Goals as goal
 
 pub returns : goal.returns
@@ -17,7 +16,7 @@ returns g c =
         refl,
         λ last. lent_in map _ c.get_mut.result name c.args.name.now last (sym spelt) value
             (c.get_mut.follows.holds last),
-        same _ _ c.get_mut.follows.holds-at-none,
+        grind arith,
       ),
       value,
     )

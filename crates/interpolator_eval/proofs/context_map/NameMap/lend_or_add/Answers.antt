@@ -1,22 +1,12 @@
-use Rattle.std.proofs.Common.{refl}
-use Rattle.std.specs.Str.{chars}
-use Rattle.interpolator_eval.proofs.LoanLemmas.{put_after, value_after}
+use Rattle.std.proofs.Common.{arith, refl}
 use Rattle.interpolator_eval.proofs.context_map.NameMap.lend_or_add.Goals as goal
 
 pub returns : goal.returns
-returns g c =
-    let IsDefault = g.T.Default.is_default in
-    let map = c.args.self.now in
-    let name = chars c.args.name.now in (
-      (
-        refl,
-        λ last _. put_after IsDefault map _ _ name last c.in_ok-add.ensures.ok
-            (rw c.in-Some.is at (c.lend.follows.holds last)),
-        tt,
-      ),
-      (
-        value_after IsDefault map _ name c.in-Some.lent.now c.in_ok-add.ensures.ok
-            c.in-Some.ensures.value,
-        tt,
-      ),
-    )
+returns g c = (
+  (
+    refl,
+    λ last _. grind (arith, rw c.in-Some.is at (c.lend.follows.holds last)),
+    tt,
+  ),
+  grind arith,
+)

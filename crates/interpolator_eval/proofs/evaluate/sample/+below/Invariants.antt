@@ -1,5 +1,5 @@
-use Rattle.std.proofs.Common.{◌≡◌, ◌+◌, ◌*◌, map, drop}
-use Rattle.std.specs.List.{flat_map, list_any}
+use Rattle.std.proofs.Common.{◌≡◌, ◌+◌, ◌*◌, map, drop, flat_map}
+use Rattle.std.specs.List.{list_any}
 use Rattle.interpolator_eval.specs.Slots.{slots_of}
 use Rattle.interpolator_eval.specs.Meaning.Samples.{at_level, lacks}
 use Rattle.interpolator_eval.proofs.evaluate.sample.+below.Given as goal

@@ -1,36 +1,27 @@
 use Rattle.std.proofs.Common.{refl, sym}
 use Rattle.std.proofs.lemmas.Result.{err_from_is_err_and}
 use Rattle.interpolator_syntax.specs.At.{at}
-use Rattle.interpolator_syntax.specs.Arguments.{plain_argument}
 use Rattle.interpolator_syntax.proofs.PieceLemmas.{read_alone}
-use Rattle.interpolator_eval.specs.Meaning.CodeEnvironments.{environment_of}
 use Rattle.interpolator_eval.proofs.MeaningLemmas.ScanLemmas.{value_told, value_means_so}
 use Rattle.interpolator_eval.proofs.evaluate.scan.write_argument.Goals as goal
 
 pub returns-in_err-write_plain_value-in-Some-clause-writes :
     goal.returns-in_err-write_plain_value-in-Some-clause-writes
 returns-in_err-write_plain_value-in-Some-clause-writes g c p =
-    let e = environment_of g.C.Context.finds c.args.environment.now in
+    let here = at c.args.here in
     let err = err_from_is_err_and c.from_residual.result c.from_residual.ensures.1 in
-    let named = c.take_name-named.result in
-    let read = read_alone (at c.args.here) named _ c.take_name-named.ensures.read
-    (sym c.in-Some.ensures) in
-    let means = value_means_so (at c.args.here) p (plain_argument named) (at named.end) read _ refl
-    g.C.Object.Value.shows e in
-    rw (err.1, err.2, means, ← c.in-Some.ensures) c.in_err-write_plain_value-in-Some.ensures.writes
+    let closed = sym c.in-Some.ensures in
+    let read = read_alone here c.take_name-named.result _ c.take_name-named.ensures.read closed in
+    rw (err.1, err.2, value_means_so here p _ _ read _ refl, closed)
+    c.in_err-write_plain_value-in-Some.ensures.writes
 
 pub returns-in_ok-write_plain_value-in-Some : goal.returns-in_ok-write_plain_value-in-Some
 returns-in_ok-write_plain_value-in-Some g c =
-    let e = environment_of g.C.Context.finds c.args.environment.now in
     let here = at c.args.here in
-    let named = c.take_name-named.result in
     let closed = sym c.in-Some.ensures in
-    let read = read_alone here named _ c.take_name-named.ensures.read closed in
+    let read = read_alone here c.take_name-named.result _ c.take_name-named.ensures.read closed in
     record {
-      writes = λ p. rw (
-        value_means_so here p (plain_argument named) (at named.end) read _ refl
-            g.C.Object.Value.shows e,
-        closed,
-      ) c.in_ok-write_plain_value-in-Some.ensures.writes;
-      rest = λ p. value_told here p (plain_argument named) (at named.end) read _ refl _ closed;
+      writes = λ p. rw (value_means_so here p _ _ read _ refl, closed)
+          c.in_ok-write_plain_value-in-Some.ensures.writes;
+      rest = λ p. value_told here p _ _ read _ refl _ closed;
     }

@@ -1,5 +1,4 @@
-use Rattle.std.proofs.Common.{length}
-use Rattle.std.specs.Str.{chars}
+use Rattle.std.proofs.Common.{length, chars}
 use Rattle.interpolator_syntax.specs.At.{at}
 use Rattle.interpolator_eval.specs.Meaning.CodeEnvironments.{environment_of}
 use Rattle.interpolator_eval.specs.Meaning.ScannedLists.{text_forest}

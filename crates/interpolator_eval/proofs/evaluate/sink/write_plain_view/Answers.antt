@@ -1,4 +1,4 @@
-use Rattle.std.specs.Str.{chars}
+use Rattle.std.proofs.Common.{chars}
 use Rattle.interpolator_eval.proofs.MeaningLemmas.PlacedLemmas.{plain_text_means}
 use Rattle.interpolator_eval.proofs.evaluate.sink.write_plain_view.Goals as goal
 

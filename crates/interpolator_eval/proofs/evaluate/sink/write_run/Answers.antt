@@ -1,32 +1,19 @@
 use Rattle.std.proofs.Common.{arith, rules, ◌≡◌, ◌<◌, length, get_or}
 use Rattle.interpolator_render.proofs.WrittenLemmas.{appended_within}
 use Rattle.interpolator_syntax.proofs.StripLemmas.{one_char}
-use Rattle.std.specs.Str.{chars}
 use Rattle.interpolator_syntax.proofs.CharacterLemmas.{size-chars}
-use Rattle.interpolator_eval.proofs.MeaningLemmas.PlacedLemmas.{wrote_from, refused_from, taken_fits}
+use Rattle.interpolator_eval.proofs.MeaningLemmas.PlacedLemmas.{wrote_from, refused_from}
+use Rattle.interpolator_eval.proofs.MeaningLemmas.PlacedLemmas.{taken_fits}
 use Rattle.interpolator_eval.proofs.evaluate.sink.write_run.Goals as goal
 
 pub overflow_add-result : goal.overflow_add-result
-overflow_add-result g c =
-    omega (
-      arith,
-      taken_fits (chars c.args.text.now) c.in-Err.refusal.taken _ _ c.in-Err.ensures,
-      size-chars c.args.text.now c.utf8.text,
-    )
+overflow_add-result g c = grind (arith, taken_fits, size-chars)
 
 pub returns-in-Ok : goal.returns-in-Ok
-returns-in-Ok g c =
-    record {
-      outcome = wrote_from c.args.place (chars c.args.text.now) _ _
-          (appended_within _ _ _ _ _ c.in-Ok.ensures);
-    }
+returns-in-Ok g c = grind (arith, wrote_from, appended_within)
 
 pub returns-in-Err : goal.returns-in-Err
-returns-in-Err g c =
-    record {
-      outcome = refused_from c.args.place (chars c.args.text.now) c.in-Err.refusal.taken _ _
-          c.in-Err.ensures;
-    }
+returns-in-Err g c = grind (arith, refused_from)
 
 pub returns-then-is_ascii : goal.returns-then-is_ascii
 returns-then-is_ascii g c =

@@ -1,8 +1,6 @@
-use Rattle.std.proofs.Common.{◌≡◌, None, refl, rules}
+use Rattle.std.proofs.Common.{arith}
 use Rattle.interpolator_render.specs.Texts.{has_no_text}
 use Rattle.interpolator_eval.proofs.evaluate.sink.write_shown.Goals as goal
 
 pub returns-in_default : goal.returns-in_default
-returns-in_default g c =
-    let none : c.args.value ≡ None = search rules in
-    rw none (record { outcome = c.fault_at.ensures.outcome has_no_text _ _ refl })
+returns-in_default g c = grind (arith, c.fault_at.ensures.outcome has_no_text)

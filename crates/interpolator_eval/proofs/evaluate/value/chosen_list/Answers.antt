@@ -1,5 +1,4 @@
-use Rattle.std.proofs.Common.{rules}
-use Rattle.std.specs.Str.{chars}
+use Rattle.std.proofs.Common.{rules, chars}
 use Rattle.interpolator_eval.specs.Meaning.CodeEnvironments.{environment_of}
 use Rattle.interpolator_eval.specs.Slots.{slots_of}
 use Rattle.interpolator_eval.proofs.MeaningLemmas.LookUpLemmas.{list_chosen, chosen_under}
@@ -15,8 +14,4 @@ returns-clause-chosen g c =
 
 pub returns-clause-items : goal.returns-clause-items
 returns-clause-items g c =
-    let e = environment_of g.C.Context.finds c.args.environment.now in
-    let x = c.args.look_up in
-    chosen_under e (chars x.name.now) x.start c.args.range c.args.spec.now x.end
-    slots_of c.in-Some-found.items.now c.choose.result.now
-    (rw c.in-Some-found.is at c.in-Some.ensures) c.choose.ensures
+    chosen_under _ _ _ slots_of _ _ (rw c.in-Some-found.is at c.in-Some.ensures) c.choose.ensures

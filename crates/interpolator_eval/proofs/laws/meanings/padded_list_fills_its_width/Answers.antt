@@ -1,10 +1,8 @@
 use Rattle.interpolator_eval.proofs.MeaningLemmas.ListLawLemmas.{wide_count, wide_text}
 use Rattle.interpolator_eval.proofs.laws.meanings.padded_list_fills_its_width.Goals as goal
 
-pub returns-clause-count : goal.returns-clause-count
-returns-clause-count g c = λ e start q width x l ts f wide.
-    wide_count g.V.Value.shows e start q x l ts f width wide
-
-pub returns-clause-text : goal.returns-clause-text
-returns-clause-text g c = λ e start q width x l ts f wide.
-    wide_text g.V.Value.shows e start q x l ts f width wide
+pub returns : goal.returns
+returns g c = record {
+  count = λ e start q width x l ts f wide. wide_count g.V.Value.shows e start q x l ts f width wide;
+  text = λ e start q width x l ts f wide. wide_text g.V.Value.shows e start q x l ts f width wide;
+}

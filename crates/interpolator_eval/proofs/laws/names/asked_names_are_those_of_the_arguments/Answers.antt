@@ -10,16 +10,6 @@ use Rattle.interpolator_syntax.specs.SpecTexts.{spec_from_sign, spec_after}
 use Rattle.interpolator_eval.proofs.MeaningLemmas.AskedGrammarLemmas.{names_asked, names_only}
 use Rattle.interpolator_eval.proofs.laws.names.asked_names_are_those_of_the_arguments.Goals as goal
 
-pub returns-clause-is : goal.returns-clause-is
-returns-clause-is c = names_asked
-
-pub returns-clause-only : goal.returns-clause-only
-returns-clause-only c = names_only
-
-pub returns-clause-value : goal.returns-clause-value
+pub returns : goal.returns
 unfolding nodes first_token argument_from argument_at spec_after spec_from_sign list_at range_at group_at
-returns-clause-value c = refl
-
-pub returns-clause-order : goal.returns-clause-order
-unfolding nodes first_token argument_from argument_at spec_after spec_from_sign list_at range_at group_at
-returns-clause-order c = refl
+returns c = record { is = names_asked; only = names_only; value = refl; order = refl }

@@ -1,22 +1,10 @@
 -- The pairs are searched for the bytes of the name, which are the bytes of its characters.
-use Rattle.std.proofs.Common.{ap}
-use Rattle.std.specs.Option.{option_map}
+use Rattle.std.proofs.Common.{arith}
 use Rattle.std.proofs.lemmas.Str.{encodes-chars}
-use Rattle.interpolator_eval.specs.Slots.{slots_of}
 use Rattle.interpolator_eval.proofs.pairs.PairsContext.get.Goals as goal
 
 pub returns-in-Some : goal.returns-in-Some
-returns-in-Some g c =
-    record {
-      found =
-          rw (encodes-chars c.args.key.now c.utf8.key) (ap (option_map slots_of)
-          c.in-Some.ensures);
-    }
+returns-in-Some g c = grind (arith, encodes-chars c.args.key.now)
 
 pub returns-in-None : goal.returns-in-None
-returns-in-None g c =
-    record {
-      found =
-          rw (encodes-chars c.args.key.now c.utf8.key) (ap (option_map slots_of)
-          c.in-None.ensures);
-    }
+returns-in-None g c = grind (arith, encodes-chars c.args.key.now)

@@ -1,7 +1,6 @@
 -- One more slot is passed: its name is written, or it is empty.
-use Rattle.std.proofs.Common.{rules, false, ◌≡◌, ◌++◌, arith, sym, ◌∙◌, ◌<◌, take, get_or}
-use Rattle.std.specs.Prelude.{codes}
-use Rattle.std.proofs.lemmas.List.{take_all}
+use Rattle.std.proofs.Common.{rules, false, ◌≡◌, ◌++◌, arith, sym, ◌∙◌, ◌<◌, take, get_or, codes}
+use Rattle.std.proofs.Common.{take_all}
 use Rattle.interpolator_render.specs.declared.view.Trait.TheVariants.{Binary}
 use Rattle.interpolator_eval.specs.Slots.{slots_of}
 use Rattle.interpolator_eval.specs.SlotNames.{slot_name, is_filled, slot_order, filled_names}

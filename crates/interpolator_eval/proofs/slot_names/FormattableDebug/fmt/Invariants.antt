@@ -1,6 +1,5 @@
 -- The names so far are those of the filled slots among the slots passed.
-use Rattle.std.proofs.Common.{◌≡◌, ◌++◌, take}
-use Rattle.std.specs.Prelude.{codes}
+use Rattle.std.proofs.Common.{◌≡◌, ◌++◌, take, codes}
 use Rattle.std.specs.Fmt.{HasWrittenStyled, IsFlush}
 use Rattle.interpolator_eval.specs.Slots.{slots_of}
 use Rattle.interpolator_eval.specs.SlotNames.{is_filled, slot_order}
