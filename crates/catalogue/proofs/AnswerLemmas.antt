@@ -36,7 +36,7 @@ replies_made by_kind none line key format nothing values held (Faults told) soun
 replies_made by_kind none line key format (these ds) values held (Faults told) sound given are h =
     absurd (let no = none_fails by_kind none format ds values held sound given are in
     let some = h.faulty in cc)
-replies_made by_kind none line key format (broken place) values held (Faults told) sound given are h =
+replies_made by_kind none line key format (broken at) values held (Faults told) sound given are h =
     absurd sound
 replies_made by_kind none line key format declared values held (BadWord w) sound given are h =
     absurd h

@@ -102,7 +102,8 @@ module _ (by_kind : ByKind) (means_none : MeansNone) where
   items_alike [] texts e = All-nil IsLikeItem
   items_alike (v ∷ vs) [] e = absurd (cc)
   items_alike (v ∷ vs) (t ∷ ts) e = All-cons IsLikeItem (with_debug_display empty_slots v)
-      (slots_listed (listed_slots (item_slots vs))) (inl (text_alike v (chars t) cc)) (items_alike vs ts cc)
+      (slots_listed (listed_slots (item_slots vs))) (inl (text_alike v (chars t) cc))
+      (items_alike vs ts cc)
 
   -- a value of a kind resembles its example
   value_alike : (kind : Kind) (value : View) (items : List View) (text : List ℕ)

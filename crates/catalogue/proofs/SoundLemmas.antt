@@ -67,7 +67,8 @@ clean_line keys line false None true p r h e =
       clean_key line (head_of line.text) (key_of line.text) keys (omega (arith, both)),
       clean_message line (declared_of line.text) (format_of line.text) (omega (arith, both)),
     ))
-clean_line keys line false None false p r h e = absurd (grind (arith, rw (p, r, h) at e, length-append))
+clean_line keys line false None false p r h e =
+    absurd (grind (arith, rw (p, r, h) at e, length-append))
 
 -- nor of lines
 clean_lines : (keys : List (ℕ × List ℕ)) (ls : List Line) → length (told_of_lines keys ls) ≡ 0

@@ -33,4 +33,5 @@ shown_fits kinds.List text view h = tt
 -- a word that gives an object is good
 pub gives_good : (word : List ℕ) (object : Object) → Gives word object → IsGood word
 gives_good word object h =
-    ((object.name.now, object.kind), h.text, h.cuts, shown_fits object.kind h.text object.value h.value)
+    let fits = shown_fits object.kind h.text object.value h.value in
+    ((object.name.now, object.kind), h.text, h.cuts, fits)

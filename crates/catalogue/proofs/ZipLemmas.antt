@@ -26,7 +26,8 @@ module _ {A B C : Type 0} (f : A → B) (P : B → Type 0) (R : A → C → Type
 
   -- it is the one that is looked at, if all before it have P
   pub first_without : (xs : List A) (i : ℕ) (x : A) (ys : List C) → i < length xs
-      → x ≡ get_or xs i x → AllZip R (take i xs) ys → (¬ P (f x)) → IsFirstWithout P (map f xs) (f x)
+      → x ≡ get_or xs i x → AllZip R (take i xs) ys → ¬ P (f x)
+      → IsFirstWithout P (map f xs) (f x)
   first_without xs i x ys within here h none =
       let rest : drop i xs ≡ x ∷ drop (i + 1) xs =
       let next = at_drop_more (λ l. l) xs i x within in cc in
