@@ -1,6 +1,6 @@
 -- The values of words are within their limits, so what a format means over them is within its cost.
-use Rattle.std.proofs.Common.{◌≡◌, ◌∙◌, refl, ap, ℕ, ◌-◌, ◌^◌, ◌<◌, ◌≤◌, Bool, true, false, cond, suc}
-use Rattle.std.proofs.Common.{List, [], ◌∷◌, All, length, map, Option, None, Some, option_map, arith}
+use Rattle.std.proofs.Common.{◌≡◌, ◌∙◌, refl, ap, ℕ, ◌-◌, ◌^◌, ◌<◌, ◌≤◌, Bool, cond, suc}
+use Rattle.std.proofs.Common.{List, [], ◌∷◌, All, length, map, None, Some, arith}
 use Rattle.std.proofs.Common.{min}
 use mathlib.Core.Path.{fun_ext}
 use Rattle.std.proofs.lemmas.List.{length-map, reverse-append}
@@ -21,14 +21,14 @@ use Rattle.interpolator.specs.Meaning.Meanings.{means}
 use Rattle.interpolator.specs.Meaning.Work.{text_work}
 use Rattle.interpolator.specs.Template.NodeCosts.{text_cost}
 use Rattle.interpolator.specs.Slots.{Slots, empty_slots, listed_slots, slot_at, slots_listed}
-use Rattle.interpolator.specs.Slots.{slots_of, values_of, with_integer}
+use Rattle.interpolator.specs.Slots.{values_of, with_integer}
 use Rattle.interpolator.specs.declared.Formattable.{Formattable}
 use Rattle.interpolator.specs.declared.Limits.{Limits}
 use Rattle.interpolator.specs.declared.Trait.{Trait}
 use Rattle.interpolator.specs.declared.Trait.TheVariants.{Iter}
 use Rattle.strangers.specs.Serving.{IsServed, IsWhole, Rejects, first_why, format_why, given_why}
 use Rattle.strangers.specs.Serving.{meaning_over, shows, words_why}
-use Rattle.strangers.specs.Values.{AreInRange, IsInRange, Named, Row, characters_of, found_by_words}
+use Rattle.strangers.specs.Values.{AreInRange, IsInRange, Row, characters_of, found_by_words}
 use Rattle.strangers.specs.Values.{given_tree, longest_of, pair_named, word_named}
 use Rattle.strangers.proofs.ServingLemmas.{afforded, neither}
 use Rattle.strangers.proofs.ValueLemmas.{let_through}
