@@ -1,6 +1,6 @@
 -- What is left of a list, and the first of what some things give.
-use Rattle.std.proofs.Common.{◌≡◌, ◌∙◌, ap, refl, sym, ℕ, ◌+◌, ◌<◌, List, [], ◌∷◌, ◌++◌, append_assoc}
-use Rattle.std.proofs.Common.{drop, get_or, length, map, Option, None, Some}
+use Rattle.std.proofs.Common.{◌≡◌, ◌∙◌, ap, arith, refl, sym, ℕ, ◌+◌, ◌<◌, List, [], ◌∷◌, ◌++◌}
+use Rattle.std.proofs.Common.{Bool, Option, Some, append_assoc, drop, filter, get_or, length, map}
 use Rattle.std.proofs.lemmas.List.{at_drop_more}
 use Rattle.std.proofs.lemmas.List.Elements.{All-head, All-tail}
 use Rattle.std.specs.List.{All, concat}
@@ -20,36 +20,27 @@ pub told_rest : {A : Type 0} (f : A → List ℕ) (x : A) (xs rest : List A)
 told_rest f x xs rest told more new all split so_far one pushed =
     rw (pushed, one, append_assoc told (f x) (concat (map f rest))) (rw split at so_far)
 
--- the first of what was found and of what is left
-or_next : {A B C : Type 0} (f : A → C) (g : B → C) (found one : Option A) (given rest : Option B)
-    → option_map f one ≡ option_map g given
-    → option_or (option_map f (option_or found one)) (option_map g rest)
-    ≡ option_or (option_map f found) (option_map g (option_or given rest))
-or_next f g (Some x) one given rest h = refl
-or_next f g None None None rest h = refl
-or_next f g None (Some x) (Some y) rest h = h
-or_next f g None None (Some y) rest h = absurd (cc)
-or_next f g None (Some x) None rest h = absurd (cc)
+-- the first of what was found and of what is left, once one more is looked at
+pub found_next : {A B C : Type 0} (f : A → B) (gives : C → Option B) (x : C) (xs rest : List C)
+    (found one : Option A) (all : Option B) → xs ≡ x ∷ rest
+    → option_or (option_map f found) (first_given gives xs) ≡ all → option_map f one ≡ gives x
+    → option_or (option_map f (option_or found one)) (first_given gives rest) ≡ all
+found_next f gives x xs rest found one all split so_far this =
+    grind (arith, split, so_far, this)
 
--- the same, once one more is looked at
-pub found_rest : {A B C E : Type 0} (f : A → C) (g : B → C) (gives : E → Option B) (x : E)
-    (xs rest : List E) (found one : Option A) (all : Option C) → xs ≡ x ∷ rest
-    → option_or (option_map f found) (option_map g (first_given gives xs)) ≡ all
-    → option_map f one ≡ option_map g (gives x)
-    → option_or (option_map f (option_or found one)) (option_map g (first_given gives rest)) ≡ all
-found_rest f g gives x xs rest found one all split so_far this =
-    or_next f g found one (gives x) (first_given gives rest) this ∙ (rw split at so_far)
+-- the first that is given is as all are
+pub given_holds : {A B : Type 0} (gives : A → Option B) (P : A → Type 0) (Q : B → Type 0)
+    → ((x : A) (y : B) → P x → gives x ≡ Some y → Q y) → (xs : List A) (y : B) → All P xs
+    → first_given gives xs ≡ Some y → Q y
+given_holds gives P Q each [] y all e = absurd (cc)
+given_holds gives P Q each (x ∷ xs) y all e = grind (
+  arith,
+  each x y (All-head P x xs all),
+  given_holds gives P Q each xs y (All-tail P x xs all),
+)
 
-module _ {A B : Type 0} (gives : A → Option B) (P : A → Type 0) (Q : B → Type 0)
-    (each : (x : A) (y : B) → P x → gives x ≡ Some y → Q y) where
-  -- one that is given first, or later
-  by_first : (x : A) (y : B) (o rest : Option B) → gives x ≡ o → P x → (rest ≡ Some y → Q y)
-      → option_or o rest ≡ Some y → Q y
-  by_first x y (Some z) rest here holds next e = each x y holds (here ∙ e)
-  by_first x y None rest here holds next e = next e
-
-  -- the first that is given is as all are
-  pub given_holds : (xs : List A) (y : B) → All P xs → first_given gives xs ≡ Some y → Q y
-  given_holds [] y all e = absurd (cc)
-  given_holds (x ∷ xs) y all e = by_first x y (gives x) (first_given gives xs) refl
-      (All-head P x xs all) (given_holds xs y (All-tail P x xs all)) e
+-- what is kept of things is what is kept of those that they are made of
+pub filter_mapped : {A B : Type 0} (p : B → Bool) (f : A → B) (xs : List A)
+    → filter p (map f xs) ≡ map f (filter (λ x. p (f x)) xs)
+filter_mapped p f [] = refl
+filter_mapped p f (x ∷ xs) = grind (arith, filter_mapped p f xs)

@@ -1,5 +1,5 @@
 -- Values of declared kinds resemble the examples of these: a sound format has no fault over them.
-use Rattle.std.proofs.Common.{◌≡◌, refl, sym, subst, inl, ℕ, List, [], ◌∷◌, map, None, Option}
+use Rattle.std.proofs.Common.{◌≡◌, arith, refl, sym, inl, ℕ, List, [], ◌∷◌, map, None, Option}
 use Rattle.std.proofs.lemmas.List.Elements.{All-nil, All-cons}
 use Rattle.std.proofs.lemmas.Slice.Eq.{bytes_eq-Decides}
 use Rattle.std.specs.List.{All, AllZip}
@@ -19,20 +19,18 @@ use Rattle.interpolator.specs.Views.{Shown, decimal_number, shown_as_value, sign
 use Rattle.interpolator.specs.declared.Bits.TheVariants.{B128}
 use Rattle.interpolator.specs.declared.Spec.{Spec}
 use Rattle.interpolator.specs.declared.Trait.{Trait}
-use Rattle.interpolator.specs.declared.Trait.TheVariants.{Debug, Display, Iter, LowerExp, UpperExp}
 use Rattle.interpolator.specs.declared.View.{View}
 use Rattle.catalogue.specs.Declarations.{these}
-use Rattle.catalogue.specs.Entries.{Held, found_by, held_by, item_slots, slots_by}
+use Rattle.catalogue.specs.Entries.{Held, found_by, item_slots, slots_by}
 use Rattle.catalogue.specs.Examples.{example, example_of, example_slots, faults_of, text_example}
 use Rattle.catalogue.specs.Examples.{view_shows}
 use Rattle.catalogue.specs.Messages.{message_means}
-use Rattle.catalogue.specs.Picks.{IsPicked}
+use Rattle.catalogue.specs.Picks.{HoldsPick}
 use Rattle.catalogue.specs.Words.{Gives, IsGiven, ShowsAs, items_in, items_of, texts_show}
 use Rattle.catalogue.specs.declared.declarations.Kind.{Kind}
 use Rattle.catalogue.specs.declared.declarations.Kind.TheVariants as kinds
 use Rattle.catalogue.specs.declared.entries.Object.{Object}
-use Rattle.catalogue.proofs.HeldLemmas.{IsLike, found_alike}
-use Rattle.catalogue.proofs.SoundLemmas.{last_holds}
+use Rattle.catalogue.proofs.HeldLemmas.{IsLike, found_alike, last_holds}
 
 -- what is shown has a text if what shows nothing under the same traits, and fails alike, has one
 abbrev pub ByKind : Type 0
@@ -51,7 +49,7 @@ names_alike : (held examples : List Held) (names : List (List ℕ)) → AllZip I
     (environment (found_by examples)) names
 names_alike held examples [] h = tt
 names_alike held examples (name ∷ names) h =
-    (found_alike held examples h name, names_alike held examples names h)
+    (found_alike held examples name h, names_alike held examples names h)
 
 -- what words give is given
 pub all_given : {W : Type 0} (bytes : W → List ℕ) (words : List W) (objects : List Object)
@@ -70,24 +68,18 @@ HasTextsOf value sample t = (spec : Spec) → HasText (view_text (shown_as_value
 list_slots : (t : Trait) → ResemblesSlot view_shows view_shows t
     (slot_at t (values_of (example_slots kinds.List)))
     (slot_at t (values_of (example_slots kinds.List)))
-list_slots Debug = tt
-list_slots _ = tt
+list_slots t = grind arith
 
 -- the slots of a value of another kind resemble those of its example
 slots_alike : (kind : Kind) (value : View) (t : Trait) → HasTextsOf value (example kind) t
     → ResemblesSlot view_shows view_shows t (slot_at t (values_of (slots_by kind value [])))
     (slot_at t (values_of (example_slots kind)))
-slots_alike kinds.Text value Debug h = h
-slots_alike kinds.Text value Display h = h
-slots_alike kinds.Text value _ h = tt
-slots_alike kinds.Number value Iter h = tt
-slots_alike kinds.Number value _ h = h
-slots_alike kinds.Decimal value Debug h = h
-slots_alike kinds.Decimal value Display h = h
-slots_alike kinds.Decimal value LowerExp h = h
-slots_alike kinds.Decimal value UpperExp h = h
-slots_alike kinds.Decimal value _ h = tt
-slots_alike kinds.List value t h = list_slots t
+slots_alike kind value t h = grind (arith, h, list_slots)
+
+-- an item of a list resembles the one of its example
+abbrev IsLikeItem : Slots View → Type 0
+IsLikeItem item =
+    ResemblesSome view_shows view_shows item (listed_slots (item_slots (text_example ∷ [])))
 
 module _ (by_kind : ByKind) (means_none : MeansNone) where
   -- what shows another value of the example's type has its texts
@@ -106,17 +98,12 @@ module _ (by_kind : ByKind) (means_none : MeansNone) where
   -- the items of a list resemble the one of its example
   items_alike : (views : List View) (texts : List (List ℕ))
       → map shown_as_value views ≡ texts_show texts
-      → All (λ item. ResemblesSome view_shows view_shows item
-      (listed_slots (item_slots (text_example ∷ [])))) (slots_listed (listed_slots (item_slots views)))
-  items_alike [] texts e = All-nil _
+      → All IsLikeItem (slots_listed (listed_slots (item_slots views)))
+  items_alike [] texts e = All-nil IsLikeItem
   items_alike (v ∷ vs) [] e = absurd (cc)
-  items_alike (v ∷ vs) (t ∷ ts) e =
-      let first : shown_as_value v ≡ some_text (chars t) = cc in
-      let rest : map shown_as_value vs ≡ texts_show ts = cc in
-      All-cons (λ item. ResemblesSome view_shows view_shows item
-      (listed_slots (item_slots (text_example ∷ [])))) (with_debug_display empty_slots v)
-      (slots_listed (listed_slots (item_slots vs)))
-      (inl (text_alike v (chars t) first)) (items_alike vs ts rest)
+  items_alike (v ∷ vs) (t ∷ ts) e = All-cons IsLikeItem (with_debug_display empty_slots v)
+      (slots_listed (listed_slots (item_slots vs))) (inl (text_alike v (chars t) cc))
+      (items_alike vs ts cc)
 
   -- a value of a kind resembles its example
   value_alike : (kind : Kind) (value : View) (items : List View) (text : List ℕ)
@@ -131,32 +118,30 @@ module _ (by_kind : ByKind) (means_none : MeansNone) where
   value_alike kinds.List value items text h k = (list_slots, items_alike items (items_of text) k)
 
   -- what is picked of given values resembles the examples
-  pick_alike : (objects : List Object) (declared : List ℕ × Kind) (object : Object)
-      → All IsGiven objects → IsPicked objects declared object
-      → IsLike (held_by object) (example_of declared)
-  pick_alike objects declared object given is =
+  pick_alike : (objects : List Object) (declared : List ℕ × Kind) (held : Held)
+      → All IsGiven objects → HoldsPick objects declared held → IsLike held (example_of declared)
+  pick_alike objects declared held given h =
       let found = last_holds (λ (one : Object). bytes_eq declared.0 one.name.now) IsGiven objects
-      object given is.last in (
-        sym ((bytes_eq-Decides declared.0 object.name.now).0 found.0),
-        subst (λ kind. Resembles view_shows view_shows (held_by object).1 (example_slots kind))
-            is.of_kind (value_alike object.kind object.value object.items.items found.1.1.text
-            found.1.1.value found.1.1.items),
+      h.object given h.is.last in
+      rw (h.holds, ← h.is.of_kind) (
+        sym ((bytes_eq-Decides declared.0 h.object.name.now).0 found.0),
+        value_alike h.object.kind h.object.value h.object.items.items found.1.1.text
+            found.1.1.value found.1.1.items,
       )
 
-  all_alike : (objects : List Object) (ds : List (List ℕ × Kind)) (picked : List Object)
-      → All IsGiven objects → AllZip (IsPicked objects) ds picked
-      → AllZip IsLike (map held_by picked) (map example_of ds)
+  all_alike : (objects : List Object) (ds : List (List ℕ × Kind)) (held : List Held)
+      → All IsGiven objects → AllZip (HoldsPick objects) ds held
+      → AllZip IsLike held (map example_of ds)
   all_alike objects [] [] g h = h
-  all_alike objects [] (o ∷ os) g h = absurd h
+  all_alike objects [] (x ∷ xs) g h = absurd h
   all_alike objects (d ∷ ds) [] g h = absurd h
-  all_alike objects (d ∷ ds) (o ∷ os) g h =
-      (pick_alike objects d o g h.0, all_alike objects ds os g h.1)
+  all_alike objects (d ∷ ds) (x ∷ xs) g h =
+      (pick_alike objects d x g h.0, all_alike objects ds xs g h.1)
 
   -- so no message fails
-  pub none_fails : (format : List ℕ) (ds : List (List ℕ × Kind)) (objects picked : List Object)
-      → faults_of (these ds) format ≡ [] → All IsGiven objects
-      → AllZip (IsPicked objects) ds picked
-      → (message_means format (map held_by picked)).fault ≡ None
-  none_fails format ds objects picked sound g h =
+  pub none_fails : (format : List ℕ) (ds : List (List ℕ × Kind)) (objects : List Object)
+      (held : List Held) → faults_of (these ds) format ≡ [] → All IsGiven objects
+      → AllZip (HoldsPick objects) ds held → (message_means format held).fault ≡ None
+  none_fails format ds objects held sound g h =
       means_none (found_by (map example_of ds)) _ (outermost (chars format)) sound
-      (names_alike _ _ (asked_names (outermost (chars format))) (all_alike objects ds picked g h))
+      (names_alike _ _ (asked_names (outermost (chars format))) (all_alike objects ds held g h))

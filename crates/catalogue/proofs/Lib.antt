@@ -3,9 +3,6 @@ pub mod FirstLemmas
 pub mod HeldLemmas
 pub mod KeyLemmas
 pub mod KindLemmas
-pub mod OwnLemmas
-pub mod PartLemmas
-pub mod PickLemmas
 pub mod RuleLemmas
 pub mod SoundLemmas
 pub mod WordLemmas

@@ -1,6 +1,6 @@
 -- The keys of the lines of a file. Texts are bytes.
-use Rattle.std.specs.Prelude.{◌≡◌, ◌≢◌, ◌↔◌, ℕ, ◌==◌, List, [], ◌∷◌, ◌++◌, codes, length}
-use Rattle.std.specs.Prelude.{if◌then◌else◌, Option, None, Some}
+use Rattle.std.specs.Prelude.{◌≡◌, ◌≢◌, ℕ, ◌==◌, List, [], ◌∷◌, ◌++◌, codes, length}
+use Rattle.std.specs.Prelude.{if◌then◌else◌, Option, None, Some, is_some}
 use Rattle.std.specs.Borrow.{Bor}
 use Rattle.std.specs.Fmt.{decimal}
 use Rattle.std.specs.HashMap.{HashMap, get_by, hash_map_len}
@@ -11,20 +11,22 @@ use Rattle.catalogue.specs.Declarations.{begin_of}
 use Rattle.catalogue.specs.Files.{Line}
 use Rattle.catalogue.specs.Reports.{told_at}
 
--- the key of a line with its number, if it has one, as a list
-abbrev pub as_keys : ℕ → Option (List ℕ) → List (ℕ × List ℕ)
-as_keys number None = []
-as_keys number (Some key) = (number, key) ∷ []
-
 -- the number of the line that has a key, if one has
 abbrev pub number_of : List (ℕ × List ℕ) → List ℕ → Option ℕ
-number_of keys key = option_map (λ one. one.0) (find (λ one. bytes_eq key one.1) keys)
+number_of keys key = option_map (λ one. one.0) (find (λ one. bytes_eq one.1 key) keys)
 
--- a map has the number of the first line of each of these keys, and no other key
+-- the keys of some lines with their numbers, and that of one more line, if it has one that none of
+-- them has: so each key is there once, with the number of its first line
+abbrev pub with_key : List (ℕ × List ℕ) → ℕ → Option (List ℕ) → List (ℕ × List ℕ)
+with_key keys number None = keys
+with_key keys number (Some key) =
+    if is_some (number_of keys key) then keys else (number, key) ∷ keys
+
+-- a map has the number of each of these keys, and no other key
 pub record Remembers {S : Type 0} (keys : List (ℕ × List ℕ)) (map : HashMap (Bor (List ℕ)) ℕ S)
     : Type 0 where
   pub finds : (key : List ℕ) → get_by (λ one. bytes_eq key one.now) map ≡ number_of keys key
-  pub none : (hash_map_len map ≡ 0) ↔ (length keys ≡ 0)
+  pub count : hash_map_len map ≡ length keys
 
 -- a key is not empty, and not among those of the lines before
 pub record IsNew (keys : List (ℕ × List ℕ)) (key : List ℕ) : Type 0 where

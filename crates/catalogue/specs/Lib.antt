@@ -14,3 +14,4 @@ pub mod Reports
 pub mod Keys
 pub mod Rules
 pub mod Forms
+pub mod Firsts

@@ -14,9 +14,8 @@ use Rattle.catalogue.specs.Declarations.{Declared, nothing}
 use Rattle.catalogue.specs.Entries.{Held, found_by, held_by}
 use Rattle.catalogue.specs.Examples.{view_shows}
 use Rattle.catalogue.specs.Files.{Line}
-use Rattle.catalogue.specs.Lines.{declared_of, format_of}
 use Rattle.catalogue.specs.Picks.{ArePicked, IsLacking, told_of_lacking}
-use Rattle.catalogue.specs.Sought.{found_among}
+use Rattle.catalogue.specs.Sought.{Known, found_among}
 use Rattle.catalogue.specs.Sound.{IsSoundFile}
 use Rattle.catalogue.specs.Told.{told_of_absent, told_of_fault, told_of_files}
 use Rattle.catalogue.specs.Words.{Gives, IsFirstBad}
@@ -47,9 +46,9 @@ IsMadeOrTold line format held (BadWord word) = ⊥
 -- a message is made with what is picked of objects for what its line declares
 pub record IsMade {Z : Type 0} (format : List ℕ) (declared : Declared) (objects : List Object)
     (message : String Z) : Type 0 where
-  pub picked : List Object
-  pub are : ArePicked declared objects picked
-  pub made : Formats (message_means format (map held_by picked)) (Ok message)
+  pub held : List Held
+  pub are : ArePicked declared objects held
+  pub made : Formats (message_means format held) (Ok message)
 
 -- what is reported of a declaration for which nothing is picked
 pub record IsToldLacking (line : Line) (key : List ℕ) (declared : Declared)
@@ -95,11 +94,9 @@ module _ {Y : Type 0} (files : List (List ℕ × List ℕ)) (key : List ℕ) (wo
       pub sound : All IsSoundFile files
       pub values : List Object
       pub given : GiveValues words values
-      pub line : Line
-      pub lacks : Option (List ℕ)
-      pub under : found_among values key files ≡ Some (line, lacks)
-      pub replies : Replies answer lacks line key (declared_of line.text) (format_of line.text)
-          values
+      pub known : Known
+      pub under : found_among values key files ≡ Some known
+      pub replies : Replies answer known.0.1 known.0.0 key known.2 known.1 values
 
     -- some line is not sound: all faults of all lines of all files are reported
     pub record OfFiles (told : List ℕ) : Type 0 where

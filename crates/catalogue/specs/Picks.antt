@@ -1,14 +1,14 @@
 -- The values that a format gets: for each name that its line declares, that of the last word.
-use Rattle.std.specs.Prelude.{◌≡◌, ℕ, List, ◌∷◌, ◌++◌, codes, Option, Some, map, reverse}
+use Rattle.std.specs.Prelude.{◌≡◌, ℕ, List, ◌++◌, codes, Option, Some, map, reverse}
 use Rattle.std.specs.Fmt.{decimal}
-use Rattle.std.specs.List.{All, AllZip, find}
+use Rattle.std.specs.List.{AllZip, find}
 use Rattle.std.specs.Str.{bytes_eq}
 use Rattle.catalogue.specs.Declarations.{Declared, nothing, these, broken, as_declaration}
-use Rattle.catalogue.specs.Entries.{held_by, held_by_entry}
+use Rattle.catalogue.specs.Entries.{Held, held_by, held_by_entry}
 use Rattle.catalogue.specs.Files.{Line}
+use Rattle.catalogue.specs.Firsts.{IsFirstWithout}
 use Rattle.catalogue.specs.declared.declarations.Kind.{Kind}
 use Rattle.catalogue.specs.declared.declarations.Kind.TheVariants as kinds
-use Rattle.catalogue.specs.declared.entries.Entry.{Entry}
 use Rattle.catalogue.specs.declared.entries.Object.{Object}
 use Rattle.catalogue.specs.declared.picks.Picked.{Picked}
 use Rattle.catalogue.specs.declared.picks.Picked.TheVariants.{Values, Lacks}
@@ -27,45 +27,29 @@ pub record IsPicked (objects : List Object) (declared : List ℕ × Kind) (objec
 abbrev pub HasPick : List Object → List ℕ × Kind → Type 0
 HasPick objects declared = (object : Object) × IsPicked objects declared object
 
--- what is picked of some objects for what a line declares, in the order of the declarations; all of
--- them, if it declares nothing, or what is broken
-abbrev pub ArePicked : Declared → (objects picked : List Object) → Type 0
-ArePicked nothing objects picked = picked ≡ objects
-ArePicked (these declared) objects picked = AllZip (IsPicked objects) declared picked
-ArePicked (broken place) objects picked = picked ≡ objects
+-- what is held under a name is what is picked for a declaration
+pub record HoldsPick (objects : List Object) (declared : List ℕ × Kind) (held : Held) : Type 0 where
+  pub object : Object
+  pub is : IsPicked objects declared object
+  pub holds : held ≡ held_by object
 
--- the first of some declarations for which nothing is picked
-pub record IsFirstLacking (objects : List Object) (declared : List (List ℕ × Kind))
-    (lacking : List ℕ × Kind) : Type 0 where
-  pub before : List (List ℕ × Kind)
-  pub after : List (List ℕ × Kind)
-  pub split : declared ≡ before ++ (lacking ∷ after)
-  pub picked : All (HasPick objects) before
-  pub none : ¬ HasPick objects lacking
+-- what is held under names is what is picked of some objects for what a line declares, in the order
+-- of the declarations; or all of them, if it declares nothing, or what is broken
+abbrev pub ArePicked : Declared → List Object → List Held → Type 0
+ArePicked nothing objects held = held ≡ map held_by objects
+ArePicked (these declared) objects held = AllZip (HoldsPick objects) declared held
+ArePicked (broken place) objects held = held ≡ map held_by objects
 
 -- the first declaration of a line for which nothing is picked
 abbrev pub IsLacking : Declared → List Object → List ℕ × Kind → Type 0
 IsLacking nothing objects lacking = ⊥
-IsLacking (these declared) objects lacking = IsFirstLacking objects declared lacking
+IsLacking (these declared) objects lacking = IsFirstWithout (HasPick objects) declared lacking
 IsLacking (broken place) objects lacking = ⊥
-
--- entries hold what is picked
-pub record HoldPicked (declared : Declared) (objects : List Object) (entries : List Entry)
-    : Type 0 where
-  pub picked : List Object
-  pub are : ArePicked declared objects picked
-  pub held : map held_by_entry entries ≡ map held_by picked
-
--- an entry holds what is picked for a declaration
-pub record HoldsPick (objects : List Object) (declared : List ℕ × Kind) (entry : Entry)
-    : Type 0 where
-  pub object : Object
-  pub is : IsPicked objects declared object
-  pub held : held_by_entry entry ≡ held_by object
 
 -- entries of what is picked, or the first declaration that lacks it
 abbrev pub IsPickedOrLacks : Declared → List Object → Picked → Type 0
-IsPickedOrLacks declared objects (Values entries) = HoldPicked declared objects entries.items
+IsPickedOrLacks declared objects (Values entries) =
+    ArePicked declared objects (map held_by_entry entries.items)
 IsPickedOrLacks declared objects (Lacks lacking) =
     IsLacking declared objects (as_declaration lacking)
 

@@ -26,27 +26,26 @@ sought objects key some_lines = key_by key (choice_for objects key some_lines)
 abbrev pub FoundLine : Type 0
 FoundLine = Line × Option (List ℕ)
 
--- a line, if it has the key that is looked up
-abbrev pub line_for : List ℕ × Option (List ℕ) → Line → Option FoundLine
-line_for wanted line = if is_under wanted.0 line.text then Some (line, wanted.1) else None
-
--- the line of a key in a file, or that of its form
-abbrev pub found_in : List Object → List ℕ → List ℕ × List ℕ → Option FoundLine
-found_in objects key file =
-    first_given (line_for (sought objects key (plain_lines file.1))) (lines_of file)
-
--- the line of a key, or of its form, in the first of some files that has it
-abbrev pub found_among : List Object → List ℕ → List (List ℕ × List ℕ) → Option FoundLine
-found_among objects key files = first_given (found_in objects key) files
-
 -- a line that was found, with its format and what it declares
 abbrev pub Known : Type 0
 Known = FoundLine × List ℕ × Declared
 
-abbrev pub with_format : FoundLine → Known
-with_format one = (one, format_of one.0.text, declared_of one.0.text)
+-- a line, if it has the key that is looked up
+abbrev pub line_for : List ℕ × Option (List ℕ) → Line → Option Known
+line_for wanted line =
+    if is_under wanted.0 line.text
+    then Some ((line, wanted.1), format_of line.text, declared_of line.text) else None
 
--- the same of a line as the program finds it
+-- the line of a key in a file, or that of its form
+abbrev pub found_in : List Object → List ℕ → List ℕ × List ℕ → Option Known
+found_in objects key file =
+    first_given (line_for (sought objects key (plain_lines file.1))) (lines_of file)
+
+-- the line of a key, or of its form, in the first of some files that has it
+abbrev pub found_among : List Object → List ℕ → List (List ℕ × List ℕ) → Option Known
+found_among objects key files = first_given (found_in objects key) files
+
+-- a line as the program finds it
 abbrev pub as_found : Found → Known
 as_found one = (
   (as_line one.line, option_map (λ name. name.now) one.lacks),

@@ -1,9 +1,9 @@
 -- Lines and files in which nothing is wrong.
-use Rattle.std.specs.Prelude.{◌≡◌, ◌⊎◌, ⊤, ℕ, true, List, [], ◌∷◌, ◌++◌, None, Some}
+use Rattle.std.specs.Prelude.{◌≡◌, ◌⊎◌, ⊤, ℕ, true, List, [], ◌∷◌, None, Some}
 use Rattle.catalogue.specs.Declarations.{Declared, nothing, these, broken}
 use Rattle.catalogue.specs.Examples.{faults_of}
 use Rattle.catalogue.specs.Files.{Line, lines_of}
-use Rattle.catalogue.specs.Keys.{IsNew, as_keys}
+use Rattle.catalogue.specs.Keys.{IsNew, with_key}
 use Rattle.catalogue.specs.Lines.{declared_of, format_of, is_passed_over, key_of, key_with}
 use Rattle.catalogue.specs.Rules.{broken_in, rule_in}
 use Rattle.catalogue.specs.Words.{HasEquals}
@@ -36,7 +36,7 @@ IsSound keys line =
 abbrev pub AreSound : List (ℕ × List ℕ) → List Line → Type 0
 AreSound keys [] = ⊤
 AreSound keys (line ∷ rest) =
-    IsSound keys line.text × AreSound (keys ++ as_keys line.number (key_with line.text)) rest
+    IsSound keys line.text × AreSound (with_key keys line.number (key_with line.text)) rest
 
 -- the lines of a file are sound
 abbrev pub IsSoundFile : List ℕ × List ℕ → Type 0

@@ -9,7 +9,7 @@ use Rattle.catalogue.specs.Declarations.{Declared, nothing, these, broken, has}
 use Rattle.catalogue.specs.Examples.{faults_of}
 use Rattle.catalogue.specs.Files.{Line, lines_of, plain_lines}
 use Rattle.catalogue.specs.Forms.{choice_with, or_form, rule_of}
-use Rattle.catalogue.specs.Keys.{as_keys, told_of_key}
+use Rattle.catalogue.specs.Keys.{told_of_key, with_key}
 use Rattle.catalogue.specs.Lines.{declared_of, format_of, head_of, is_passed_over, key_of, key_with}
 use Rattle.catalogue.specs.Reports.{lent, told_at}
 use Rattle.catalogue.specs.Rules.{broken_in, rule_in}
@@ -84,7 +84,7 @@ told_of_line keys line =
 abbrev pub told_of_lines : List (ℕ × List ℕ) → List Line → List ℕ
 told_of_lines keys [] = []
 told_of_lines keys (line ∷ rest) = told_of_line keys line
-    ++ told_of_lines (keys ++ as_keys line.number (key_with line.text)) rest
+    ++ told_of_lines (with_key keys line.number (key_with line.text)) rest
 
 -- what is reported of a file, and of several, in their order
 abbrev pub told_of_file : List ℕ × List ℕ → List ℕ

@@ -1,9 +1,9 @@
 -- What the words give: a name with a kind, `=`, and a text, a number, a decimal or the items of a
 -- list.
-use Rattle.std.specs.Prelude.{◌≡◌, ◌⊎◌, ⊤, ℕ, ℤ, pos, neg_ℤ, Bool, ◌==◌, ◌<◌, List, [], ◌∷◌, ◌++◌}
-use Rattle.std.specs.Prelude.{map, codes, FitsSigned, length, string_bytes}
+use Rattle.std.specs.Prelude.{◌≡◌, ◌⊎◌, ⊤, ℕ, ℤ, pos, neg_ℤ, Bool, ◌==◌, ◌<◌, List, [], ◌++◌}
+use Rattle.std.specs.Prelude.{map, codes, FitsSigned, if◌then◌else◌, length, string_bytes}
 use Rattle.std.specs.Int.{w128}
-use Rattle.std.specs.List.{All, after_first, before_first, position_or_len, slice_split}
+use Rattle.std.specs.List.{after_first, before_first, position_or_len, slice_split}
 use Rattle.std.specs.Str.{chars}
 use Rattle.std.specs.Str.Parse.{IsNumeral, digits_value}
 use Rattle.std.specs.declared.string.String.{String}
@@ -14,6 +14,7 @@ use Rattle.interpolator.specs.declared.Bits.TheVariants.{B128}
 use Rattle.interpolator.specs.declared.Decimal.{Decimal}
 use Rattle.interpolator.specs.declared.View.{View}
 use Rattle.catalogue.specs.Declarations.{declaration_of, is_comma}
+use Rattle.catalogue.specs.Firsts.{IsFirstWithout}
 use Rattle.catalogue.specs.declared.declarations.Kind.{Kind}
 use Rattle.catalogue.specs.declared.declarations.Kind.TheVariants as kinds
 use Rattle.catalogue.specs.declared.entries.Object.{Object}
@@ -36,8 +37,7 @@ pub record Spells (whole : List ℕ) (value : ℤ) : Type 0 where
 
 -- a text split at its commas, and no item for the empty text
 abbrev pub items_of : List ℕ → List (List ℕ)
-items_of [] = []
-items_of (c ∷ cs) = slice_split is_comma (c ∷ cs)
+items_of text = if length text == 0 then [] else slice_split is_comma text
 
 -- what texts show
 abbrev pub texts_show : List (List ℕ) → List Shown
@@ -83,14 +83,8 @@ IsGood word = (declared : List ℕ × Kind) × (text : List ℕ) × Cuts word de
     × Fits declared.1 text
 
 -- the first of some words that gives nothing
-pub record IsFirstBad {Y : Type 0} (words : List (String Y)) (bad : List ℕ) : Type 0 where
-  pub before : List (String Y)
-  pub word : String Y
-  pub after : List (String Y)
-  pub split : words ≡ before ++ (word ∷ after)
-  pub good : All (λ one. IsGood (string_bytes one)) before
-  pub spelled : bad ≡ string_bytes word
-  pub none : ¬ IsGood bad
+abbrev pub IsFirstBad : {Y : Type 0} → List (String Y) → List ℕ → Type 0
+IsFirstBad words bad = IsFirstWithout IsGood (map string_bytes words) bad
 
 -- a word gives an object: its name, its kind and what its value shows
 pub record Gives (word : List ℕ) (object : Object) : Type 0 where

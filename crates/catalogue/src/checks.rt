@@ -9,7 +9,7 @@ ghost use Rattle.catalogue.specs.Files.{as_file, as_line, numbered, texts_of};
 ghost use Rattle.catalogue.specs.Forms.{as_sought, first_given};
 ghost use Rattle.catalogue.specs.Keys.{Remembers};
 ghost use Rattle.catalogue.specs.Lines.{key_with};
-ghost use Rattle.catalogue.specs.Sought.{as_found, found_among, found_in, line_for, with_format};
+ghost use Rattle.catalogue.specs.Sought.{as_found, found_among, found_in, line_for};
 ghost use Rattle.catalogue.specs.Sound.{IsSoundFile};
 ghost use Rattle.catalogue.specs.Told.{told_of_file, told_of_files, told_of_line, told_of_lines};
 
@@ -77,7 +77,7 @@ fn checked_line<'a>(
     ensures key { IfOk result (λ checked.
         option_map (λ x. x.now) checked.key ≡ key_with line.now.text.now) }
     ensures found { IfOk result (λ checked. option_map as_found checked.found
-        ≡ option_map with_format (line_for (as_sought wanted.now) (as_line line.now))) }
+        ≡ line_for (as_sought wanted.now) (as_line line.now)) }
     ensures refused { IfErr result (λ error. answer_of error ≡ no_memory) }
 {
     if is_passed_over(line.text) {
@@ -122,8 +122,8 @@ fn checked_lines<'a>(
     ensures told { IfOk result (λ verdict. string_bytes verdict.told
         ≡ told_of_lines [] (numbered file.now 1 (texts_of lines.now))) }
     ensures found { IfOk result (λ verdict. option_map as_found verdict.found
-        ≡ option_map with_format (first_given (line_for (as_sought wanted.now))
-        (numbered file.now 1 (texts_of lines.now)))) }
+        ≡ first_given (line_for (as_sought wanted.now))
+        (numbered file.now 1 (texts_of lines.now))) }
     ensures refused { IfErr result (λ error. answer_of error ≡ no_memory) }
 {
     let mut told = String::new(alloc);
@@ -152,7 +152,7 @@ fn checked_file<'a>(
     ensures told { IfOk result (λ verdict.
         string_bytes verdict.told ≡ told_of_file (as_file file.now)) }
     ensures found { IfOk result (λ verdict. option_map as_found verdict.found
-        ≡ option_map with_format (found_in objects.now key.now (as_file file.now))) }
+        ≡ found_in objects.now key.now (as_file file.now)) }
     ensures refused { IfErr result (λ error. answer_of error ≡ no_memory) }
 {
     let lines = lines_of(alloc, file)?;
@@ -169,8 +169,10 @@ pub fn checked<'a>(
 ) -> Result<Verdict<'a>, Error>
     ensures told { IfOk result (λ verdict.
         string_bytes verdict.told ≡ told_of_files (map as_file files.now)) }
+    ensures sound { IfOk result (λ verdict.
+        length (string_bytes verdict.told) ≡ 0 → All IsSoundFile (map as_file files.now)) }
     ensures found { IfOk result (λ verdict. option_map as_found verdict.found
-        ≡ option_map with_format (found_among objects.now key.now (map as_file files.now))) }
+        ≡ found_among objects.now key.now (map as_file files.now)) }
     ensures refused { IfErr result (λ error. answer_of error ≡ no_memory) }
 {
     let mut told = String::new(alloc);

@@ -1,15 +1,15 @@
 //! What the head of a line declares: the names that its format is given, each with a kind.
 
-ghost use Rattle.std.specs.Prelude.{◌≡◌, ◌++◌, IfOk, OnOk, map};
+ghost use Rattle.std.specs.Prelude.{◌≡◌, ◌++◌, ◌==◌, ◌<◌, IfOk, OnOk, map};
 ghost use Rattle.std.specs.Option.{option_map};
 ghost use Rattle.std.specs.List.{list_any, slice_split};
 ghost use Rattle.std.specs.Char.{is_whitespace};
-ghost use Rattle.std.specs.Str.{bytes_eq, chars, trim};
+ghost use Rattle.std.specs.Str.{chars, trim};
 ghost use Rattle.catalogue.specs.Declarations.{as_declaration, as_list};
 ghost use Rattle.catalogue.specs.Declarations.{declaration_of, if_whole, without};
 ghost use Rattle.catalogue.specs.Declarations.{is_name, part_of, begin_of, after_part, broken_at};
 ghost use Rattle.catalogue.specs.Declarations.{declared_by, declared_between, declared_after};
-ghost use Rattle.catalogue.specs.Declarations.{declared_in, is_comma, key_in};
+ghost use Rattle.catalogue.specs.Declarations.{declared_in, is_among, key_in};
 ghost use Rattle.catalogue.specs.Files.{texts_of};
 
 use std::alloc::{AllocError, Global};
@@ -127,9 +127,14 @@ pub fn after_part(place: usize, part: &str) -> usize
 
 /// Whether a name is declared.
 fn is_among(found: &[Declaration<'_>], name: &str) -> bool
-    ensures { result ≡ list_any (λ one. bytes_eq name.now one.name.now) found.now }
+    ensures { result ≡ is_among (map as_declaration found.now) name.now }
 {
-    found.iter().any(|one| name == one.name)
+    for one in found {
+        if name == one.name {
+            return true;
+        }
+    }
+    false
 }
 
 /// Where the part at a byte begins, if it is broken: it is no declaration, or its name is declared
@@ -157,11 +162,12 @@ fn add<'a>(found: &mut Vec<Declaration<'a>>, one: Option<Declaration<'a>>) -> Re
     Ok(())
 }
 
-/// The parts of a text, between its commas.
-pub fn between_commas(alloc: Global, text: &str) -> Result<Vec<&str>, AllocError>
-    ensures { IfOk result (λ parts. texts_of parts.items ≡ slice_split is_comma text.now) }
+/// The parts of a text, between its commas, colons or the like.
+pub fn parts_between(alloc: Global, text: &str, mark: char) -> Result<Vec<&str>, AllocError>
+    requires ascii { mark < 128 }
+    ensures { IfOk result (λ parts. texts_of parts.items ≡ slice_split (λ b. b == mark) text.now) }
 {
-    text.split(',').collect(alloc)
+    text.split(mark).collect(alloc)
 }
 
 /// The declarations between brackets, of which the first is at this byte of the line.
@@ -177,7 +183,7 @@ fn declared_between<'a>(
         return Ok(Heading::Declares(found));
     }
     let mut at = place;
-    let parts = between_commas(alloc, inner)?;
+    let parts = parts_between(alloc, inner, ',')?;
     for part in &parts {
         if let Some(place) = broken_at(at, found.as_slice(), part) {
             return Ok(Heading::Broken(place));

@@ -1,12 +1,12 @@
 //! The keys of the lines of a file.
 
-ghost use Rattle.std.specs.Prelude.{◌≡◌, ◌++◌, ◌==◌, ℕ, List, [], IfErr, IfOk, OnOk, length};
+ghost use Rattle.std.specs.Prelude.{◌≡◌, ◌==◌, ℕ, List, [], IfErr, IfOk, OnOk, length};
 ghost use Rattle.std.specs.Prelude.{string_bytes};
 ghost use Rattle.std.specs.Option.{option_map};
 ghost use Rattle.interpolator.specs.Faults.{answer_of, no_memory};
 ghost use Rattle.catalogue.specs.Files.{as_line};
-ghost use Rattle.catalogue.specs.Keys.{Remembers, as_keys, number_of, told_again, told_of_key};
-ghost use Rattle.catalogue.specs.Keys.{what_is_again};
+ghost use Rattle.catalogue.specs.Keys.{Remembers, number_of, told_again, told_of_key};
+ghost use Rattle.catalogue.specs.Keys.{what_is_again, with_key};
 
 use crate::declarations::begin_of;
 use crate::files::Line;
@@ -29,7 +29,7 @@ pub fn add<'a>(
     key: Option<&'a str>,
 ) -> Result<(), AllocError>
     ensures { OnOk result ((seen : List (ℕ × List ℕ)) → Remembers seen keys.old
-        → Remembers (seen ++ as_keys number (option_map (λ x. x.now) key.entry)) keys.new) }
+        → Remembers (with_key seen number (option_map (λ x. x.now) key.entry)) keys.new) }
 {
     let Some(key) = key else {
         return Ok(());

@@ -9,7 +9,7 @@ ghost use Rattle.catalogue.specs.Rules.{as_test, broken_in, broken_part, is_nume
 ghost use Rattle.catalogue.specs.Rules.{number_in, parts_of, rule_in, test_after, test_by, test_in};
 ghost use Rattle.catalogue.specs.Rules.{whole_test};
 
-use crate::declarations::{after_part, begin_of, is_name};
+use crate::declarations::{after_part, begin_of, is_name, parts_between};
 use std::alloc::{AllocError, Global};
 
 /// What a line with a rule begins with.
@@ -121,7 +121,7 @@ fn is_last(end: usize, place: usize, part: &str) -> bool
 pub fn parts_of(alloc: Global, rule: &str) -> Result<Vec<&str>, AllocError>
     ensures { IfOk result (λ parts. texts_of parts.items ≡ parts_of rule.now) }
 {
-    rule.split(':').collect(alloc)
+    parts_between(alloc, rule, ':')
 }
 
 /// Where a rule is broken, if it is: at the first part that is neither a test nor, as the last one,

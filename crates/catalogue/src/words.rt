@@ -10,7 +10,7 @@ ghost use Rattle.catalogue.specs.Words.{Spells, Fits, ShowsAs, Cuts, IsCut, IsGo
 ghost use Rattle.catalogue.specs.Files.{texts_of};
 ghost use Rattle.catalogue.specs.Words.{IsFirstBad, items_of, items_in, texts_show};
 
-use crate::declarations::{Declaration, Kind, between_commas, declaration_of};
+use crate::declarations::{Declaration, Kind, declaration_of, parts_between};
 use crate::entries::Object;
 use interpolator::{Bits, Decimal, Error, View};
 use std::alloc::Global;
@@ -54,7 +54,7 @@ fn items_of(alloc: Global, text: &str) -> Result<Vec<&str>, Error>
     if text.is_empty() {
         return Ok(Vec::new(alloc));
     }
-    let items = between_commas(alloc, text)?;
+    let items = parts_between(alloc, text, ',')?;
     Ok(items)
 }
 

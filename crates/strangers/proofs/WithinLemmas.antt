@@ -1,11 +1,13 @@
 -- The values of words are within their limits, so what a format means over them is within its cost.
-use Rattle.std.proofs.Common.{◌≡◌, refl, ap, ℕ, ◌-◌, ◌^◌, ◌<◌, ◌≤◌, Bool, true, false, cond, suc}
-use Rattle.std.proofs.Common.{List, [], ◌∷◌, All, length, map, Option, None, Some, option_map, arith}
+use Rattle.std.proofs.Common.{◌≡◌, ◌∙◌, refl, ap, ℕ, ◌-◌, ◌^◌, ◌<◌, ◌≤◌, Bool, cond, suc}
+use Rattle.std.proofs.Common.{List, [], ◌∷◌, All, length, map, None, Some, arith}
 use Rattle.std.proofs.Common.{min}
 use mathlib.Core.Path.{fun_ext}
 use Rattle.std.proofs.lemmas.List.{length-map, reverse-append}
 use Rattle.std.proofs.lemmas.List.Elements.{All-head, All-tail}
 use Rattle.std.proofs.lemmas.List.Folds.{find-append}
+use Rattle.std.specs.Borrow.{Bor}
+use Rattle.std.specs.List.{find}
 use Rattle.std.specs.Option.{option_or}
 use Rattle.std.specs.Prelude.{reverse}
 use Rattle.std.specs.Str.{bytes_eq, chars, encode_utf8_all}
@@ -19,13 +21,14 @@ use Rattle.interpolator.specs.Meaning.Meanings.{means}
 use Rattle.interpolator.specs.Meaning.Work.{text_work}
 use Rattle.interpolator.specs.Template.NodeCosts.{text_cost}
 use Rattle.interpolator.specs.Slots.{Slots, empty_slots, listed_slots, slot_at, slots_listed}
-use Rattle.interpolator.specs.Slots.{slots_of, values_of, with_integer}
+use Rattle.interpolator.specs.Slots.{values_of, with_integer}
+use Rattle.interpolator.specs.declared.Formattable.{Formattable}
 use Rattle.interpolator.specs.declared.Limits.{Limits}
 use Rattle.interpolator.specs.declared.Trait.{Trait}
 use Rattle.interpolator.specs.declared.Trait.TheVariants.{Iter}
 use Rattle.strangers.specs.Serving.{IsServed, IsWhole, Rejects, first_why, format_why, given_why}
 use Rattle.strangers.specs.Serving.{meaning_over, shows, words_why}
-use Rattle.strangers.specs.Values.{AreInRange, IsInRange, Named, Row, characters_of, found_by_words}
+use Rattle.strangers.specs.Values.{AreInRange, IsInRange, Row, characters_of, found_by_words}
 use Rattle.strangers.specs.Values.{given_tree, longest_of, pair_named, word_named}
 use Rattle.strangers.proofs.ServingLemmas.{afforded, neither}
 use Rattle.strangers.proofs.ValueLemmas.{let_through}
@@ -98,22 +101,16 @@ module _ (limits : Limits) where
       )
 
   -- what is found by words
-  by_test : (found : Option (Slots Datum)) (same : Bool) (tree : Slots Datum)
-      → FoundWithin shows limits.text limits.items found → TreeWithin tree
-      → FoundWithin shows limits.text limits.items (option_or found (cond same (Some tree) None))
-  by_test (Some found) same tree h k = h
-  by_test None true tree h k = k
-  by_test None false tree h k = tt
-
   found_within : (words : List Word) (name : List ℕ)
       → All (λ (word : Word). AreInRange word.given) words → words_why limits words ≡ None
       → FoundWithin shows limits.text limits.items (found_by_words words name)
   found_within [] name range good = tt
   found_within (word ∷ words) name range good =
       let (this, others) = neither _ _ good in
-      by_test _ (bytes_eq (encode_utf8_all name) word.name.now) (given_tree word.given)
-      (found_within words name (All-tail (λ (w : Word). AreInRange w.given) word words range) others)
-      (tree_within word.given (All-head (λ (w : Word). AreInRange w.given) word words range) this)
+      let InRange = λ (w : Word). AreInRange w.given in
+      let first = tree_within word.given (All-head InRange word words range) this in
+      let rest = found_within words name (All-tail InRange word words range) others in
+      grind (arith, first, rest)
 
   names_within : (words : List Word) (names : List (List ℕ))
       → All (λ (word : Word). AreInRange word.given) words → words_why limits words ≡ None
@@ -124,15 +121,10 @@ module _ (limits : Limits) where
 
 -- ---- what is found by words is found by pairs that give what they give
 
-map_or : {A B : Type 0} (f : A → B) (x y : Option A)
-    → option_map f (option_or x y) ≡ option_or (option_map f x) (option_map f y)
-map_or f None y = refl
-map_or f (Some x) y = refl
-
-map_test : {A B : Type 0} (f : A → B) (same : Bool) (x : A)
-    → option_map f (cond same (Some x) None) ≡ cond same (Some (f x)) None
-map_test f true x = refl
-map_test f false x = refl
+-- the last that passes a test is one of the rest, or else the first
+last_or : {A : Type 0} (p : A → Bool) (x : A) (xs : List A)
+    → find p (reverse (x ∷ xs)) ≡ option_or (find p (reverse xs)) (cond (p x) (Some x) None)
+last_or p x xs = ap (find p) (reverse-append (x ∷ []) xs) ∙ find-append p (reverse xs) (x ∷ [])
 
 found_same : (words : List Word) (pairs : Row) → GiveWords words pairs → (name : List ℕ)
     → found_by_pairs pairs name ≡ found_by_words words name
@@ -140,19 +132,8 @@ found_same [] [] given name = refl
 found_same (word ∷ words) (pair ∷ pairs) given name =
     let rest = found_same words pairs (cc) name in
     let first : pair_named pair ≡ word_named word = cc in
-    let tree : slots_of pair.1 ≡ given_tree word.given = ap (λ (n : Named). n.1) first in
-    let named : pair.0.now ≡ word.name.now = ap (λ (n : Named). n.0) first in
-    rw (
-      reverse-append (pair ∷ []) pairs,
-      find-append (λ p. bytes_eq (encode_utf8_all name) p.0.now) (reverse pairs) (pair ∷ []),
-      map_or,
-      map_or,
-      map_test,
-      map_test,
-      rest,
-      tree,
-      named,
-    ) refl
+    let same = λ (p : Bor (List ℕ) × Formattable Datum). bytes_eq (encode_utf8_all name) p.0.now in
+    grind (arith, last_or same pair pairs, rest, first)
 found_same _ _ given name = absurd (cc)
 
 -- ---- what is served

@@ -2,7 +2,7 @@
 use Rattle.std.specs.Prelude.{ℕ, nat_lt, ◌^◌, ◌&&◌, Bool, List, [], ◌∷◌, codes, length, map}
 use Rattle.std.specs.Prelude.{eqb, if◌then◌else◌, Option, None, Some, string_bytes}
 use Rattle.std.specs.Option.{option_and_then}
-use Rattle.std.specs.Char.{digit_value}
+use Rattle.std.specs.Char.{is_ascii_digit}
 use Rattle.std.specs.List.{list_all, starts_with}
 use Rattle.std.specs.Str.{bytes_eq}
 use Rattle.std.specs.Str.Parse.{digits_value, without_leading_plus}
@@ -28,7 +28,7 @@ usual = record {
 
 -- one or more ASCII digits
 abbrev pub is_numeral : List ℕ → Bool
-is_numeral text = nat_lt 0 (length text) && list_all (λ digit. nat_lt (digit_value digit) 10) text
+is_numeral text = nat_lt 0 (length text) && list_all is_ascii_digit text
 
 -- the number that digits write, if it is below 2^64
 abbrev pub number_in : List ℕ → Option ℕ

@@ -38,8 +38,7 @@ pub record Spells (whole : List ℕ) (value : ℤ) : Type 0 where
 
 -- a text split at its commas, and no item for the empty text
 abbrev pub items_of : List ℕ → List (List ℕ)
-items_of [] = []
-items_of (c ∷ cs) = slice_split is_comma (c ∷ cs)
+items_of text = if length text == 0 then [] else slice_split is_comma text
 
 -- texts, borrows aside
 abbrev pub texts_of : List (Bor (List ℕ)) → List (List ℕ)

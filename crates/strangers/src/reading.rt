@@ -1,6 +1,7 @@
 //! The arguments of the command line: limits, a format, and words.
 ghost use Rattle.std.specs.Prelude.{◌≡◌, ◌↔◌, ℤ, IfOk, MatchOption, MatchResult, Some, map};
 ghost use Rattle.std.specs.Prelude.{string_bytes};
+ghost use Rattle.std.specs.List.{slice_split};
 ghost use Rattle.std.specs.Option.{option_map};
 ghost use Rattle.strangers.specs.Reading.{as_asked, asked_by, is_flag, limit_of, with_flag};
 ghost use Rattle.strangers.specs.Reading.{with_limit};
@@ -8,7 +9,7 @@ ghost use Rattle.interpolator.specs.DecimalTexts.{Spells as IsDecimal};
 ghost use Rattle.interpolator.specs.declared.Decimal.{Decimal};
 ghost use Rattle.strangers.specs.Words.{ArePartsGood, GiveAll, Gives, IsDecimalOf, IsFirstBad};
 ghost use Rattle.strangers.specs.Words.{IsGood, IsNumber};
-ghost use Rattle.strangers.specs.Words.{PartsGive, Spells, are_texts, items_of, text_in};
+ghost use Rattle.strangers.specs.Words.{PartsGive, Spells, are_texts, is_comma, items_of, text_in};
 ghost use Rattle.strangers.specs.Words.{texts_of, without};
 
 use crate::serving::Allowed;
@@ -146,6 +147,13 @@ fn number_of(text: &str) -> Option<i128>
     text.parse::<i128>().ok()
 }
 
+/// The parts of a text, between its commas.
+fn between_commas(alloc: Global, text: &str) -> Result<Vec<&str>, AllocError>
+    ensures { IfOk result (λ parts. texts_of parts.items ≡ slice_split is_comma text.now) }
+{
+    text.split(',').collect(alloc)
+}
+
 /// The texts of the items of a list: the parts of its text between commas. The empty text has none.
 fn items_of(alloc: Global, text: &str) -> Result<Vec<&str>, AllocError>
     ensures { IfOk result (λ items. texts_of items.items ≡ items_of text.now) }
@@ -153,8 +161,7 @@ fn items_of(alloc: Global, text: &str) -> Result<Vec<&str>, AllocError>
     if text.is_empty() {
         return Ok(Vec::new(alloc));
     }
-    let items = text.split(',').collect(alloc)?;
-    Ok(items)
+    between_commas(alloc, text)
 }
 
 /// Each text as a value.

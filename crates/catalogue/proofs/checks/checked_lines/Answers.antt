@@ -3,24 +3,24 @@ use Rattle.std.proofs.lemmas.List.{at_drop_more}
 use Rattle.std.specs.Borrow.{Bor}
 use Rattle.catalogue.specs.Files.{Line, numbered, texts_of}
 use Rattle.catalogue.specs.Forms.{as_sought}
-use Rattle.catalogue.specs.Keys.{as_keys}
+use Rattle.catalogue.specs.Keys.{with_key}
 use Rattle.catalogue.specs.Lines.{key_with}
-use Rattle.catalogue.specs.Sought.{as_found, line_for, with_format}
+use Rattle.catalogue.specs.Sought.{as_found, line_for}
 use Rattle.catalogue.specs.Told.{told_of_line, told_of_lines}
-use Rattle.catalogue.proofs.FirstLemmas.{found_rest}
+use Rattle.catalogue.proofs.FirstLemmas.{found_next}
 use Rattle.catalogue.proofs.checks.checked_lines.Goals as goal
 
 -- what was told and what is to be told of the lines that are left, once one more is told of
 told_next : (seen : List (ℕ × List ℕ)) (line : Line) (ls rest : List Line)
     (told more new all : List ℕ) → ls ≡ line ∷ rest → told ++ told_of_lines seen ls ≡ all
     → new ≡ told ++ more → more ≡ told_of_line seen line
-    → new ++ told_of_lines (seen ++ as_keys line.number (key_with line.text)) rest ≡ all
+    → new ++ told_of_lines (with_key seen line.number (key_with line.text)) rest ≡ all
 told_next seen line ls rest told more new all split so_far pushed one =
     rw (
       pushed,
       one,
       append_assoc told (told_of_line seen line)
-          (told_of_lines (seen ++ as_keys line.number (key_with line.text)) rest),
+          (told_of_lines (with_key seen line.number (key_with line.text)) rest),
     ) (rw split at so_far)
 
 pub loop-text-preserved : goal.loop-text-preserved
@@ -39,7 +39,6 @@ loop-text-preserved c =
             (rw c.as_str.ensures.value at c.in_ok-push_str.ensures.bytes)
             (c.in_ok-checked.ensures.told seen so_far.told.1),
       );
-      found = rw c.or-found.ensures (found_rest as_found with_format
-          (line_for (as_sought c.args.wanted.now)) _ _ _ _ _ _ (next _) so_far.found
-          c.in_ok-checked.ensures.found);
+      found = rw c.or-found.ensures (found_next as_found (line_for (as_sought c.args.wanted.now))
+          _ _ _ _ _ _ (next _) so_far.found c.in_ok-checked.ensures.found);
     }

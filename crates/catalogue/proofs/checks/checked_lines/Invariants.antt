@@ -3,7 +3,7 @@ use Rattle.std.specs.Option.{option_map, option_or}
 use Rattle.catalogue.specs.Files.{numbered, texts_of}
 use Rattle.catalogue.specs.Forms.{as_sought, first_given}
 use Rattle.catalogue.specs.Keys.{Remembers}
-use Rattle.catalogue.specs.Sought.{as_found, line_for, with_format}
+use Rattle.catalogue.specs.Sought.{as_found, line_for}
 use Rattle.catalogue.specs.Told.{told_of_lines}
 use Rattle.catalogue.proofs.checks.checked_lines.Given as goal
 
@@ -16,6 +16,6 @@ invariant-loop-text l =
       told : (seen : List (ℕ × List ℕ)) × Remembers seen l.keys
           × (string_bytes l.told ++ told_of_lines seen rest ≡ told_of_lines [] all);
       found : option_or (option_map as_found l.found)
-          (option_map with_format (first_given (line_for (as_sought l.wanted)) rest))
-          ≡ option_map with_format (first_given (line_for (as_sought l.wanted)) all);
+          (first_given (line_for (as_sought l.wanted)) rest)
+          ≡ first_given (line_for (as_sought l.wanted)) all;
     }

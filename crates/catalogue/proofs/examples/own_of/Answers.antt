@@ -2,7 +2,7 @@ use Rattle.std.proofs.Common.{◌∙◌, ap, map, rules, sym}
 use Rattle.std.proofs.lemmas.List.Elements.{filter_from_retain}
 use Rattle.interpolator.specs.Faults.{answer_of}
 use Rattle.catalogue.specs.Examples.{is_own_reply}
-use Rattle.catalogue.proofs.OwnLemmas.{filter_mapped}
+use Rattle.catalogue.proofs.FirstLemmas.{filter_mapped}
 use Rattle.catalogue.proofs.examples.own_of.Goals as goal
 
 pub returns : goal.returns

@@ -6,10 +6,9 @@ use Rattle.catalogue.proofs.messages.message.Goals as goal
 
 pub returns-in-Values-clause-replies : goal.returns-in-Values-clause-replies
 returns-in-Values-clause-replies c =
-    let picks = rw c.in-Values.is at c.in_ok-entries.ensures.picked in
     let found = c.args.found.now in
     IfOk-weaker c.said.result _ _ (λ answer said sound given. replies_made
     c.a_view_has_a_text_by_its_kind.ensures.kind c.a_checked_format_means_no_fault.ensures.fault
     (as_line found.line) c.args.key.now found.template (declared_by found.heading)
-    c.args.objects.now picks.picked answer sound given picks.are
-    (rw (c.as_slice.ensures.value, picks.held) at said)) c.said.ensures.said
+    c.args.objects.now _ answer sound given (rw c.in-Values.is at c.in_ok-entries.ensures.picked)
+    (rw c.as_slice.ensures.value at said)) c.said.ensures.said

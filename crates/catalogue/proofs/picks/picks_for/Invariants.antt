@@ -1,7 +1,11 @@
 use Rattle.std.proofs.Common.{take}
 use Rattle.std.specs.List.{AllZip}
-use Rattle.catalogue.proofs.PickLemmas.{Holds}
+use Rattle.catalogue.specs.Declarations.{as_declaration}
+use Rattle.catalogue.specs.Entries.{held_by_entry}
+use Rattle.catalogue.specs.Picks.{HoldsPick}
 use Rattle.catalogue.proofs.picks.picks_for.Given as goal
 
 abbrev pub invariant-loop-one : goal.invariant-loop-one
-invariant-loop-one l = AllZip (Holds l.objects) (take l.one-index l.declared) l.entries.items
+invariant-loop-one l =
+    AllZip (λ one entry. HoldsPick l.objects (as_declaration one) (held_by_entry entry))
+    (take l.one-index l.declared) l.entries.items

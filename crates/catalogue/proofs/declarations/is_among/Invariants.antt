@@ -1,0 +1,7 @@
+use Rattle.std.proofs.Common.{◌≡◌, drop, map}
+use Rattle.catalogue.specs.Declarations.{as_declaration, is_among}
+use Rattle.catalogue.proofs.declarations.is_among.Given as goal
+
+abbrev pub invariant-loop-one : goal.invariant-loop-one
+invariant-loop-one l = is_among (map as_declaration (drop l.one-index l.found)) l.name
+    ≡ is_among (map as_declaration l.found) l.name
