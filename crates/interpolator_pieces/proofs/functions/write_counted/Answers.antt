@@ -21,7 +21,7 @@ returns-clause-outcome g c =
     let e = environment (g.C.Context.finds c.args.context.now) in
     let o = text_outcome _ _ _ c.requires.pieces g.C.Object.Value.shows e _ _ _ _
     c.outermost-environment.ensures
-    (rw c.in-Writer.is at c.write_source-answer.ensures.writes.outcome) in
+    (rw c.into_writer.ensures at c.write_source-answer.ensures.writes.outcome) in
     search rules
 
 pub returns-clause-asked : goal.returns-clause-asked
@@ -30,7 +30,7 @@ returns-clause-asked g c =
     let a = outermost (chars c.args.format.text.now) in
     let o = text_outcome _ _ _ c.requires.pieces g.C.Object.Value.shows e _ _ _ _
     c.outermost-environment.ensures
-    (rw c.in-Writer.is at c.write_source-answer.ensures.writes.outcome) in
+    (rw c.into_writer.ensures at c.write_source-answer.ensures.writes.outcome) in
     asked_outcome g.C.Object.Value.shows e a _ _ _ (search rules)
 
 pub returns-clause-place : goal.returns-clause-place
@@ -41,7 +41,7 @@ returns-clause-place g c =
     (length c.args.format.text.now) _ _ _ (omega (arith, size-chars c.args.format.text.now utf8))
     (text_outcome _ _ _ c.requires.pieces g.C.Object.Value.shows e _ _ _ _
     c.outermost-environment.ensures
-    (rw c.in-Writer.is at c.write_source-answer.ensures.writes.outcome))
+    (rw c.into_writer.ensures at c.write_source-answer.ensures.writes.outcome))
 
 pub returns-clause-gone : goal.returns-clause-gone
 returns-clause-gone g c =
