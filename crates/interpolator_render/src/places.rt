@@ -63,21 +63,6 @@ fn copy_short(to: &mut [u8], from: &[u8])
     }
 }
 
-/// Copies a text of more than 64 bytes into as many places. Up to 128 bytes it copies two blocks, in
-/// fewer steps than a copy of any length takes to find out how long it is.
-#[inline(never)]
-fn copy_long(to: &mut [u8], from: &[u8])
-    requires same { length to.old ≡ length from.now }
-    requires long { 64 < length from.now }
-    ensures { to.new ≡ from.now }
-{
-    if from.len() <= 128 {
-        copy_ends::<64>(to, from);
-    } else {
-        to.copy_from_slice(from);
-    }
-}
-
 /// Copies a text into as many places. Up to 64 bytes it takes no call.
 #[inline(always)]
 fn copy_text(to: &mut [u8], from: &[u8])
@@ -94,7 +79,7 @@ fn copy_text(to: &mut [u8], from: &[u8])
     } else if count <= 64 {
         copy_ends::<32>(to, from);
     } else {
-        copy_long(to, from);
+        to.copy_from_slice(from);
     }
 }
 
