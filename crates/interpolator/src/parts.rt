@@ -171,6 +171,7 @@ fn write_each<'a, W: TextWrite, C: Context>(
 /// write_parts(alloc, &mut out, &["{x} ", "{q}"], &context)?;
 /// // with 1 under `x` and nothing under `q`: `1 `, and then MissingValue("q", 5)
 /// ```
+#[tactic(auto, using(interpolator_eval::proofs::MeaningLemmas::SinkLemmas::writer_stays))]
 pub fn write_parts<W: TextWrite, C: Context>(
     alloc: Global,
     out: &mut W,
@@ -189,11 +190,6 @@ pub fn write_parts<W: TextWrite, C: Context>(
 {
     let mut sink = Sink::Writer(out);
     let answer = write_each(&mut sink, &Environment::outermost(alloc, context), parts);
-    match sink {
-        Sink::Writer(end) => {
-            let _ = end;
-        }
-        Sink::Buffer(_) => unreachable!(),
-    }
+    sink.into_writer();
     answer
 }

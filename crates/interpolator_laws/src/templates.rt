@@ -114,6 +114,7 @@ fn pieces_after(pieces: &[Piece], skipped: usize) -> &[Piece]
 /// rest_of_the_pieces_is_written(alloc, &mut out, &template, 1, &context)?;
 /// // with 1 under `x`: 1b
 /// ```
+#[tactic(auto, using(interpolator_eval::proofs::MeaningLemmas::SinkLemmas::writer_stays))]
 pub fn rest_of_the_pieces_is_written<W: TextWrite, C: Context>(
     alloc: Global,
     out: &mut W,
@@ -134,12 +135,7 @@ pub fn rest_of_the_pieces_is_written<W: TextWrite, C: Context>(
         pieces: rest,
     };
     let answer = write_uncounted(&mut sink, &environment, source);
-    match sink {
-        Sink::Writer(end) => {
-            let _ = end;
-        }
-        Sink::Buffer(_) => unreachable!(),
-    }
+    sink.into_writer();
     answer
 }
 

@@ -66,6 +66,7 @@ use std::sync::ledger::{Blank, Ledger};
 /// write(alloc, &mut out, "{l:i(<{}>)(, )}", &context)?;
 /// // with the list of 1, 2 and 3 under `l`: <1>, <2>, <3>
 /// ```
+#[tactic(auto, using(interpolator_eval::proofs::MeaningLemmas::SinkLemmas::writer_stays))]
 pub fn write<W: TextWrite, C: Context>(
     alloc: Global,
     out: &mut W,
@@ -86,12 +87,7 @@ pub fn write<W: TextWrite, C: Context>(
     };
     let mut sink = Sink::Writer(out);
     let answer = write_text(&mut sink, &Environment::outermost(alloc, context), text);
-    match sink {
-        Sink::Writer(end) => {
-            let _ = end;
-        }
-        Sink::Buffer(_) => unreachable!(),
-    }
+    sink.into_writer();
     answer
 }
 
@@ -121,6 +117,7 @@ pub struct Parsed<'a> {
 /// Writes what the stored pieces of a format mean in the context, and counts the pieces that it
 /// goes through: no more than the format's work, and so, with values within limits, no more than
 /// its cost.
+#[tactic(auto, using(interpolator_eval::proofs::MeaningLemmas::SinkLemmas::writer_stays))]
 pub fn write_counted<W: TextWrite, C: Context, L: Ledger>(
     alloc: Global,
     out: &mut W,
@@ -157,12 +154,7 @@ pub fn write_counted<W: TextWrite, C: Context, L: Ledger>(
     };
     let environment = Environment::outermost(alloc, context);
     let answer = write_source(&mut sink, &environment, source, count);
-    match sink {
-        Sink::Writer(end) => {
-            let _ = end;
-        }
-        Sink::Buffer(_) => unreachable!(),
-    }
+    sink.into_writer();
     answer
 }
 

@@ -54,6 +54,7 @@ pub fn run_steps<'a, W: TextWrite, R: PreparedRow>(
 }
 
 /// Writes what a piece that is kept means.
+#[tactic(auto, using(interpolator_eval::proofs::MeaningLemmas::SinkLemmas::writer_stays))]
 #[inline(never)]
 fn run_kept<'a, W: TextWrite, R: PreparedRow>(
     alloc: Global,
@@ -72,12 +73,7 @@ fn run_kept<'a, W: TextWrite, R: PreparedRow>(
     let environment = Environment::outermost(alloc, named);
     let mut sink = Sink::Writer(out);
     let answer = write_kept(&mut sink, &environment, text, kept);
-    match sink {
-        Sink::Writer(end) => {
-            let _ = end;
-        }
-        Sink::Buffer(_) => unreachable!(),
-    }
+    sink.into_writer();
     answer
 }
 

@@ -124,50 +124,65 @@ module _ {X W : Type 0} (shows : X → Trait → Spec → Shown) (e : Environmen
     grind (arith, p.gone, text_none _ h),
   )
 
+  module _ {all rest after : Forest} {x : Node} {old s : Sink W} {n count now : ℕ}
+      (p : Passed all rest old s n count) (one : now ≡ count + 1)
+      (first : rest ≡ nodes_and x after) (holds : first_holds rest ≡ true) where
+    counts : 1 ≤ (node_work shows e x).pieces
+    counts = holds_counts x after (rw first at holds)
+
+    gone_so_far : count + Pieces (nodes_and x after) ≡ n + Pieces all
+    gone_so_far = rw (← first) p.gone
+
+    -- the first piece ends the run
+    pub first_stops : {t : Sink W} {q : Answer} → Writes written (unlisted_means shows e x) s t (Some q)
+        → Writes written (Means all) old t (Some q) × (now ≤ n + (Pieces all + 0))
+    first_stops o = (
+      goes_on _ _ _ _ _ _ _ p.so_far p.same (rw first (piece_fault x after shows e _ _ _ _ o)),
+      omega (arith, gone_so_far, one, piece_stops x after shows e _ _ _ counts _ o),
+    )
+
+    -- it is a list
+    pub first_list : {t : Sink W} → asks_list x ≡ true
+        → Writes written (unlisted_means shows e x) s t None
+        → Writes written (Means all) old t None × (from_list all ≡ nodes_and x after)
+        × (now ≡ n + (Pieces all + 1))
+    first_list listed o = (
+      goes_on _ _ _ _ _ _ _ p.so_far p.same (rw first (list_at x after shows e _ _ _ listed o)),
+      rw (p.left, first) (left_here x after listed),
+      omega (arith, gone_so_far, one, none_gone x after shows e listed),
+    )
+
+    -- it is done
+    pub first_on : {t : Sink W} → asks_list x ≡ false
+        → Writes written (unlisted_means shows e x) s t None → Passed all after old t n now
+    first_on other o = record {
+      so_far = λ new answer k. p.so_far new answer
+          (rw first (piece_runs x after shows e _ _ _ _ _ other o k));
+      same = same_then _ _ _ p.same o.same;
+      left = rw (p.left, first) (left_after x after other);
+      gone = omega (arith, gone_so_far, one, piece_goes x after shows e _ _ _ counts other o);
+    }
+
+  -- the same of the piece of a token
   module _ {all : Forest} (a : At) {token : Token × At} {old s : Sink W} {n count now : ℕ}
       (p : Passed all (text_forest a) old s n count) (one : now ≡ count + 1)
       (is : first_token a ≡ Some token) where
     abbrev First : Node
     First = token_node nodes a.place token.0 token.1
 
-    abbrev After : Forest
-    After = text_forest (past_token token.0 token.1)
-
-    counts : 1 ≤ (node_work shows e First).pieces
-    counts = holds_counts First After (rw (text_next a token is) at (next_holds a token is))
-
-    gone_so_far : count + Pieces (nodes_and First After) ≡ n + Pieces all
-    gone_so_far = rw (← text_next a token is) p.gone
-
-    -- the first piece ends the run
     pub passed_stops : {t : Sink W} {q : Answer}
         → Writes written (unlisted_means shows e First) s t (Some q)
         → Writes written (Means all) old t (Some q) × (now ≤ n + (Pieces all + 0))
-    passed_stops o = (
-      goes_on _ _ _ _ _ _ _ p.so_far p.same
-          (rw (text_next a token is) (piece_fault First After shows e _ _ _ _ o)),
-      omega (arith, gone_so_far, one, piece_stops First After shows e _ _ _ counts _ o),
-    )
+    passed_stops = first_stops p one (text_next a token is) (next_holds a token is)
 
-    -- it is a list
     pub passed_list : {t : Sink W} → asks_list First ≡ true
         → Writes written (unlisted_means shows e First) s t None
-        → Writes written (Means all) old t None × (from_list all ≡ nodes_and First After)
+        → Writes written (Means all) old t None
+        × (from_list all ≡ nodes_and First (text_forest (past_token token.0 token.1)))
         × (now ≡ n + (Pieces all + 1))
-    passed_list listed o = (
-      goes_on _ _ _ _ _ _ _ p.so_far p.same
-          (rw (text_next a token is) (list_at First After shows e _ _ _ listed o)),
-      rw (p.left, text_next a token is) (left_here First After listed),
-      omega (arith, gone_so_far, one, none_gone First After shows e listed),
-    )
+    passed_list = first_list p one (text_next a token is) (next_holds a token is)
 
-    -- it is done
     pub passed_on : {t : Sink W} → asks_list First ≡ false
-        → Writes written (unlisted_means shows e First) s t None → Passed all After old t n now
-    passed_on other o = record {
-      so_far = λ new answer k. p.so_far new answer
-          (rw (text_next a token is) (piece_runs First After shows e _ _ _ _ _ other o k));
-      same = same_then _ _ _ p.same o.same;
-      left = rw (p.left, text_next a token is) (left_after First After other);
-      gone = omega (arith, gone_so_far, one, piece_goes First After shows e _ _ _ counts other o);
-    }
+        → Writes written (unlisted_means shows e First) s t None
+        → Passed all (text_forest (past_token token.0 token.1)) old t n now
+    passed_on = first_on p one (text_next a token is) (next_holds a token is)

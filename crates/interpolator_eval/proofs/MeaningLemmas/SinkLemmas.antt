@@ -9,7 +9,7 @@ use Rattle.interpolator_syntax.specs.Faults.{Fault, Answer, fault, no_memory}
 use Rattle.interpolator_eval.specs.Meaning.Meanings.{Meaning, nothing, fault_alone, buffered_means}
 use Rattle.interpolator_eval.specs.Meaning.Meanings.{chain}
 use Rattle.interpolator_eval.specs.Meaning.Outcomes.{Outcome}
-use Rattle.interpolator_eval.specs.Meaning.Sinks.{SameEnd, Writes, taken_by}
+use Rattle.interpolator_eval.specs.Meaning.Sinks.{IsWriter, SameEnd, Writes, taken_by}
 use Rattle.interpolator_eval.specs.declared.evaluate.sink.Sink.{Sink}
 use Rattle.interpolator_eval.proofs.MeaningLemmas.OutcomeLemmas.{finished_if_none, after_finished}
 use Rattle.interpolator_eval.proofs.MeaningLemmas.OutcomeLemmas.{before_fault}
@@ -47,6 +47,9 @@ same_end s = grind arith
 
 pub same_then : {W : Type 0} (s t u : Sink W) → SameEnd s t → SameEnd t u → SameEnd s u
 same_then s t u h k = grind arith
+
+pub writer_stays : {W : Type 0} (s t : Sink W) → IsWriter s → SameEnd s t → IsWriter t
+writer_stays s t writer same = grind arith
 
 -- the whole goes on from what was written so far
 pub goes_on :

@@ -16,6 +16,11 @@ abbrev pub taken_by : {W : Type 0} → (W → Written) → Sink W → Written
 taken_by written (Writer out) = written out.now
 taken_by written (Buffer buffer) = bounded_writer buffer.now
 
+-- the sink is a writer, and no buffer
+abbrev pub IsWriter : {W : Type 0} → Sink W → Type 0
+IsWriter (Writer _) = Unit {0}
+IsWriter (Buffer _) = ⊥
+
 -- both have the same reference
 abbrev pub SameEnd : {W : Type 0} → Sink W → Sink W → Type 0
 SameEnd (Writer out) (Writer out') = out'.ghost_name ≡ out.ghost_name

@@ -12,7 +12,8 @@ ghost use Rattle.interpolator_syntax.specs.Faults.{answer_of};
 ghost use Rattle.interpolator_syntax.specs.SpecTexts.{plain_spec};
 ghost use Rattle.interpolator_eval.specs.Meaning.Meanings.{text_alone, view_means, value_means};
 ghost use Rattle.interpolator_eval.specs.Meaning.Outcomes.{Outcome};
-ghost use Rattle.interpolator_eval.specs.Meaning.Sinks.{HasRoom, Writes, write_answered};
+ghost use Rattle.interpolator_eval.specs.Meaning.Sinks.{HasRoom, IsWriter, Writes, write_answered};
+ghost use Rattle.interpolator_eval.specs.declared.evaluate.sink.Sink.TheVariants.{Writer};
 ghost use Rattle.interpolator_eval.specs.Meaning.Sinks.{write_fault_answer};
 ghost use Rattle.interpolator_render.specs.declared.view.RenderFault.TheVariants.{NotImplemented};
 
@@ -240,6 +241,20 @@ fn write_plain_apart<W: TextWrite, V: Value>(
 pub enum Sink<'s, W> {
     Writer(&'s mut W),
     Buffer(&'s mut Bounded),
+}
+
+impl<'s, W> Sink<'s, W> {
+    /// The writer that this sink was made of. A caller takes it back to end its own borrow.
+    #[inline(always)]
+    pub fn into_writer(self) -> &'s mut W
+        requires writer { IsWriter self }
+        ensures { self.entry ≡ Writer result }
+    {
+        match self {
+            Sink::Writer(out) => out,
+            Sink::Buffer(_) => unreachable!(),
+        }
+    }
 }
 
 impl<'s, W: TextWrite> Sink<'s, W> {

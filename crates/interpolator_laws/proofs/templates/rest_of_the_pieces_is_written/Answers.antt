@@ -22,6 +22,6 @@ returns g c =
     let o = rest_outcome c.text.result.now c.pieces.result.now
     (outermost (chars c.args.template.now)) all c.args.skipped g.C.Object.Value.shows
     (environment (g.C.Context.finds c.args.context.now)) _ _ _ _ c.outermost-environment.ensures
-    (rw (c.pieces_after-rest.ensures, c.in-Writer.is) at
+    (rw (c.pieces_after-rest.ensures, c.into_writer.ensures) at
     c.write_uncounted-answer.ensures.writes.outcome) in
     record { outcome = search rules }

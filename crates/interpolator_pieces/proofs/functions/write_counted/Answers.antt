@@ -25,7 +25,7 @@ returns-clause-place g c =
     outcome_lies_from g.C.Object.Value.shows (environment (g.C.Context.finds c.args.context.now)) 0
     (chars c.args.format.text.now) (length c.args.format.text.now) _ _ _
     (omega (arith, size-chars c.args.format.text.now utf8))
-    (rw (c.outermost-environment.ensures, c.requires.pieces, c.in-Writer.is)
+    (rw (c.outermost-environment.ensures, c.requires.pieces, c.into_writer.ensures)
     at c.write_source-answer.ensures.writes.outcome)
 
 pub returns-clause-gone : goal.returns-clause-gone

@@ -2,11 +2,10 @@ use Rattle.std.proofs.Common.{rules, arith, ◌≡◌, ◌∷◌, ◌∙◌, tru
 use Rattle.std.proofs.lemmas.Result.{err_from_is_err_and}
 use Rattle.interpolator_syntax.specs.Nodes.{as_forest, nodes_and}
 use Rattle.interpolator_eval.specs.Meaning.Sources.{first_holds}
-use Rattle.interpolator_eval.proofs.MeaningLemmas.FirstPieceLemmas.{passed_stops, passed_list}
-use Rattle.interpolator_eval.proofs.MeaningLemmas.FirstPieceLemmas.{passed_on}
+use Rattle.interpolator_eval.proofs.MeaningLemmas.FirstPieceLemmas.{first_stops, first_list, first_on}
 use Rattle.interpolator_pieces.specs.Stored.{content_of, forest_whole, node_of, nodes_of}
 use Rattle.interpolator_pieces.specs.declared.piece.Piece.{Piece}
-use Rattle.interpolator_pieces.proofs.RunLemmas.{asks_form, first_list}
+use Rattle.interpolator_pieces.proofs.RunLemmas.{asks_form, first_list as list_first}
 use Rattle.interpolator_pieces.proofs.StoredLemmas.{node_of_out}
 use Rattle.interpolator_pieces.proofs.WholePieceLemmas.{both, fits_text}
 use Rattle.interpolator_pieces.proofs.stored_source.run_pieces.Goals as goal
@@ -26,7 +25,7 @@ pub returns-in_err-run_piece : goal.returns-in_err-run_piece
 returns-in_err-run_piece g c =
     let fits = first_fits c.args.source.text.now _ c.in-Some.piece.now c.in-Some.after.now
     (search rules) c.loop-piece.invariant.whole in
-    let stops = passed_stops _ _ _ c.loop-piece.invariant.passed fits.first c.tick.ensures.one
+    let stops = first_stops _ _ _ c.loop-piece.invariant.passed c.tick.ensures.one fits.first
     fits.holds c.in_err-run_piece.ensures.writes in
     let err = err_from_is_err_and c.from_residual.result c.from_residual.ensures.1 in
     rw (err.1, err.2)
@@ -38,11 +37,11 @@ returns-then-branch g c =
     let split : c.loop-piece.rest.now ≡ c.in-Some.piece.now ∷ c.in-Some.after.now = search rules in
     let fits = first_fits bs _ c.in-Some.piece.now _ split c.loop-piece.invariant.whole in
     let form = c.in_ok-run_piece.ensures.list ∙ c.if-branch.true in
-    let list = passed_list _ _ _ c.loop-piece.invariant.passed fits.first c.tick.ensures.one
+    let list = first_list _ _ _ c.loop-piece.invariant.passed c.tick.ensures.one fits.first fits.holds
     (asks_form bs _ fits.held ∙ form) c.in_ok-run_piece.ensures.writes in
     record {
       writes = list.0;
-      met = (rw split form, rw (list.1, split) (first_list bs _ _ form fits.held));
+      met = (rw split form, rw (list.1, split) (list_first bs _ _ form fits.held));
       gone = omega (arith, list.2);
       exact = list.2;
     }
@@ -54,7 +53,7 @@ loop-piece-preserved g c =
     c.loop-piece.invariant.whole in
     record {
       whole = fits.whole;
-      passed = passed_on _ _ _ c.loop-piece.invariant.passed fits.first c.tick.ensures.one
+      passed = first_on _ _ _ c.loop-piece.invariant.passed c.tick.ensures.one fits.first fits.holds
           (asks_form bs _ fits.held ∙ c.in_ok-run_piece.ensures.list ∙ c.if-branch.false)
-          fits.holds c.in_ok-run_piece.ensures.writes;
+          c.in_ok-run_piece.ensures.writes;
     }

@@ -17,7 +17,7 @@ returns g c =
           let e = environment (g.R.PreparedRow.finds_in named.row.now (name_bytes named.names.now)) in
           let same = kept_means g.R.Object.Value.shows e value_at
           (node_of c.args.text.now c.args.kept.now) c.requires.fits in
-          let o = rw same at (rw c.in-Writer.is at
+          let o = rw same at (rw c.into_writer.ensures at
           (rw c.outermost-environment.ensures at c.write_kept-answer.ensures.writes.outcome)) in
           search rules;
     }
