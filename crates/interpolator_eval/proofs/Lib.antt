@@ -1,7 +1,9 @@
 -- The lemmas of slots, of contexts and of what a format means.
-pub mod MeaningLemmas
 pub mod FieldNameLemmas
-pub mod LoanLemmas
+pub mod MeaningLemmas
 pub mod RowLemmas
-pub mod SlotLemmas
-pub mod SlotNameLemmas
+
+-- of this crate alone
+mod LoanLemmas
+mod SlotLemmas
+mod SlotNameLemmas

@@ -1,20 +1,22 @@
 -- Lemmas on what a format means, and on what writing it leaves.
-pub mod AskedGrammarLemmas
 pub mod AskedLemmas
 pub mod AskedPieceLemmas
 pub mod ChoiceLemmas
 pub mod EqualLemmas
 pub mod FirstPieceLemmas
 pub mod GroupSizeLemmas
-pub mod ListLawLemmas
-pub mod ListLemmas
-pub mod LookUpLemmas
 pub mod MeaningLemmas
 pub mod MovedLemmas
 pub mod OutcomeLemmas
-pub mod PlacedLemmas
 pub mod PlaceLemmas
+pub mod PlacedLemmas
 pub mod SampleLemmas
 pub mod ScanLemmas
 pub mod SinkLemmas
-pub mod SourceLemmas
+
+-- of this crate alone
+mod AskedGrammarLemmas
+mod ListLawLemmas
+mod ListLemmas
+mod LookUpLemmas
+mod SourceLemmas

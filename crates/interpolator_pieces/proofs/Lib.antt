@@ -4,18 +4,20 @@ pub mod CheckLemmas
 pub mod CheckPlaceLemmas
 pub mod CollectLemmas
 pub mod CostLawLemmas
-pub mod CostLemmas
-pub mod DepthLemmas
 pub mod ExtentLemmas
 pub mod LineLemmas
-pub mod ParseLemmas
-pub mod PartLemmas
 pub mod RangeLemmas
 pub mod RunLemmas
 pub mod StoredLemmas
 pub mod StoredNameLemmas
 pub mod VisitLemmas
-pub mod WalkLemmas
 pub mod WholeLemmas
 pub mod WholePieceLemmas
-pub mod WithinLemmas
+
+-- of this crate alone
+mod CostLemmas
+mod DepthLemmas
+mod ParseLemmas
+mod PartLemmas
+mod WalkLemmas
+mod WithinLemmas

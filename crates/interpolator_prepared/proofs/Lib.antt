@@ -1,11 +1,13 @@
 -- The lemmas of prepared formats.
-pub mod CompileLemmas
-pub mod ItemLemmas
-pub mod JoinedLemmas
-pub mod KeptLemmas
-pub mod ListMeaningLemmas
 pub mod ProgramLemmas
-pub mod RowLemmas
-pub mod SimpleListLemmas
-pub mod StepLemmas
 pub mod WriteLemmas
+
+-- of this crate alone
+mod CompileLemmas
+mod ItemLemmas
+mod JoinedLemmas
+mod KeptLemmas
+mod ListMeaningLemmas
+mod RowLemmas
+mod SimpleListLemmas
+mod StepLemmas

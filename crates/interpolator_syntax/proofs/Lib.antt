@@ -1,26 +1,12 @@
 -- The lemmas of the reader and of the faults.
-pub mod ArgumentFaultLemmas
-pub mod ByteLemmas
+pub mod CaseLemmas
 pub mod CharacterLemmas
-pub mod EqualityLemmas
-pub mod ErrorLemmas
 pub mod FirstByteLemmas
 pub mod FrontLemmas
 pub mod GrammarArgumentLemmas
 pub mod GrammarGroupLemmas
-pub mod GrammarLemmas
-pub mod GrammarListLemmas
-pub mod GrammarNumberLemmas
-pub mod GrammarOptionLemmas
-pub mod GrammarPartLemmas
 pub mod GrammarPieceLemmas
-pub mod GrammarSpecLemmas
-pub mod GrammarTraitLemmas
-pub mod GroupLemmas
-pub mod GroupReaderLemmas
 pub mod GuardLemmas
-pub mod TokenTextLemmas
-pub mod LocalLemmas
 pub mod LocalityLemmas
 pub mod LongestLemmas
 pub mod MovePieceLemmas
@@ -28,11 +14,27 @@ pub mod NodeLemmas
 pub mod PieceLemmas
 pub mod ReaderLemmas
 pub mod ScanLemmas
-pub mod SimpleReaderLemmas
 pub mod SizeLemmas
 pub mod SplitLemmas
 pub mod StripLemmas
-pub mod CaseLemmas
 pub mod TokenLemmas
+pub mod TokenTextLemmas
 pub mod TreePlaceLemmas
-pub mod UnstyledLemmas
+
+-- of this crate alone
+mod ArgumentFaultLemmas
+mod ByteLemmas
+mod EqualityLemmas
+mod ErrorLemmas
+mod GrammarLemmas
+mod GrammarListLemmas
+mod GrammarNumberLemmas
+mod GrammarOptionLemmas
+mod GrammarPartLemmas
+mod GrammarSpecLemmas
+mod GrammarTraitLemmas
+mod GroupLemmas
+mod GroupReaderLemmas
+mod LocalLemmas
+mod SimpleReaderLemmas
+mod UnstyledLemmas
