@@ -3,6 +3,7 @@ pub mod FirstLemmas
 pub mod HeldLemmas
 pub mod KeyLemmas
 pub mod KindLemmas
+pub mod OwnLemmas
 pub mod RuleLemmas
 pub mod SoundLemmas
 pub mod WordLemmas

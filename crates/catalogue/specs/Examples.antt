@@ -1,10 +1,10 @@
 -- An example of what a line declares, and the faults that its format has with that.
 use Rattle.std.specs.Prelude.{ℕ, Bool, true, false, pos, List, [], ◌∷◌, map}
-use Rattle.std.specs.List.{filter}
 use Rattle.std.specs.Str.{chars}
 use Rattle.interpolator.specs.At.{outermost}
 use Rattle.interpolator.specs.Faults.{Answer, Fault, fault, no_memory, parse, unsupported_option}
 use Rattle.interpolator.specs.Slots.{Slots}
+use Rattle.interpolator.specs.Template.NodeChecks.{text_faults}
 use Rattle.interpolator.specs.Template.NodeSamples.{faults_over}
 use Rattle.interpolator.specs.Views.{Shown, shown_as_value}
 use Rattle.interpolator.specs.declared.Bits.TheVariants.{B128}
@@ -45,18 +45,17 @@ abbrev pub example_faults : List (List ℕ × Kind) → List ℕ → List Fault
 example_faults declared format =
     faults_over view_shows (found_by (map example_of declared)) (outermost (chars format))
 
--- a format has a fault by itself: whatever it is given, a part of it cannot be read
+-- the faults of a format: by itself, if nothing is declared, or with examples of what is declared
+abbrev pub faults_of : Declared → List ℕ → List Fault
+faults_of nothing format = text_faults (outermost (chars format))
+faults_of (these declared) format = example_faults declared format
+faults_of (broken place) format = []
+
+-- a format has a fault by itself
 abbrev pub is_own : Fault → Bool
 is_own (parse f) = true
 is_own (unsupported_option option feature place) = true
 is_own _ = false
-
--- the faults of a format: those that it has by itself, of all that it has without any value, if
--- nothing is declared; or those that it has with examples of what is declared
-abbrev pub faults_of : Declared → List ℕ → List Fault
-faults_of nothing format = filter is_own (example_faults [] format)
-faults_of (these declared) format = example_faults declared format
-faults_of (broken place) format = []
 
 abbrev pub is_own_reply : Answer → Bool
 is_own_reply (fault f) = is_own f

@@ -2,14 +2,18 @@
 
 ghost use Rattle.std.specs.Prelude.{◌≡◌, IfOk, IfErr, map};
 ghost use Rattle.std.specs.List.{filter};
+ghost use Rattle.std.specs.Str.{chars};
+ghost use Rattle.interpolator.specs.At.{outermost};
 ghost use Rattle.interpolator.specs.Faults.{answer_of, fault, no_memory};
-ghost use Rattle.catalogue.specs.Declarations.{as_declaration, declared_by, nothing};
+ghost use Rattle.interpolator.specs.Template.NodeChecks.{text_faults};
+ghost use Rattle.catalogue.specs.Declarations.{as_declaration, declared_by};
 ghost use Rattle.catalogue.specs.Entries.{held_by};
 ghost use Rattle.catalogue.specs.Examples.{example_faults, example_of, faults_of, is_own_reply};
 
 use crate::declarations::{Declaration, Heading, Kind};
 use crate::entries::{Object, entries_of, pairs_of};
 use interpolator::{Bits, Error, Interpolate, Pairs, Template, View};
+use interpolator_laws::checks::a_fault_of_its_own_is_that_of_some_piece;
 use std::alloc::Global;
 
 /// An example of a text: a character, which can be formatted under the same traits as any text.
@@ -95,9 +99,10 @@ fn own_of(errors: Vec<Error>) -> Vec<Error>
 /// All faults that a format has by itself.
 fn own_faults(alloc: Global, template: &Template) -> Result<Vec<Error>, Error>
     ensures all { IfOk result (λ errors. map answer_of errors.items
-        ≡ map fault (faults_of nothing template.now)) }
+        ≡ map fault (text_faults (outermost (chars template.now)))) }
     ensures refused { IfErr result (λ error. answer_of error ≡ no_memory) }
 {
+    a_fault_of_its_own_is_that_of_some_piece();
     let errors = faults_with(alloc, template, &[])?;
     Ok(own_of(errors))
 }
