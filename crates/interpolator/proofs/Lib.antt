@@ -5,7 +5,6 @@ pub mod ExcerptLemmas
 pub mod PartLemmas
 pub mod SamplePlaceLemmas
 pub mod SeamLemmas
-
 -- of this crate alone
 mod DecimalDigitLemmas
 mod DecimalTextLemmas

@@ -2,7 +2,6 @@
 pub mod FieldNameLemmas
 pub mod MeaningLemmas
 pub mod RowLemmas
-
 -- of this crate alone
 mod LoanLemmas
 mod SlotLemmas

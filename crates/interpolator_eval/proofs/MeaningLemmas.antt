@@ -13,7 +13,6 @@ pub mod PlacedLemmas
 pub mod SampleLemmas
 pub mod ScanLemmas
 pub mod SinkLemmas
-
 -- of this crate alone
 mod AskedGrammarLemmas
 mod ListLawLemmas

@@ -13,7 +13,6 @@ pub mod StoredNameLemmas
 pub mod VisitLemmas
 pub mod WholeLemmas
 pub mod WholePieceLemmas
-
 -- of this crate alone
 mod CostLemmas
 mod DepthLemmas

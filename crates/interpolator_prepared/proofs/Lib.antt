@@ -1,7 +1,6 @@
 -- The lemmas of prepared formats.
 pub mod ProgramLemmas
 pub mod WriteLemmas
-
 -- of this crate alone
 mod CompileLemmas
 mod ItemLemmas

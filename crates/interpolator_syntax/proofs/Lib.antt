@@ -20,7 +20,6 @@ pub mod StripLemmas
 pub mod TokenLemmas
 pub mod TokenTextLemmas
 pub mod TreePlaceLemmas
-
 -- of this crate alone
 mod ArgumentFaultLemmas
 mod ByteLemmas
