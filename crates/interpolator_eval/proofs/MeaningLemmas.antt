@@ -13,9 +13,8 @@ pub mod PlacedLemmas
 pub mod SampleLemmas
 pub mod ScanLemmas
 pub mod SinkLemmas
--- of this crate alone
-mod AskedGrammarLemmas
-mod ListLawLemmas
-mod ListLemmas
-mod LookUpLemmas
-mod SourceLemmas
+pub mod AskedGrammarLemmas
+pub mod ListLawLemmas
+pub mod ListLemmas
+pub mod LookUpLemmas
+pub mod SourceLemmas
