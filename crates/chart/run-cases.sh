@@ -11,7 +11,7 @@ usage='usage: chart FORMAT FILE'
 range='is no whole number from 0 to 18446744073709551615'
 here=$(cd "$(dirname "$0")" && pwd)
 name=chart
-wanted=28
+wanted=34
 . "$here/../../.ci/cases.sh"
 
 # files TEXT: the format of all cells, and a file with this text.
@@ -47,18 +47,19 @@ fault_cases() {
     fault "t:1:5: \`18446744073709551616\` $range" $'a 1 18446744073709551616\n'
     fault "t:1:3: \`\` $range" $'a  1 2\n'
     fault 't:1:5: the second number, which measures its line, is 0' $'a 7 0\n'
-    fault 't:1:2: 0 numbers, but at least 2 are drawn' 'a'
-    fault 't:1:4: 1 number, but at least 2 are drawn' 'a 1'
+    fault "t:1:3: \`x\` $range"$'\n''t:1:5: the second number, which measures its line, is 0' $'a x 0\n'
+    fault 't:1:2: 0 numbers, but at least 2 are wanted' 'a'
+    fault 't:1:4: 1 number, but at least 2 are wanted' 'a 1'
     fault 't:2:10: 3 numbers, but line 1 has 2' $'a 1 2\nb 30 20 5\n'
     fault $'t:2:1: 0 numbers, but line 1 has 2\n'"t:3:3: \`y\` $range"$'\nt:3:4: 1 number, but line 1 has 2' \
         $'a 1 2\n\nb y\n'
     printf '%s' 'log 1 2 3 4' >t
-    case_of file file 1 '' $'t:1:12: 4 numbers, but at least 6 are drawn\n' \
+    case_of file file 1 '' $'t:1:12: 4 numbers, but at least 6 are wanted\n' \
         "$here/data/chart.svg.txt" t
     printf '%s' '{rows:i#({:i-7({})})#}' >f
     case_of file file 0 '1' '' f t
     printf '%s' 'log 1 2' >t
-    case_of file file 1 '' $'t:1:8: 2 numbers, but at least 3 are drawn\n' f t
+    case_of file file 1 '' $'t:1:8: 2 numbers, but at least 3 are wanted\n' f t
     printf '%s' $'é\n {q}' >f
     case_of file file 1 '' \
         $'f:2:3: specified value not in context `q` at 5\n  |\n2 |  {q}\n  |  ~^~\n' f t
@@ -79,21 +80,25 @@ other_cases() {
     case_of file full 3 '' '' f none
 }
 
-# The line of USING, in the folder that it names, draws the picture of docs.
-using_case() {
-    local line picture
-    line=$(grep -o "crates/$name\` (there \`rt run -- [^\`]*" "$here/../../docs/USING.md")
-    picture=$(held "$here/../../docs/speed.svg")
-    cd "$here" || exit 1
-    eval "case_of file file 0 \"\${picture%x}\" '' ${line##*rt run -- }"
-    cd "$room" || exit 1
+refused_calls() {
+    files $'a 1 2\nb 30 20\n'
+    refusals_of 0 '192;64,a,50,1,100,2;128,b,150,30,100,20' '' f t
+    files $'a 1 2\nb 30\n'
+    refusals_of 1 '' $'t:2:5: 1 number, but line 1 has 2\n' f t
+    files 'a 1 2'
+    printf '%s' $'é\n {q}' >f
+    refusals_of 1 '' \
+        $'f:2:3: specified value not in context `q` at 5\n  |\n2 |  {q}\n  |  ~^~\n' f t
+    refusals_of 2 '' "$usage"$'\n' f
+    refusals_of 3 '' $'none: No such file or directory (os error 2)\n' f none
 }
 
 all_cases() {
     table_cases
     fault_cases
     other_cases
-    using_case
+    refused_calls
+    using_case "$here/../../docs/speed.svg"
 }
 
 run_cases "$@"

@@ -13,7 +13,7 @@ wanted_number='wants a number, such as -7 or 12.50'
 greatest=170141183460469231731687303715884105727
 here=$(cd "$(dirname "$0")" && pwd)
 name=merge
-wanted=59
+wanted=64
 . "$here/../../.ci/cases.sh"
 
 # files TEMPLATE TABLE: what stands in the files `t` and `r`.
@@ -122,14 +122,16 @@ other_cases() {
     case_of file full 3 '' '' t
 }
 
-# The line of USING, in the folder that it names.
-using_case() {
-    local line text
-    line=$(grep -o "crates/$name\` (there \`rt run -- [^\`]*" "$here/../../docs/USING.md")
-    text=$(held "$here/stdout")
-    cd "$here" || exit 1
-    eval "case_of file file 0 \"\${text%x}\" '' ${line##*rt run -- }"
-    cd "$room" || exit 1
+refused_calls() {
+    files '{a:>3}|{n:.1};' $'a,n:\n"é",1.25\nb,2\n'
+    refusals_of 0 '  é|1.2;  b|2.0;' '' t r
+    files '{nme}' $'item, name\n1,2\n'
+    refusals_of 1 '' $'t:1:2: specified value not in context `nme` at 1\n  |\n1 | {nme}\n  | ~^~~~\n  = did you mean `name`? names: `item`, `name`\n' \
+        t r
+    files '{a}' $'a,b\n1\n1,2\n1,2,3\n'
+    refusals_of 1 '' $'r:2: 1 field, but line 1 has 2\nr:4: 3 fields, but line 1 has 2\n' t r
+    refusals_of 2 '' "$usage"$'\n' t
+    refusals_of 3 '' $'none: No such file or directory (os error 2)\n' t none
 }
 
 all_cases() {
@@ -138,7 +140,8 @@ all_cases() {
     template_cases
     table_cases
     other_cases
-    using_case
+    refused_calls
+    using_case "$here/stdout"
 }
 
 run_cases "$@"

@@ -12,7 +12,7 @@ most=17014118346046923173168730371588410572
 zeros=0.0000000000000000000000000000000000000000
 here=$(cd "$(dirname "$0")" && pwd)
 name=report
-wanted=31
+wanted=35
 . "$here/../../.ci/cases.sh"
 
 # table WANTED TEXT: the report of a file with this text, which goes to the output, with status 0.
@@ -71,21 +71,21 @@ other_cases() {
     case_of file full 3 '' '' none
 }
 
-# The line of USING, in the folder that it names.
-using_case() {
-    local line text
-    line=$(grep -o "crates/$name\` (there \`rt run -- [^\`]*" "$here/../../docs/USING.md")
-    text=$(held "$here/stdout")
-    cd "$here" || exit 1
-    eval "case_of file file 0 \"\${text%x}\" '' ${line##*rt run -- }"
-    cd "$room" || exit 1
+refused_calls() {
+    printf '%s' $'item,count\nbread,7\ncrème,-1.25\n' >t
+    refusals_of 0 $'item   count\nbread      7\ncrème  -1.25\ntotal   5.75\n' '' t
+    printf '%s' $'t,n\na,9\nb\nc,1,2' >t
+    refusals_of 1 '' $'t:3: 1 field, but line 1 has 2\nt:4: 3 fields, but line 1 has 2\n' t
+    refusals_of 2 '' "$usage"$'\n' --total
+    refusals_of 3 '' $'none: No such file or directory (os error 2)\n' none
 }
 
 all_cases() {
     table_cases
     fault_cases
     other_cases
-    using_case
+    refused_calls
+    using_case "$here/stdout"
 }
 
 run_cases "$@"

@@ -7,7 +7,7 @@ set -u
 
 here=$(cd "$(dirname "$0")" && pwd)
 name=strangers
-wanted=87
+wanted=91
 . "$here/../../.ci/cases.sh"
 
 usage='usage: strangers [FLAG NUMBER..] FORMAT '
@@ -36,14 +36,6 @@ misused() {
     local why=$1
     shift
     case_of file file 2 '' "$why"$'\n' "$@"
-}
-
-# times COUNT TEXT: a text so many times.
-times() {
-    local i
-    for ((i = 0; i < $1; i++)); do
-        printf '%s' "$2"
-    done
 }
 
 # in_one_another DEPTH BEFORE INNERMOST: lists in one another, the innermost item given: each begins
@@ -194,6 +186,14 @@ uses() {
     case_of file full 3 '' '' '{q}' a
 }
 
+refused_calls() {
+    refusals_of 0 $'<a>, <b> Ann 7 1.50\n' '' --text 9 '{l:i(<{}>)(, )} {who} {n} {p}' \
+        'l[]=a,b' who=Ann n:=7 p:.=1.50
+    refusals_of 1 '' $'specified value not in context `q` at 1\n' '{q}' who=Ann
+    refusals_of 1 '' $'characters: 4, where 3 are allowed\n' --characters 3 abcd
+    refusals_of 2 '' $'bad word: n:=x\n' '{n}' n:=x
+}
+
 all_cases() {
     texts
     decimals
@@ -202,6 +202,7 @@ all_cases() {
     faults
     orders
     uses
+    refused_calls
 }
 
 run_cases "$@"

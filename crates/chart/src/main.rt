@@ -1,7 +1,8 @@
 //! `chart FORMAT FILE`: draws the numbers of a file as bars, by a format that is a file too.
 //!
-//! A line of the file is a name and numbers, with a space between each two. The second number is
-//! the measure of its line: its bar is 100 long, and the other bars of the line are in proportion.
+//! A line of the file is a name and whole numbers, with one space between each two. The second number
+//! is the measure of its line: its bar is 100 long, and the other bars of the line are in proportion,
+//! rounded down.
 //! The format gets `{height}`, the height of the picture, and `{rows}`, a list for each line: its
 //! place from the top, its name, and each number after the length of its bar.
 //!
@@ -151,6 +152,15 @@ fn ended(written: io::Result<()>, status: u8) -> ExitCode {
     }
 }
 
+/// Ends a run whose words cannot be read: memory ran out, or a word is not UTF-8, which is a wrong
+/// use.
+fn without_words(rt: &HostRuntime, error: &io::Error) -> ExitCode {
+    if error.kind() == io::ErrorKind::OutOfMemory {
+        return ended(eprintln!(rt; "{}", Error::NoMemory), FAULT);
+    }
+    usage(rt)
+}
+
 /// Draws the chart of two files.
 fn draw(rt: &HostRuntime, format_name: &str, table_name: &str) -> ExitCode {
     let format = match fs::read_to_string(rt, format_name) {
@@ -175,8 +185,9 @@ fn draw(rt: &HostRuntime, format_name: &str, table_name: &str) -> ExitCode {
 }
 
 fn main(rt: HostRuntime) -> ExitCode {
-    let Ok(words) = arguments(&rt) else {
-        return usage(&rt);
+    let words = match arguments(&rt) {
+        Ok(words) => words,
+        Err(error) => return without_words(&rt, &error),
     };
     let [format, table] = words.as_slice() else {
         return usage(&rt);

@@ -13,8 +13,11 @@ const ROW: u128 = 64;
 /// The height of the space above all bars.
 const HEAD: u128 = 64;
 
-/// How many numbers a line has at least: the second is its measure.
+/// How many numbers a line has at least.
 const FEWEST: usize = 2;
+
+/// Which word of a line measures it: the second number, after the name.
+const MEASURE: usize = 2;
 
 /// The cells of all lines, one after the other, and where each line ends.
 #[derive(Drop)]
@@ -63,21 +66,34 @@ fn number_count(line: &str) -> usize {
     line.split(' ').skip(1).count()
 }
 
-/// The numbers of a line, which follow its name. A word that is none is a fault.
+/// Reports a word that is no number.
+fn tell_not_number(alloc: Global, faults: &mut Faults<'_>, word: &Word<'_>) -> Result<(), Error> {
+    let text = word.text;
+    let why = format!(in alloc; "`{text}` is no whole number from 0 to {}", u64::MAX)?;
+    faults.tell(word.column, why.as_str())
+}
+
+/// Reports a measure of 0, with which no bar can be in proportion.
+fn tell_no_measure(faults: &mut Faults<'_>, word: &Word<'_>) -> Result<(), Error> {
+    faults.tell(
+        word.column,
+        "the second number, which measures its line, is 0",
+    )
+}
+
+/// The numbers of a line, which follow its name. A word that is none is a fault, and so is a measure
+/// of 0.
 fn numbers_of(
     alloc: Global,
     faults: &mut Faults<'_>,
     words: &[Word<'_>],
 ) -> Result<Vec<u64>, Error> {
     let mut numbers = Vec::new(alloc);
-    for word in words.iter().skip(1) {
+    for (index, word) in words.iter().enumerate().skip(1) {
         match word.text.parse::<u64>() {
+            Ok(number) if index == MEASURE && number == 0 => tell_no_measure(faults, word)?,
             Ok(number) => numbers.push(number)?,
-            Err(_) => {
-                let text = word.text;
-                let why = format!(in alloc; "`{text}` is no whole number from 0 to {}", u64::MAX)?;
-                faults.tell(word.column, why.as_str())?;
-            }
+            Err(_) => tell_not_number(alloc, faults, word)?,
         }
     }
     Ok(numbers)
@@ -96,7 +112,7 @@ fn check_count(
     let end = line.chars().count().saturating_add(1);
     if faults.at_first_line() {
         if count < wanted {
-            let why = format!(in alloc; "{count} {noun}, but at least {wanted} are drawn")?;
+            let why = format!(in alloc; "{count} {noun}, but at least {wanted} are wanted")?;
             faults.tell(end, why.as_str())?;
         }
     } else if count != wanted {
@@ -123,19 +139,6 @@ fn push_cells<'a>(
     Ok(())
 }
 
-/// Reports a measure of 0, with which no bar can be in proportion.
-fn check_measure(faults: &mut Faults<'_>, words: &[Word<'_>]) -> Result<(), Error> {
-    match words.get(FEWEST) {
-        Some(word) if word.text.parse::<u64>() == Ok(0) => {
-            faults.tell(
-                word.column,
-                "the second number, which measures its line, is 0",
-            )
-        }
-        _ => Ok(()),
-    }
-}
-
 /// Reads a line, and reports its faults. Returns its numbers.
 fn read_line(
     alloc: Global,
@@ -145,26 +148,27 @@ fn read_line(
 ) -> Result<Vec<u64>, Error> {
     faults.next_line();
     let words = words_of(alloc, line)?;
-    check_measure(faults, &words)?;
     let numbers = numbers_of(alloc, faults, &words)?;
     check_count(alloc, faults, line, number_count(line), wanted)?;
     Ok(numbers)
 }
 
-/// Reads the lines of a table, of which each has as many numbers as the first, and that at least as
-/// many as the format draws.
+/// Reads the lines of a table, each with as many numbers as the first, which has at least as many as
+/// the format draws.
 pub fn rows_of_table<'a>(
     alloc: Global,
     faults: &mut Faults<'_>,
     table: &'a str,
     drawn: usize,
 ) -> Result<Rows<'a>, Error> {
+    let first = number_count(table.lines().next().unwrap_or(""));
     let mut cells = Vec::new(alloc);
     let mut ends = Vec::new(alloc);
     for line in table.lines() {
-        let wanted = match table.lines().next() {
-            Some(first) if !ends.is_empty() => number_count(first),
-            _ => drawn.max(FEWEST),
+        let wanted = if ends.is_empty() {
+            drawn.max(FEWEST)
+        } else {
+            first
         };
         let numbers = read_line(alloc, faults, line, wanted)?;
         push_cells(&mut cells, place_of(ends.len()), name_of(line), &numbers)?;

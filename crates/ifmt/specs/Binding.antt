@@ -34,7 +34,7 @@ object_shows (DecimalWord name value) = decimal_number value.units value.scale
 object_shows (ListWord name items) = nothing_implemented
 object_shows Bad = nothing_implemented
 
--- what objects show that hold texts
+-- what objects that hold texts show
 abbrev pub texts_show : List (List ℕ) → List Shown
 texts_show texts = map (λ value. some_text (chars value)) texts
 
@@ -57,7 +57,7 @@ module _ {X : Type 0} where
   abbrev pub item_slots : List X → List (Slots X)
   item_slots objects = map (λ object. with_debug_display empty_slots object) objects
 
-  -- one name's tree was changed, from no slot if it had none, and the other names stayed
+  -- the slots under one name were changed, from empty ones if it had none, and the other names stayed
   pub record Changes (old : List ℕ → Option (Slots X)) (name : List ℕ) (change : Slots X → Slots X)
       (new : List ℕ → Option (Slots X)) : Type 0 where
     pub here : new name ≡ Some (change (unwrap_or (old name) empty_slots))
@@ -68,13 +68,13 @@ module _ {X : Type 0} where
   abbrev pub Fills : (old : List ℕ → Option (Slots X)) → Word → (object : X)
       → (items : List (Slots X)) → (new : List ℕ → Option (Slots X)) → Type 0
   Fills old (Text name value) object items new =
-      Changes old (chars name.now) (λ tree. with_debug_display tree object) new
+      Changes old (chars name.now) (λ slots. with_debug_display slots object) new
   Fills old (Number name value) object items new =
-      Changes old (chars name.now) (λ tree. with_integer tree object) new
+      Changes old (chars name.now) (λ slots. with_integer slots object) new
   Fills old (DecimalWord name value) object items new =
-      Changes old (chars name.now) (λ tree. with_float tree object) new
+      Changes old (chars name.now) (λ slots. with_float slots object) new
   Fills old (ListWord name value) object items new =
-      Changes old (chars name.now) (λ tree. with_iter tree items) new
+      Changes old (chars name.now) (λ slots. with_iter slots items) new
   Fills old Bad object items new = new ≡ old
 
 -- the entry lends what the object has, and its items are filled with the object's
@@ -83,10 +83,10 @@ pub record Lends (object : Object) (entry : Entry) : Type 0 where
   pub same_value : entry.value.now ≡ object.value
   pub filled : map slots_of entry.items.items ≡ item_slots object.items.items
 
--- what an assignment makes of the tree under its name: an object that shows a text fills the
--- slots of debug and display, one that shows a whole number those of an integer, one that shows a
--- decimal those of a float, and objects that show the items of a list are the items in the slot of
--- a list, each in its slots of debug and display
+-- what an assignment makes of the slots under its name: an object that shows a text fills those of
+-- debug and display, one that shows a whole number those of an integer, one that shows a decimal
+-- those of a float, and objects that show the items of a list are the items in the slot of a list,
+-- each in its slots of debug and display
 abbrev pub Merges : Assignment → (before after : Slots View) → Type 0
 Merges (text name value) before after = (object : View)
     × (shown_as_value object ≡ some_text (chars value)) × (after ≡ with_debug_display before object)
@@ -99,7 +99,7 @@ Merges (list name value) before after = (objects : List View)
     × (map shown_as_value objects ≡ texts_show (items_of value))
     × (after ≡ with_iter before (item_slots objects))
 
--- the word's assignment was merged into the tree under its name, and the other names stayed
+-- the word's assignment was merged into the slots under its name, and the other names stayed
 abbrev pub Binds : (old : List ℕ → Option (Slots View)) → (word : List ℕ)
     → (new : List ℕ → Option (Slots View)) → Type 0
 Binds old word new = (assignment : Assignment) × Means word assignment

@@ -79,6 +79,3 @@ fn run_words<O: Write, E: Write>(
     }
     Ok(run(alloc, format, &context, out, err))
 }
-
-#[cfg(test)]
-mod tests;

@@ -26,7 +26,7 @@ const PLUS: char = '+';
 const COMMA: char = ',';
 
 /// The value that a word of the command line gives.
-#[derive(Clone, Copy, Debug, PartialEq)]
+#[derive(Clone, Copy)]
 pub enum Word<'a> {
     /// `NAME=TEXT`: a text under a name.
     Text { name: &'a str, text: &'a str },
@@ -128,6 +128,3 @@ pub fn items(alloc: Global, text: &str) -> Result<Vec<&str>, Error>
     let items = text.split(COMMA).collect(alloc)?;
     Ok(items)
 }
-
-#[cfg(test)]
-mod tests;

@@ -2,13 +2,14 @@
 //!
 //! The first line of the table names its columns; white space around a name does not count. A name
 //! that ends in `:`, as `price:`, is that of a column of numbers, without the `:`. Its fields are
-//! whole numbers or decimals, as -7 or 12.50, of 128 bits without the point; they keep their digits,
-//! and may have white space around them. `{price:>10.2}` shows such a field with two digits after
-//! the point, at the right of ten characters. The fields of other columns are texts.
+//! whole numbers or decimals, as -7 or 12.50, of 128 bits without the point. White space around them,
+//! zeros in front and a `+` are not shown; all digits after the point are. `{price:>10.2}` shows such
+//! a field with two digits after the point, at the right of ten characters. The fields of other
+//! columns are texts.
 //!
 //! The other lines have a field for each name. Fields are as RFC 4180 has them, but within one
 //! line: a field with a comma or a quote in it stands in quotes, and a quote in it is doubled. A
-//! field that goes on in the next line is not served: its line is reported as one that does not
+//! field that goes on in the next line is not supported: its line is reported as one that does not
 //! close a quote. A blank line has one field, which is empty, so it is reported in a table of two
 //! columns or more. Lines end with a newline, or a carriage return and a newline. A byte order mark
 //! at the head of either file is skipped.
@@ -156,6 +157,15 @@ fn ended(written: io::Result<()>, status: u8) -> ExitCode {
     }
 }
 
+/// Ends a run whose words cannot be read: memory ran out, or a word is not UTF-8, which is a wrong
+/// use.
+fn without_words(rt: &HostRuntime, error: &io::Error) -> ExitCode {
+    if error.kind() == io::ErrorKind::OutOfMemory {
+        return ended(eprintln!(rt; "{}", Error::NoMemory), FAULT);
+    }
+    usage(rt)
+}
+
 /// Writes the letters of a template and a table, or why there are none.
 fn write_letters(rt: &HostRuntime, files: Files<'_>) -> ExitCode {
     match merged(rt.alloc(), files.template, files.table) {
@@ -187,8 +197,9 @@ fn merge(rt: &HostRuntime, template_name: &str, table_name: &str) -> ExitCode {
 }
 
 fn main(rt: HostRuntime) -> ExitCode {
-    let Ok(words) = arguments(&rt) else {
-        return usage(&rt);
+    let words = match arguments(&rt) {
+        Ok(words) => words,
+        Err(error) => return without_words(&rt, &error),
     };
     let [template, table] = words.as_slice() else {
         return usage(&rt);

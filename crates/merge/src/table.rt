@@ -103,7 +103,7 @@ pub fn push_fault(
     }
 }
 
-/// The faults of the first line: the names that its columns have twice.
+/// The faults of the first line: one for each column that has the name of an earlier one.
 pub fn repeats_of(alloc: Global, columns: &[Column<'_>]) -> Result<Vec<LineFault>, AllocError>
     ensures { IfOk result (λ faults.
         faults.items ≡ repeats (map (λ column. column.name.now) columns.now)) }

@@ -2,8 +2,8 @@
 
 use crate::totals::entry_at;
 use interpolator::{
-    Decimal, Error, Formattable, Pairs, Prepared, Row, Template, TextBuffer, Value, View, iformat,
-    items_of,
+    Decimal, Error, Formattable, Pairs, Prepared, Row, Template, TextBuffer, TextWrite, Value,
+    View, iformat, items_of,
 };
 use std::alloc::Global;
 
@@ -29,8 +29,8 @@ impl Column {
     /// The column with this total.
     pub fn with_total(self, total: Decimal) -> Column {
         Column {
-            width: self.width,
             total: Some(total),
+            ..self
         }
     }
 
@@ -92,7 +92,12 @@ fn write_row<V: Value>(
     entries: &[V],
 ) -> Result<(), Error> {
     let items = items_of(alloc, entries)?;
-    row.write(alloc, out, &Row(&[Formattable::iter(&items)]))
+    let answer = row.write(alloc, out, &Row(&[Formattable::iter(&items)]));
+    // The buffer refuses a text only if memory runs out.
+    if out.refused() {
+        return Err(Error::NoMemory);
+    }
+    answer
 }
 
 /// Writes a line of the file as a row.

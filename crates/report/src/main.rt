@@ -3,9 +3,11 @@
 //! The first line names the columns, and each line after it has an entry for each. A column is as
 //! wide, in characters, as the widest of its name, its entries and the text at its foot. A column
 //! whose entries are all numbers, such as `7` and `-12.50`, is aligned to the right, and has its
-//! total at its foot: exactly, with as many digits after the point as the entry that has most. If a
-//! line has another number of fields, or a number or a sum is too large, all such lines are
-//! reported, and no table is written.
+//! total at its foot: exactly, with as many digits after the point as the entry that has the most.
+//! Quotes have no meaning, so no entry has a comma in it.
+//!
+//! All lines with another number of fields are reported, and of each column the first line at which
+//! the number or the sum is too large; then no table is written.
 #![tactic(auto)]
 
 mod faults;
@@ -160,6 +162,15 @@ fn ended(written: io::Result<()>, status: u8) -> ExitCode {
     }
 }
 
+/// Ends a run whose words cannot be read: memory ran out, or a word is not UTF-8, which is a wrong
+/// use.
+fn without_words(rt: &HostRuntime, error: &io::Error) -> ExitCode {
+    if error.kind() == io::ErrorKind::OutOfMemory {
+        return ended(eprintln!(rt; "{}", Error::NoMemory), FAULT);
+    }
+    usage(rt)
+}
+
 /// Prints the table of a file, or what is wrong with it.
 fn print_report(rt: &HostRuntime, file: &str) -> ExitCode {
     let text = match fs::read_to_string(rt, file) {
@@ -174,8 +185,9 @@ fn print_report(rt: &HostRuntime, file: &str) -> ExitCode {
 }
 
 fn main(rt: HostRuntime) -> ExitCode {
-    let Ok(words) = arguments(&rt) else {
-        return usage(&rt);
+    let words = match arguments(&rt) {
+        Ok(words) => words,
+        Err(error) => return without_words(&rt, &error),
     };
     match words.as_slice() {
         [file] if !is_flag(file.as_str()) => print_report(&rt, file.as_str()),

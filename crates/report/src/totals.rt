@@ -75,7 +75,7 @@ fn no_entry() -> Decimal
 }
 
 /// The total of a column: the sum of its entries, with as many digits after the point as the entry
-/// has that has most.
+/// that has the most.
 ///
 /// # Errors
 ///

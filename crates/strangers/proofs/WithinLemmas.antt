@@ -29,7 +29,7 @@ use Rattle.interpolator.specs.declared.Trait.TheVariants.{Iter}
 use Rattle.strangers.specs.Serving.{IsServed, IsWhole, Rejects, first_why, format_why, given_why}
 use Rattle.strangers.specs.Serving.{meaning_over, shows, words_why}
 use Rattle.strangers.specs.Values.{AreInRange, IsInRange, Row, characters_of, found_by_words}
-use Rattle.strangers.specs.Values.{given_tree, longest_of, pair_named, word_named}
+use Rattle.strangers.specs.Values.{given_slots, longest_of, pair_named, word_named}
 use Rattle.strangers.proofs.ServingLemmas.{afforded, neither}
 use Rattle.strangers.proofs.ValueLemmas.{let_through}
 use Rattle.strangers.specs.declared.serving.Allowed.{Allowed}
@@ -47,8 +47,8 @@ GiveWords words pairs = map pair_named pairs ≡ map word_named words
 -- ---- what words give is within the limits
 
 module _ (limits : Limits) where
-  abbrev TreeWithin : Slots Datum → Type 0
-  TreeWithin tree = SlotsWithin shows limits.text limits.items tree
+  abbrev AreWithin : Slots Datum → Type 0
+  AreWithin slots = SlotsWithin shows limits.text limits.items slots
 
   -- a value in a slot
   slot_within : (t : Trait) (value : Datum) → IsInRange value → characters_of value ≤ limits.text
@@ -59,7 +59,7 @@ module _ (limits : Limits) where
 
   -- a value in each slot
   value_within : (value : Datum) → IsInRange value → characters_of value ≤ limits.text
-      → TreeWithin (with_integer empty_slots value)
+      → AreWithin (with_integer empty_slots value)
   value_within value range short = λ t. each t
     where
       each : (t : Trait) → SlotWithin shows limits.text limits.items t
@@ -90,10 +90,10 @@ module _ (limits : Limits) where
   as_many (value ∷ values) = ap suc (as_many values)
 
   -- what a word gives
-  tree_within : (given : Given) → AreInRange given → given_why limits given ≡ None
-      → TreeWithin (given_tree given)
-  tree_within (One value) range good = value_within value range (let_through _ _ _ good)
-  tree_within (Many values) range good =
+  slots_within : (given : Given) → AreInRange given → given_why limits given ≡ None
+      → AreWithin (given_slots given)
+  slots_within (One value) range good = value_within value range (let_through _ _ _ good)
+  slots_within (Many values) range good =
       let (few, short) = neither _ _ good in (
         none_within,
         omega (arith, let_through _ (length values.items) limits.items few, as_many values.items),
@@ -108,7 +108,7 @@ module _ (limits : Limits) where
   found_within (word ∷ words) name range good =
       let (this, others) = neither _ _ good in
       let InRange = λ (w : Word). AreInRange w.given in
-      let first = tree_within word.given (All-head InRange word words range) this in
+      let first = slots_within word.given (All-head InRange word words range) this in
       let rest = found_within words name (All-tail InRange word words range) others in
       grind (arith, first, rest)
 

@@ -28,14 +28,14 @@ datum_shows (Number number) = signed_number number B128
 datum_shows (InDecimal decimal) = decimal_number decimal.units decimal.scale
 
 -- what is given under the name of a word: one value in each slot, or a list of such values
-abbrev pub given_tree : Given → Slots Datum
-given_tree (One value) = with_integer empty_slots value
-given_tree (Many values) = with_iter empty_slots (map (with_integer empty_slots) values.items)
+abbrev pub given_slots : Given → Slots Datum
+given_slots (One value) = with_integer empty_slots value
+given_slots (Many values) = with_iter empty_slots (map (with_integer empty_slots) values.items)
 
 -- what is given under a name, its values lent
-abbrev pub lent_tree : Lent → Slots Datum
-lent_tree (lent.One value) = with_integer empty_slots value.now
-lent_tree (lent.Many items) = with_iter empty_slots (map slots_of items.items)
+abbrev pub lent_slots : Lent → Slots Datum
+lent_slots (lent.One value) = with_integer empty_slots value.now
+lent_slots (lent.Many items) = with_iter empty_slots (map slots_of items.items)
 
 -- a name and what is given under it
 abbrev pub Named : Type 0
@@ -43,11 +43,11 @@ Named = List ℕ × Slots Datum
 
 -- the name of a word, with what is given under it
 abbrev pub word_named : Word → Named
-word_named word = (word.name.now, given_tree word.given)
+word_named word = (word.name.now, given_slots word.given)
 
 -- the name of an entry, with what is given under it: the values of a word, lent
 abbrev pub entry_named : Entry → Named
-entry_named entry = (entry.name.now, lent_tree entry.lent)
+entry_named entry = (entry.name.now, lent_slots entry.lent)
 
 -- the name of a pair of a context, with what is given under it
 abbrev pub pair_named : Bor (List ℕ) × Formattable Datum → Named
@@ -61,7 +61,7 @@ Row = List (Bor (List ℕ) × Formattable Datum)
 abbrev pub found_by_words : List Word → List ℕ → Option (Slots Datum)
 found_by_words [] name = None
 found_by_words (word ∷ words) name = option_or (found_by_words words name)
-    (if bytes_eq (encode_utf8_all name) word.name.now then Some (given_tree word.given) else None)
+    (if bytes_eq (encode_utf8_all name) word.name.now then Some (given_slots word.given) else None)
 
 -- how many characters are after the digits before the point: the point and the digits after it,
 -- or none

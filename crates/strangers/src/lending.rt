@@ -2,7 +2,7 @@
 ghost use Rattle.std.specs.Prelude.{◌≡◌, IfErr, IfOk, map};
 ghost use Rattle.interpolator.specs.Slots.{slots_of};
 ghost use Rattle.interpolator.specs.declared.Error.TheVariants.{NoMemory};
-ghost use Rattle.strangers.specs.Values.{given_tree, lent_tree, word_named, entry_named};
+ghost use Rattle.strangers.specs.Values.{given_slots, lent_slots, word_named, entry_named};
 ghost use Rattle.strangers.specs.Values.{pair_named};
 
 use crate::values::{Datum, Given, Word};
@@ -27,7 +27,7 @@ pub struct Entry<'a> {
 
 /// Borrows the value of a word.
 fn lent_of<'e, 'a>(alloc: Global, given: &'e Given<'a>) -> Result<Lent<'e>, Error>
-    ensures ok { IfOk result (λ lent. lent_tree lent ≡ given_tree given.now) }
+    ensures ok { IfOk result (λ lent. lent_slots lent ≡ given_slots given.now) }
     ensures err { IfErr result (λ error. error ≡ NoMemory) }
 {
     match given {
@@ -57,7 +57,7 @@ pub fn entries_of<'e, 'a>(alloc: Global, words: &'e [Word<'a>]) -> Result<Vec<En
 
 /// One value, or a list.
 fn formattable_of<'e, 'a>(lent: &'e Lent<'a>) -> Formattable<'e, Datum<'e>>
-    ensures { slots_of result ≡ lent_tree lent.now }
+    ensures { slots_of result ≡ lent_slots lent.now }
 {
     match lent {
         Lent::One(value) => Formattable::integer(value),

@@ -23,7 +23,7 @@ use std::{env, io};
 const USAGE: &str = "usage: strangers [FLAG NUMBER..] FORMAT \
     [NAME=TEXT | NAME:=NUMBER | NAME:.=DECIMAL | NAME[]=ITEM,ITEM..]";
 
-const REFUSED: u8 = 1;
+const REJECTED: u8 = 1;
 
 const BAD_USE: u8 = 2;
 
@@ -64,7 +64,7 @@ fn tell(rt: &HostRuntime, answer: &Answer) -> io::Result<u8> {
         }
         Answer::Refused(refused) => {
             tell_refused(rt, refused)?;
-            Ok(REFUSED)
+            Ok(REJECTED)
         }
         Answer::BadWord(word) => {
             eprintln!(rt; "bad word: {word}")?;
@@ -77,13 +77,14 @@ fn tell(rt: &HostRuntime, answer: &Answer) -> io::Result<u8> {
     }
 }
 
-fn words(rt: &HostRuntime) -> io::Result<Vec<String>> {
+/// The words after the program's name.
+fn arguments(rt: &HostRuntime) -> io::Result<Vec<String>> {
     let words = env::args(rt)?.skip(1).collect::<Vec<String>>(rt.alloc())?;
     Ok(words)
 }
 
 fn main(rt: HostRuntime) -> ExitCode {
-    let answer = match words(&rt) {
+    let answer = match arguments(&rt) {
         Ok(line) => answered(rt.alloc(), line.as_slice()),
         Err(error) if error.kind() == io::ErrorKind::OutOfMemory => Err(Error::NoMemory),
         // An argument is not UTF-8.

@@ -251,7 +251,7 @@ fn word_of(alloc: Global, word: &str) -> Result<Option<Word<'_>>, AllocError>
     parts_give(alloc, left, right)
 }
 
-/// Reads the words, or returns the first that is none of these.
+/// Reads the words, or returns the first that gives no value.
 ///
 /// # Errors
 ///

@@ -128,7 +128,8 @@ fn check_cost(cost: &Cost, most: &Cost) -> Result<(), Refused>
     check(Count::Buffered, cost.buffered, most.buffered)
 }
 
-/// Writes a template that has no fault with these pairs to a writer that is limited in characters.
+/// Writes a template that has no fault with these pairs to a writer that has room for so many
+/// characters, whatever they are.
 fn written<'a>(
     alloc: Global,
     characters: usize,

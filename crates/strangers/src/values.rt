@@ -75,7 +75,7 @@ fn char_count(text: &str) -> usize
     text.chars().count()
 }
 
-/// None: a whole number of 128 bits is no text.
+/// 0, since a whole number is no text; the second clause gives its range to the caller.
 fn characters_of_number(number: i128) -> usize
     ensures none { result ≡ 0 }
     ensures fits { FitsSigned w128 number }

@@ -1,17 +1,10 @@
-//! Tests of the lines that are written, of the flush after each, and of writers that refuse.
+//! Tests of the flush after each line, and of writers that refuse.
 
 use crate::run::{complain, report, run, usage};
 use interpolator::{ContextMap, Error};
 use std::alloc::Global;
 use std::io;
 use std::io::{ErrorKind, Write};
-use std::process::Abort;
-
-const NO_Q: &str = "specified value not in context `q` at 2\n";
-
-const OUT_OF_MEMORY: &str = "out of memory\n";
-
-const NO_END: &str = "error while parsing input: Format spec at 3 is nether closed with a `}`\n";
 
 /// A writer that counts its calls, and refuses one of them.
 #[derive(Drop)]
@@ -88,58 +81,6 @@ fn status_of(alloc: Global, call: Call, to: &mut Spy, other: &mut Spy) -> u8 {
         Call::OutOfMemory => report(Err(Error::NoMemory), other, to),
         Call::Complain => complain("a", to),
         Call::Usage => usage(to),
-    }
-}
-
-/// A format, what `out` and `err` get, and the status.
-type Line = (&'static str, &'static str, &'static str, u8);
-
-/// The texts of the faults are those of the crate that this one ports.
-const LINES: [Line; 4] = [
-    ("Hi", "Hi\n", "", 0),
-    ("", "\n", "", 0),
-    ("a{q}", "", NO_Q, 1),
-    ("é{", "", NO_END, 1),
-];
-
-// `runs_write_their_line_or_want_memory` and the tests of whole command lines have the other calls.
-#[test]
-fn refused_memory_is_reported(rt: HostRuntime) {
-    let mut out = Vec::new(rt.alloc());
-    let mut err = Vec::new(rt.alloc());
-    assert_eq!(rt; report(Err(Error::NoMemory), &mut out, &mut err), 1);
-    assert!(rt; out.is_empty());
-    assert_eq!(rt; err.as_slice(), OUT_OF_MEMORY.as_bytes());
-}
-
-/// Whether a run writes its line, if both writers have their room before it. Else memory was
-/// refused: for this room, or to the run, which reports it and writes no text.
-fn is_run(rt: &impl Abort, alloc: Global, line: Line) -> bool {
-    let (format, text, fault, wanted) = line;
-    let Ok(mut out) = Vec::with_capacity(alloc, 128) else {
-        return false;
-    };
-    let Ok(mut err) = Vec::with_capacity(alloc, 128) else {
-        return false;
-    };
-    let status = run_on(alloc, format, &mut out, &mut err);
-    if err.as_slice() == OUT_OF_MEMORY.as_bytes() {
-        assert_eq!(rt; status, 1, "{format}");
-        assert!(rt; out.is_empty(), "{format}");
-        return false;
-    }
-    assert_eq!(rt; status, wanted, "{format}");
-    assert_eq!(rt; out.as_slice(), text.as_bytes(), "{format}");
-    assert_eq!(rt; err.as_slice(), fault.as_bytes(), "{format}");
-    true
-}
-
-// Under one refused allocation, wherever it falls, no writer is refused.
-#[test]
-fn runs_write_their_line_or_want_memory(rt: HostRuntime) {
-    for line in LINES {
-        let done = is_run(&rt, rt.alloc(), line) || is_run(&rt, rt.alloc(), line);
-        assert!(rt; done);
     }
 }
 
