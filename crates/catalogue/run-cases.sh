@@ -10,7 +10,7 @@ here=$(cd "$(dirname "$0")" && pwd)
 name=catalogue
 usage='usage: catalogue [--fallback FILE] FILE KEY '
 usage+='[NAME=TEXT | NAME:=NUMBER | NAME:.=DECIMAL | NAME[]=ITEM,ITEM..] | catalogue --check FILE..'
-wanted=85
+wanted=97
 . "$here/../../.ci/cases.sh"
 
 # message WANTED WORD..: a message, which goes to standard output, with status 0.
@@ -201,6 +201,8 @@ all_cases() {
     told 'forms.txt: no message `box` or `box.one`' forms.txt box n:=1
     told 'forms.txt: no message `gone` or `gone.zero`' forms.txt gone
     wrong 'bad word: x' forms.txt cart n:=1 x
+    wrong 'bad word: x' forms.txt box n:=5 x
+    wrong 'bad word: name' m.txt gone name
     printf '\xef\xbb\xbf%s\r\n%s\r\n%s\r\n' 'plural: m == 1 ? one : other' 'cart.one = an item' \
         'box.one = a box' >one_form.txt
     message 'an item' one_form.txt cart m:=1
@@ -217,6 +219,11 @@ all_cases() {
         'rules.txt:3:1: a rule stands once, before all messages' \
         '  |' '3 | plural: other' '  | ^')" \
         --check rules.txt
+    printf '%s\n' 'plural: n == 1 ? one : n==2?two' 'cart.one = one' >ending.txt
+    told "$(printf '%s\n' \
+        'ending.txt:1:24: a rule is `NAME == NUMBER ? FORM : .. : FORM`' \
+        '  |' '1 | plural: n == 1 ? one : n==2?two' '  |                        ^')" \
+        --check ending.txt
     unread 'none.txt: No such file or directory (os error 2)' --fallback none.txt m.txt hello
     wrong "$usage" --fallback m.txt
     wrong "$usage" --fallback m.txt de.txt
@@ -245,6 +252,17 @@ all_cases() {
     unread 'latin.txt: stream did not contain valid UTF-8' latin.txt a
     case_of file full 3 '' '' none.txt hello
     case_of file closed 3 '' ''
+
+    refusals_of 0 $'Ann: -07 of <a>, <b>\n' '' declared.txt cart name=Ann n:=-7 'l[]=a,b'
+    refusals_of 0 $'2 Artikel\n' '' --fallback m.txt forms.txt cart n:=2
+    refusals_of 0 '' '' --check m.txt
+    refusals_of 1 '' "$faults"$'\n' --check one.txt m.txt two.txt
+    refusals_of 1 '' $'declared.txt:3: `cart` wants `n:=NUMBER`\n' declared.txt cart name=Ann 'n[]=7'
+    refusals_of 1 '' $'de.txt: no message `gone`\nm.txt: no message `gone`\n' \
+        --fallback m.txt de.txt gone
+    refusals_of 2 '' $'bad word: x\n' m.txt hello y=1 x z:=z
+    refusals_of 2 '' "$usage"$'\n' m.txt
+    refusals_of 3 '' $'none.txt: No such file or directory (os error 2)\n' none.txt hello
 }
 
 run_cases "$@"

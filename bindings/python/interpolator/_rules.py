@@ -21,17 +21,21 @@ def rule_in(line: str) -> Optional[str]:
 
 def broken_in(rule: str) -> Optional[int]:
     """Where the rule of a line is broken, as an index of the line, if it is: at the first part
-    that is neither a test nor, as the last one, a form.
+    that is no test, or at the last one, if that is a test or no form.
 
     >>> broken_in(" n == 0 ? zero : n == 1 ? one : other")
     >>> broken_in(" n == 0 ? zero : n = 1 ? one : other")
     24
+    >>> broken_in(" n == 1 ? one : n==2?two")
+    23
     """
     *tests, (last, form) = parts_at(len(HEAD), rule, ":")
     for place, part in tests:
         if not _is_test(part):
             return begin_of(place, part)
-    return None if is_name(trim(form)) else begin_of(last, form)
+    if _is_test(form) or not is_name(trim(form)):
+        return begin_of(last, form)
+    return None
 
 
 def _is_test(part: str) -> bool:

@@ -354,7 +354,8 @@ b.txt:3:1: {LATE_RULE}
             (" n == -1 ? a : b", 8), (" n == +1 ? a : b", 8), (" n == 1 0 ? a : b", 8),
             (" n == ² ? a : b", 8), (" n == \u0661 ? a : b", 8), (" n == 1_0 ? a : b", 8),
             (" n == 18446744073709551616 ? a : b", 8), (" n == 1 ? a : : b", 21),
-            ("n == 1 ? a :\t\u3000n % 10 == 1 ? b : c", 21), (" ? a : b", 8))
+            ("n == 1 ? a :\t\u3000n % 10 == 1 ? b : c", 21), (" ? a : b", 8),
+            ("n==1?a", 7), (" n == 1 ? a : n==2?b", 21))
         wanted = ""
         for number, (rule, index) in enumerate(rules):
             under = "".join("\t" if one == "\t" else " " for one in f"plural:{rule}"[:index])

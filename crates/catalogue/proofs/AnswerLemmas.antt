@@ -1,18 +1,15 @@
 -- The answer, once the lines are sound, from the line that was found and what the words give.
-use Rattle.std.proofs.Common.{◌≡◌, ◌⊎◌, refl, inl, inr, arith, ℕ, List, Option, None, Some}
-use Rattle.std.proofs.Common.{All, Err, MatchResult, Ok, Result, option_map}
-use Rattle.std.specs.Borrow.{Bor}
+use Rattle.std.proofs.Common.{◌≡◌, ◌⊎◌, refl, inr, arith, ℕ, List, Option, None, Some}
+use Rattle.std.proofs.Common.{All, option_map}
 use Rattle.std.specs.declared.string.String.{String}
-use Rattle.std.specs.declared.vec.Vec.{Vec}
 use Rattle.interpolator.specs.Faults.{Answer as Reply, Fault, answer_place, fault, no_memory}
 use Rattle.catalogue.specs.Declarations.{Declared, nothing, these, broken}
 use Rattle.catalogue.specs.Entries.{Held}
 use Rattle.catalogue.specs.Files.{Line}
-use Rattle.catalogue.specs.Messages.{Answers, GiveValues, IsMadeOrTold, MayGive, OfLine, Replies}
-use Rattle.catalogue.specs.Messages.{given}
+use Rattle.catalogue.specs.Messages.{Answers, IsMadeOrTold, OfLine, Replies}
 use Rattle.catalogue.specs.Picks.{ArePicked}
 use Rattle.catalogue.specs.Sound.{IsSoundOver}
-use Rattle.catalogue.specs.Words.{IsFirstBad, IsGiven}
+use Rattle.catalogue.specs.Words.{IsGiven}
 use Rattle.catalogue.specs.declared.entries.Object.{Object}
 use Rattle.catalogue.specs.declared.messages.Answer.{Answer}
 use Rattle.catalogue.specs.declared.messages.Answer.TheVariants.{Message, Faults, BadWord}
@@ -48,11 +45,3 @@ pub answers_line : {Y : Type 0} (files : List (List ℕ × List ℕ)) (key : Lis
 answers_line files key words (Message m) h = h
 answers_line files key words (Faults told) h = inr (inr h)
 answers_line files key words (BadWord w) h = absurd h.replies
-
--- what words give, or that one of them gives nothing
-pub may_give : {Y Z : Type 0} (words : List (String Y))
-    (values : Result (Vec Object Z) (Bor (List ℕ)))
-    → MatchResult values (λ objects. GiveValues words objects.items)
-    (λ bad. IsFirstBad words bad.now) → MayGive words (given values)
-may_give words (Ok objects) h = inl h
-may_give words (Err bad) h = inr (refl, bad.now, h)

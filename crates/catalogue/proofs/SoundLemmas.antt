@@ -90,7 +90,7 @@ clean_files (file ∷ files) e =
 
 -- what is found is sound over what it declares
 abbrev IsSoundFound : Known → Type 0
-IsSoundFound known = IsSoundOver known.2 known.1
+IsSoundFound known = IsSoundOver known.declared known.format
 
 -- a line is, if it is sound and has a message
 sound_message : (line : Line) (keys : List (ℕ × List ℕ)) (key : List ℕ)
@@ -119,7 +119,7 @@ sound_lines wanted keys (one ∷ rest) known sound e =
 
 pub sound_among : (objects : List Object) (key : List ℕ) (files : List (List ℕ × List ℕ))
     (known : Known) → All IsSoundFile files → found_among objects key files ≡ Some known
-    → IsSoundOver known.2 known.1
+    → IsSoundOver known.declared known.format
 sound_among objects key files known sound e = given_holds (found_in objects key) IsSoundFile
     IsSoundFound (λ file one. sound_lines (sought objects key (plain_lines file.1)) []
     (lines_of file) one) files known sound e

@@ -46,6 +46,6 @@ entry_slots entry = slots_by entry.kind entry.value.now (map slots_of entry.item
 abbrev pub held_by_entry : Entry → Held
 held_by_entry entry = (entry.name.now, entry_slots entry)
 
--- what a pair of a context does
+-- what a pair of a context holds under its name
 abbrev pub held_by_pair : Bor (List ℕ) × Formattable View → Held
 held_by_pair pair = (pair.0.now, slots_of pair.1)

@@ -59,7 +59,7 @@ choice_at objects part = choice_in objects part (test_in part)
 abbrev pub choice_of : List Object → List ℕ → Option Chosen
 choice_of objects rule = first_given (choice_at objects) (parts_of rule)
 
--- the rule of a file: the first of its lines
+-- the rule of a file: that of its first line that has one
 abbrev pub rule_of : List (List ℕ) → Option (List ℕ)
 rule_of some_lines = first_given rule_in some_lines
 
@@ -77,7 +77,7 @@ abbrev pub key_by : List ℕ → Option Chosen → List ℕ × Option (List ℕ)
 key_by key None = (key, None)
 key_by key (Some chosen) = (key_of_form key chosen.0, chosen.1)
 
--- what is reported of a form that is looked up
+-- what follows a key that is absent in a report: the form of it that was looked up, if one was
 abbrev pub or_form : List ℕ → Option Chosen → List ℕ
 or_form key None = []
 or_form key (Some chosen) = codes " or `" ++ (key_of_form key chosen.0 ++ codes "`")

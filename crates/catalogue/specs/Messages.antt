@@ -1,6 +1,6 @@
 -- What the program answers: a message, or what is wrong. Texts are bytes.
 use Rattle.std.specs.Prelude.{◌≡◌, ◌⊎◌, ℕ, ◌<◌, List, [], length, map, string_bytes}
-use Rattle.std.specs.Prelude.{Option, None, Some, IsSome, Result, Ok, Err}
+use Rattle.std.specs.Prelude.{Option, None, Some, Result, Ok, Err}
 use Rattle.std.specs.List.{All, AllZip}
 use Rattle.std.specs.Str.{chars}
 use Rattle.std.specs.declared.string.String.{String}
@@ -58,7 +58,7 @@ pub record IsToldLacking (line : Line) (key : List ℕ) (declared : Declared)
   pub says : told ≡ told_of_lacking line key lacking
 
 -- what the line that was found comes to: the message; the value that it lacks, or its fault, if it
--- declares nothing; or that the number is missing which chooses its form
+-- declares nothing; or that the number which chooses its form is missing
 abbrev pub Replies : Answer → Option (List ℕ) → Line → (key : List ℕ) → Declared
     → (format : List ℕ) → List Object → Type 0
 Replies (Message message) None line key declared format objects =
@@ -81,11 +81,6 @@ abbrev pub given : {X Z : Type 0} → Result (Vec Object Z) X → List Object
 given (Ok objects) = objects.items
 given (Err bad) = []
 
--- what words give, and nothing if one of them gives nothing
-abbrev pub MayGive : {Y : Type 0} → List (String Y) → List Object → Type 0
-MayGive words objects = GiveValues words objects
-    ⊎ ((objects ≡ []) × (bad : List ℕ) × IsFirstBad words bad)
-
 module _ {Y : Type 0} (files : List (List ℕ × List ℕ)) (key : List ℕ) (words : List (String Y))
   where
     -- every file is sound, and the answer is what the line comes to with what the words give: the
@@ -96,25 +91,24 @@ module _ {Y : Type 0} (files : List (List ℕ × List ℕ)) (key : List ℕ) (wo
       pub given : GiveValues words values
       pub known : Known
       pub under : found_among values key files ≡ Some known
-      pub replies : Replies answer known.0.1 known.0.0 key known.2 known.1 values
+      pub replies : Replies answer known.lacks known.line key known.declared known.format values
 
     -- some line is not sound: all faults of all lines of all files are reported
     pub record OfFiles (told : List ℕ) : Type 0 where
       pub some : 0 < length told
       pub all : told ≡ told_of_files files
 
-    -- every file is sound, and none has the key, or its form
+    -- every file is sound, and none has the key, or the form that what the words give chooses
     pub record OfKey (told : List ℕ) : Type 0 where
       pub sound : All IsSoundFile files
       pub values : List Object
-      pub given : MayGive words values
+      pub given : GiveValues words values
       pub none : found_among values key files ≡ None
       pub says : told ≡ told_of_absent values key files
 
-    -- every file is sound, one has the key, and this is the first word that gives nothing
+    -- every file is sound, and this is the first word that gives nothing
     pub record OfWord (word : List ℕ) : Type 0 where
       pub sound : All IsSoundFile files
-      pub under : IsSome (found_among [] key files)
       pub first : IsFirstBad words word
 
     -- the answer: the message; a word that gives nothing; or what is wrong with the files, else the

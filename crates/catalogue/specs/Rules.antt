@@ -40,13 +40,13 @@ as_test test = (test.name.now, test.number, test.form.now)
 abbrev pub is_numeral : List ℕ → Bool
 is_numeral text = not (length text == 0) && list_all is_ascii_digit text
 
--- the number that digits write, if it has 64 bits
+-- the number that digits write, if it is below 2^64
 abbrev pub number_in : List ℕ → Option ℕ
 number_in text =
     if is_numeral text && nat_lt (digits_value 10 text) (2 ^ 64)
     then Some (digits_value 10 text) else None
 
--- a test, if it has a number, and its name and its form can be ones
+-- a test, if there is a number, and its name and its form can be names
 abbrev pub whole_test : List ℕ → Option ℕ → List ℕ → Option Tested
 whole_test name None form = None
 whole_test name (Some number) form =
@@ -71,9 +71,10 @@ test_in part =
     if has is_question part
     then test_by (before_first is_question part) (after_first is_question part) else None
 
--- whether a part is whole: the last one is a form, and any other a test
+-- whether a part is whole: the last one is a form and no test, and any other is a test
 abbrev pub is_whole : Bool → List ℕ → Bool
-is_whole last part = if last then is_name (trim part) else is_some (test_in part)
+is_whole last part =
+    if last then is_name (trim part) && not (is_some (test_in part)) else is_some (test_in part)
 
 -- where the part at a byte of a line begins, if it is broken; the last one ends with the line
 abbrev pub broken_part : (end place : ℕ) → List ℕ → Option ℕ

@@ -9,10 +9,11 @@ use Rattle.catalogue.specs.Lines.{declared_of, format_of, is_under}
 use Rattle.catalogue.specs.declared.checks.Found.{Found}
 use Rattle.catalogue.specs.declared.entries.Object.{Object}
 
--- the form of a key that is looked up in some lines, if none of them has the key itself
+-- one of some lines has a message under a key
 abbrev pub has_key : List ℕ → List (List ℕ) → Bool
 has_key key some_lines = list_any (is_under key) some_lines
 
+-- the form of a key that is looked up in some lines, if none of them has the key itself
 abbrev pub choice_for : List Object → List ℕ → List (List ℕ) → Option Chosen
 choice_for objects key some_lines =
     if has_key key some_lines then None else choice_with objects (rule_of some_lines)
@@ -22,19 +23,25 @@ choice_for objects key some_lines =
 abbrev pub sought : List Object → List ℕ → List (List ℕ) → List ℕ × Option (List ℕ)
 sought objects key some_lines = key_by key (choice_for objects key some_lines)
 
--- a line that was found, and the name of a number that is missing to choose its form
-abbrev pub FoundLine : Type 0
-FoundLine = Line × Option (List ℕ)
-
--- a line that was found, with its format and what it declares
-abbrev pub Known : Type 0
-Known = FoundLine × List ℕ × Declared
+-- a line that was found, the name of the number that chooses its form, if that number is missing, its
+-- format, and what it declares
+pub record Known : Type 0 where
+  pub line : Line
+  pub lacks : Option (List ℕ)
+  pub format : List ℕ
+  pub declared : Declared
 
 -- a line, if it has the key that is looked up
 abbrev pub line_for : List ℕ × Option (List ℕ) → Line → Option Known
 line_for wanted line =
     if is_under wanted.0 line.text
-    then Some ((line, wanted.1), format_of line.text, declared_of line.text) else None
+    then Some (record {
+      line = line;
+      lacks = wanted.1;
+      format = format_of line.text;
+      declared = declared_of line.text;
+    })
+    else None
 
 -- the line of a key in a file, or that of its form
 abbrev pub found_in : List Object → List ℕ → List ℕ × List ℕ → Option Known
@@ -47,8 +54,9 @@ found_among objects key files = first_given (found_in objects key) files
 
 -- a line as the program finds it
 abbrev pub as_found : Found → Known
-as_found one = (
-  (as_line one.line, option_map (λ name. name.now) one.lacks),
-  one.template,
-  declared_by one.heading,
-)
+as_found one = record {
+  line = as_line one.line;
+  lacks = option_map (λ name. name.now) one.lacks;
+  format = one.template;
+  declared = declared_by one.heading;
+}

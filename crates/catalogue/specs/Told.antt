@@ -93,7 +93,7 @@ told_of_file file = told_of_lines [] (lines_of file)
 abbrev pub told_of_files : List (List ℕ × List ℕ) → List ℕ
 told_of_files files = concat (map told_of_file files)
 
--- what is reported of a key that a file does not have, nor its form, and several
+-- what is reported of a key that a file does not have, nor its form; and that several do not have
 abbrev pub told_absent : List Object → List ℕ → List ℕ × List ℕ → List ℕ
 told_absent objects key file = file.0 ++ (codes ": no message `" ++ (key ++ (codes "`"
     ++ (or_form key (choice_with objects (rule_of (plain_lines file.1))) ++ codes "\n"))))

@@ -51,7 +51,7 @@ Fits kinds.Number text = (value : ℤ) × Spells text value
 Fits kinds.Decimal text = (value : Decimal) × IsDecimal text value
 Fits kinds.List text = ⊤
 
--- a view shows what a text is of a kind; a list shows its items alone
+-- a view shows a text as a value of a kind; that of a list may show anything, since its items count
 abbrev pub ShowsAs : Kind → List ℕ → View → Type 0
 ShowsAs kinds.Text text view = shown_as_value view ≡ some_text (chars text)
 ShowsAs kinds.Number text view =

@@ -32,7 +32,7 @@ pub struct Found<'a> {
     pub line: Line<'a>,
     pub template: Template,
     pub heading: Heading<'a>,
-    /// The name of a number that is missing to choose the form of the key.
+    /// The name of the number that chooses the form of the key, if that number is missing.
     pub lacks: Option<&'a str>,
 }
 

@@ -27,7 +27,7 @@ pub struct Choice<'a> {
 #[derive(Drop)]
 pub struct Sought<'a> {
     pub key: String,
-    /// The name of a number that is missing to choose its form.
+    /// The name of the number that chooses its form, if that number is missing.
     pub lacks: Option<&'a str>,
 }
 
@@ -52,7 +52,7 @@ fn number_under(objects: &[Object<'_>], name: &str) -> Option<i128>
 }
 
 /// Whether a number is the one of a test.
-fn is_number(number: i128, wanted: u64) -> bool
+fn is_wanted(number: i128, wanted: u64) -> bool
     ensures { result ≡ int_eq number (pos wanted) }
 {
     number == i128::from(wanted)
@@ -68,7 +68,7 @@ fn choice_by<'a>(test: &Test<'a>, number: Option<i128>) -> Option<Choice<'a>>
             form,
             lacks: Some(test.name),
         }),
-        Some(number) if is_number(number, test.number) => Some(Choice { form, lacks: None }),
+        Some(number) if is_wanted(number, test.number) => Some(Choice { form, lacks: None }),
         Some(_) => None,
     }
 }
@@ -159,7 +159,7 @@ pub fn key_by<'a>(
     }
 }
 
-/// What is reported of a form that is looked up.
+/// What follows a key that is absent in a report: the form of it that was looked up, if one was.
 pub fn or_form(alloc: Global, key: &str, choice: Option<Choice<'_>>) -> Result<String, AllocError>
     ensures { IfOk result (λ told.
         string_bytes told ≡ or_form key.now (option_map as_choice choice.entry)) }

@@ -6,7 +6,9 @@
 //! A line of a file is `key = format`, or `key(name, count:, price:., items[]) = format`, which
 //! declares a text `name`, a whole number `count`, a decimal `price` and a list of texts `items`.
 //! The format is then checked with examples of these, and the words have to give them, in any order.
-//! No two lines of a file have the same key. Blank lines, and lines that begin with `#`, are skipped.
+//! No two lines of a file have the same key. Blank lines, and lines whose first character is `#`, are
+//! skipped. White space around a key and in front of a format does not count; an indented `#` or
+//! `plural:` begins a key.
 //! Each fault is shown in its line, with the file, the line and the column; if there is any, no
 //! message is written.
 //!
@@ -14,10 +16,10 @@
 //! `plural: n == 0 ? zero : n == 1 ? one : other`. It stands once, before all messages. If the file
 //! has no line of the key `cart`, `catalogue FILE cart n:=1` writes the message of `cart.one`: the
 //! form is that of the first test whose number is the one of the word with its name, or else the last
-//! one. A test compares a name with a whole number of 64 bits: a rule of `n % 10`, or of numbers
-//! between two, cannot be written. A number that is missing is reported, also if a decimal has its
-//! name, and so is a form; a check reports what is wrong with the rule, but not a key that lacks a
-//! form.
+//! one. A test compares a name with a whole number below 2^64: a rule of `n % 10`, or of numbers between
+//! two, cannot be written. Without a number under a name, be it that a decimal has the name, its test
+//! chooses the form, and that the number is missing is reported; and so is a form that no line has. A
+//! check reports what is wrong with the rule, but not a key that lacks a form.
 //!
 //! The status is 0 after a message, or a check without a fault; 1 after a fault, 2 after a wrong use or
 //! a bad word, and 3 if a file cannot be read or the output cannot be written.
@@ -40,6 +42,7 @@ mod words;
 
 use checks::check;
 use files::File;
+use interpolator::Error;
 use messages::{Answer, look_up};
 use std::process::ExitCode;
 use std::{env, fs, io};
@@ -89,14 +92,14 @@ fn wanted_by<'a>(words: &'a [String], second: Option<&'a str>) -> Option<Asked<'
     }))
 }
 
-/// What a command line asks for, if it is a right one.
+/// What a command line asks for, if it is correct.
 fn asked_by(line: &[String]) -> Option<Asked<'_>> {
-    let (flag, files) = line.split_first()?;
-    if flag.as_str() == "--check" && !files.is_empty() {
-        return Some(Asked::Check(files));
+    let (flag, rest) = line.split_first()?;
+    if flag.as_str() == "--check" && !rest.is_empty() {
+        return Some(Asked::Check(rest));
     }
     if flag.as_str() == "--fallback" {
-        let (second, words) = files.split_first()?;
+        let (second, words) = rest.split_first()?;
         return wanted_by(words, Some(second.as_str()));
     }
     wanted_by(line, None)
@@ -120,6 +123,14 @@ fn read(rt: &HostRuntime, name: &str) -> io::Result<Option<File>> {
 fn tell_usage(rt: &HostRuntime) -> io::Result<u8> {
     eprintln!(rt; "{USAGE}")?;
     Ok(BAD_USE)
+}
+
+/// Writes that memory ran out, and returns the status.
+fn tell_memory(rt: &HostRuntime) -> u8 {
+    match eprintln!(rt; "{}", Error::NoMemory) {
+        Ok(()) => FAULT,
+        Err(_) => REFUSED,
+    }
 }
 
 /// Writes an answer.
@@ -183,9 +194,11 @@ fn check_files(rt: &HostRuntime, names: &[String]) -> io::Result<u8> {
 
 /// Runs a command line, and returns the status.
 fn run(rt: &HostRuntime) -> io::Result<u8> {
-    // A word that is not UTF-8 is a wrong use.
-    let Ok(words) = env::args(rt) else {
-        return tell_usage(rt);
+    let words = match env::args(rt) {
+        Ok(words) => words,
+        Err(error) if error.kind() == io::ErrorKind::OutOfMemory => return Err(error),
+        // A word that is not UTF-8 is a wrong use.
+        Err(_) => return tell_usage(rt),
     };
     let line = words.skip(1).collect::<Vec<String>>(rt.alloc())?;
     match asked_by(line.as_slice()) {
@@ -196,8 +209,10 @@ fn run(rt: &HostRuntime) -> io::Result<u8> {
 }
 
 fn main(rt: HostRuntime) -> ExitCode {
-    match run(&rt) {
-        Ok(status) => ExitCode::from(status),
-        Err(_) => ExitCode::from(REFUSED),
-    }
+    let status = match run(&rt) {
+        Ok(status) => status,
+        Err(error) if error.kind() == io::ErrorKind::OutOfMemory => tell_memory(&rt),
+        Err(_) => REFUSED,
+    };
+    ExitCode::from(status)
 }

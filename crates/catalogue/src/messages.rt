@@ -154,19 +154,19 @@ fn given<'o, 'a>(objects: &'o Result<Vec<Object<'a>>, &'a str>) -> &'o [Object<'
 }
 
 /// The message under a key, or under its form, in the first file that has it, with the values of
-/// words `NAME=TEXT`, `NAME:=NUMBER` and `NAME[]=ITEM,ITEM..`; or all that is wrong with the files, or
-/// else with the key, the words or the message.
+/// words `NAME=TEXT`, `NAME:=NUMBER`, `NAME:.=DECIMAL` and `NAME[]=ITEM,ITEM..`; or all that is wrong
+/// with the files, or else with the words, the key or the message.
 ///
-/// There is a message only if every line of every file but blank ones and comments is sound: it has
-/// an `=` and a key that no line before it has, its declarations are whole, and its format has no
-/// fault, by itself or with examples of what the line declares. Else all faults of each line are
-/// reported. A byte order mark at the head of a file is skipped. Of two words with one name the last
-/// counts.
+/// There is a message only if every line of every file but blank ones, comments and a whole rule
+/// before all messages is sound: it has an `=` and a key that no line before it has, its declarations
+/// are whole, and its format has no fault, by itself or with examples of what the line declares. Else
+/// all faults of each line are reported. A byte order mark at the head of a file is skipped. Of two
+/// words with one name the last counts.
 ///
 /// A line before all messages may be a rule, `plural: n == 0 ? zero : n == 1 ? one : other`. Then the
 /// key `cart` in a file that has no line of it is `cart.one` if the number of the last word of the
-/// name `n` is 1, and so on: the form is that of the first test that holds, or else the last one. If
-/// there is no such number, that is reported.
+/// name `n` is 1, and so on: the form is that of the first test that holds, or whose number is missing,
+/// or else the last one. That a number is missing is reported, if the line of the form is there.
 ///
 /// The format of a line that declares names gets the words of these names, in any order, and no
 /// others. If one of them is missing, or of another kind, that is reported; else the message has no
@@ -186,15 +186,17 @@ pub fn look_up(alloc: Global, files: &[File], key: &str, words: &[String]) -> Re
     if !told.is_empty() {
         return Ok(Answer::Faults(told));
     }
-    let Some(found) = found else {
-        let absent = told_of_absent(alloc, files, key, objects)?;
-        return Ok(Answer::Faults(absent));
-    };
     match &values {
-        Ok(_) => reply(alloc, key, &found, objects),
         Err(word) => {
             let bad = String::from_str(alloc, word)?;
             Ok(Answer::BadWord(bad))
         }
+        Ok(_) => match &found {
+            Some(found) => reply(alloc, key, found, objects),
+            None => {
+                let absent = told_of_absent(alloc, files, key, objects)?;
+                Ok(Answer::Faults(absent))
+            }
+        },
     }
 }

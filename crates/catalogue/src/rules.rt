@@ -44,7 +44,7 @@ fn is_numeral(text: &str) -> bool
     !text.is_empty() && has_only_digits(text)
 }
 
-/// The number that digits write, if it has 64 bits.
+/// The number that digits write, if it is below 2^64.
 fn number_in(text: &str) -> Option<u64>
     ensures { result ≡ number_in text.now }
 {
@@ -54,7 +54,7 @@ fn number_in(text: &str) -> Option<u64>
     text.parse::<u64>().ok()
 }
 
-/// A test, if it has a number, and its name and its form can be ones.
+/// A test, if there is a number, and its name and its form can be names.
 fn whole_test<'a>(name: &'a str, number: Option<u64>, form: &'a str) -> Option<Test<'a>>
     ensures { option_map as_test result ≡ whole_test name.now number form.now }
 {
@@ -90,12 +90,12 @@ pub fn test_in(part: &str) -> Option<Test<'_>>
     test_by(condition, form)
 }
 
-/// Whether a part is whole: the last one is a form, and any other a test.
+/// Whether a part is whole: the last one is a form and no test, and any other is a test.
 fn is_whole(last: bool, part: &str) -> bool
     ensures { result ≡ is_whole last part.now }
 {
     if last {
-        return is_name(part.trim());
+        return is_name(part.trim()) && test_in(part).is_none();
     }
     test_in(part).is_some()
 }
@@ -124,8 +124,8 @@ pub fn parts_of(alloc: Global, rule: &str) -> Result<Vec<&str>, AllocError>
     parts_between(alloc, rule, ':')
 }
 
-/// Where a rule is broken, if it is: at the first part that is neither a test nor, as the last one,
-/// a form.
+/// Where a rule is broken, if it is: at the first part that is no test, or at the last one, if that is a
+/// test or no form.
 pub fn broken_in(alloc: Global, rule: &str) -> Result<Option<usize>, AllocError>
     ensures { IfOk result (λ broken. broken ≡ broken_in rule.now) }
 {

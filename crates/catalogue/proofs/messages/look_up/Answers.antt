@@ -1,16 +1,16 @@
-use Rattle.std.proofs.Common.{◌≡◌, [], inl, inr, length, map, arith, string_bytes, IsSome, refl, sym}
+use Rattle.std.proofs.Common.{◌≡◌, inl, inr, length, map, arith, string_bytes, sym}
 use Rattle.std.proofs.lemmas.Bool.Decides.{nat_tests}
 use Rattle.std.proofs.lemmas.Result.{IfOk-weaker}
 use Rattle.catalogue.specs.Files.{as_file}
 use Rattle.catalogue.specs.Messages.{GiveValues}
-use Rattle.catalogue.specs.Sought.{as_found, found_among}
-use Rattle.catalogue.proofs.AnswerLemmas.{answers_line, may_give}
+use Rattle.catalogue.specs.Sought.{as_found}
+use Rattle.catalogue.proofs.AnswerLemmas.{answers_line}
 use Rattle.catalogue.proofs.KindLemmas.{all_given}
 use Rattle.catalogue.proofs.SoundLemmas.{sound_among}
 use Rattle.catalogue.proofs.messages.look_up.Goals as goal
 
-pub returns-in-Ok-clause-answers : goal.returns-in-Ok-clause-answers
-returns-in-Ok-clause-answers c =
+pub returns-in-Some-clause-answers : goal.returns-in-Some-clause-answers
+returns-in-Some-clause-answers c =
     let clean : length (string_bytes c.in_ok-told.field-0.told) ≡ 0 = grind (arith, nat_tests) in
     let files = map as_file c.args.files.now in
     let words = c.args.words.now in
@@ -32,27 +32,22 @@ returns-in-Ok-clause-answers c =
           (all_given string_bytes words objects gives);
     })) c.reply.ensures.replies
 
-pub returns-in_default-clause-answers : goal.returns-in_default-clause-answers
-returns-in_default-clause-answers c =
+pub returns-clause-answers : goal.returns-clause-answers
+returns-clause-answers c =
     let clean : length (string_bytes c.in_ok-told.field-0.told) ≡ 0 = grind (arith, nat_tests) in
     inr (inl (record {
       sound = c.in_ok-told.ensures.sound clean;
       values = c.given-objects.result.now;
-      given = rw c.given-objects.ensures
-          (may_give c.args.words.now _ c.in_ok-values.ensures.given);
-      none = sym (rw c.in_default.is at c.in_ok-told.ensures.found);
-      says = c.in_ok-absent.ensures.told;
+      given = rw (c.given-objects.ensures, c.in-Ok.is)
+          (rw c.in-Ok.is at c.in_ok-values.ensures.given);
+      none = sym (rw c.in-None.is at c.in_ok-told.ensures.found);
+      says = c.in_ok-absent-in-None.ensures.told;
     }))
 
-pub returns-clause-answers : goal.returns-clause-answers
-returns-clause-answers c =
+pub returns-in-Err-clause-answers : goal.returns-in-Err-clause-answers
+returns-in-Err-clause-answers c =
     let clean : length (string_bytes c.in_ok-told.field-0.told) ≡ 0 = grind (arith, nat_tests) in
-    let objects = c.given-objects.result.now in
-    let some : IsSome (found_among objects c.args.key.now (map as_file c.args.files.now)) =
-    rw (← c.in_ok-told.ensures.found, c.in-Some.is) refl in
-    let none : objects ≡ [] = rw c.in-Err.is at c.given-objects.ensures in
     record {
       sound = c.in_ok-told.ensures.sound clean;
-      under = rw none at some;
       first = rw c.in_ok-bad-in-Err.ensures.ok (rw c.in-Err.is at c.in_ok-values.ensures.given);
     }
