@@ -33,7 +33,8 @@ told() {
     case_of file file 1 '' "$1"$'\n' "${@:2}"
 }
 
-all_cases() {
+# Messages of a file, and what is missing for them.
+message_cases() {
     printf '%s\n' '# greetings' '' 'hello = Hello {name}!' 'bye=  Bye, {name:>5}.' \
         'list = {x:i#({:?})#}' 'two = {a}={b}' >m.txt
     message 'Hello Zoë!' m.txt hello name=Zoë
@@ -53,7 +54,10 @@ all_cases() {
     message 'Hello i!' m.txt hello a=1 b=2 c=3 d=4 e=5 f=6 g=7 h=8 name=i
     case_of closed file 3 '' '' m.txt hello name=Zoë
     case_of file full 3 '' '' m.txt gone
+}
 
+# Formats and lines that are broken whatever the values are.
+broken_cases() {
     printf '%s\n' 'a = {x:>5}' 'b = é {x:?y}' 'no equals' 'c = {h:i({z)}' '  d = {q:+i}' \
         'e={x:+#' >broken.txt
     told "$(printf '%s\n' \
@@ -82,7 +86,10 @@ all_cases() {
         'faults.txt:2:16: trait `Iter` not implemented, used by format argument at 7 (byte 7 of the format)' \
         '  |' '2 | b(n:) = {m}{n:i}{n}' '  |            ~~~~^')" \
         faults.txt c x=1
+}
 
+# Declarations, and where a format begins after them.
+head_cases() {
     printf '%s\n' 'a(x[y:) = 1' 'b(x]) = 1' 'c(x)y = 1' 'd(x)(y) = 1' 'e(x, [] , :) = 1' \
         'f( x ) = 1' >heads.txt
     told "$(printf '%s\n' \
@@ -101,7 +108,10 @@ all_cases() {
         'accents.txt:3:10: error while parsing input: Format spec at 6 is nether closed with a `}` (byte 6 of the format)' \
         '  |' '3 | ü = é{x}{y' '  |         ~^')" \
         accents.txt ok x=1
+}
 
+# What a line declares, and the words that give it.
+declared_cases() {
     printf '%s\n' 'hi( name ) = Hi {name:>4}' 'none() = nothing' \
         'cart(name, n:, l[]) = {name}: {n:03} of {l:i(<{}>)(, )}' >declared.txt
     message 'Ann: -07 of <a>, <b>' declared.txt cart name=Ann n:=-7 'l[]=a,b'
@@ -116,6 +126,10 @@ all_cases() {
     message 'nothing' declared.txt none name:=1
     message 'Hi  Ann' declared.txt hi name=Ann
     message 'nothing' declared.txt none
+}
+
+# Formats that do not fit what their line declares.
+kind_cases() {
     printf '%s\n' 'a(name) = {name:x}' 'b(n:) = {n:x} {m}' 'c(l[]) = {l:i({:x})}' \
         'd(n:, l[],) = {n}' 'e(n = {n}' 'f(n:x) = {n}' \
         'g(n, m, n:) = {n}{m}' >kinds.txt
@@ -135,6 +149,10 @@ all_cases() {
         'kinds.txt:7:9: declarations are `(NAME, NAME:, NAME:., NAME[])`, each name once' \
         '  |' '7 | g(n, m, n:) = {n}{m}' '  |         ^')" \
         kinds.txt a name=Ann
+}
+
+# Decimals.
+decimal_cases() {
     printf '%s\n' 'bill(item, price:.) = {item}:{price:>7} {price:>6.1} {price:e}' >prices.txt
     message 'tea:  12.50   12.5 1.25e1' prices.txt bill item=tea price:.=12.50
     message 'tea:      7    7.0 7e0' prices.txt bill item=tea price:.=+7
@@ -148,6 +166,10 @@ all_cases() {
         '  |' '1 | c(p:., :.) = 1' '  |        ^' \
         'decimals.txt:2:14: trait `LowerHex` not implemented, used by format argument at 4 (byte 4 of the format)' \
         '  |' '2 | d(p:.) = {p:x}' '  |          ~~~~^')" --check decimals.txt
+}
+
+# A byte order mark, and keys that are empty or stand twice.
+key_cases() {
     printf '\xef\xbb\xbf%s\n%s\n' '# greetings' 'hello = Hello {name}!' >mark.txt
     message 'Hello Ann!' mark.txt hello name=Ann
     printf '\xef\xbb\xbf%s\n' 'hello = Hello {name' >mark.txt
@@ -176,6 +198,10 @@ all_cases() {
     echo 'key.7 = again' >>many.txt
     told "$(printf '%s\n' 'many.txt:400001:1: line 7 has the key `key.7` too' '       |' \
         '400001 | key.7 = again' '       | ^')" --check many.txt
+}
+
+# A second file.
+fallback_cases() {
     printf '%s\n' 'hello = Hallo {name}!' >de.txt
     message 'Hallo Zoë!' --fallback m.txt de.txt hello name=Zoë
     message 'Bye,   Ann.' --fallback m.txt de.txt bye name=Ann
@@ -186,6 +212,10 @@ all_cases() {
     told "$(printf '%s\n' 'mark.txt:1:16: error while parsing input: Format spec at 7 is nether closed with a `}` (byte 7 of the format)' \
         '  |' '1 | hello = Hello {name' '  |               ~^~~~')" \
         --fallback mark.txt m.txt hello name=Zoë
+}
+
+# Forms, and the rules that choose them.
+form_cases() {
     printf '%s\n' '# Korb' '' 'plural: n == 0 ? zero : n == 1 ? one : other' 'cart.zero = leer' \
         'cart.one = ein Artikel' 'cart.other(n:) = {n} Artikel' 'box.other = {n} Kisten' \
         'one = eins' >forms.txt
@@ -224,6 +254,10 @@ all_cases() {
         'ending.txt:1:24: a rule is `NAME == NUMBER ? FORM : .. : FORM`' \
         '  |' '1 | plural: n == 1 ? one : n==2?two' '  |                        ^')" \
         --check ending.txt
+}
+
+# Checks alone.
+check_cases() {
     unread 'none.txt: No such file or directory (os error 2)' --fallback none.txt m.txt hello
     wrong "$usage" --fallback m.txt
     wrong "$usage" --fallback m.txt de.txt
@@ -239,6 +273,10 @@ all_cases() {
         'none.txt: No such file or directory (os error 2)'$'\n'"$faults"$'\n' \
         --check one.txt none.txt two.txt
     unread 'none.txt: No such file or directory (os error 2)' --check m.txt none.txt
+}
+
+# Wrong uses, and files that cannot be read.
+use_cases() {
     wrong "$usage" --check
     case_of file full 3 '' '' --check one.txt
     wrong "$usage"
@@ -252,7 +290,9 @@ all_cases() {
     unread 'latin.txt: stream did not contain valid UTF-8' latin.txt a
     case_of file full 3 '' '' none.txt hello
     case_of file closed 3 '' ''
+}
 
+refused_calls() {
     refusals_of 0 $'Ann: -07 of <a>, <b>\n' '' declared.txt cart name=Ann n:=-7 'l[]=a,b'
     refusals_of 0 $'2 Artikel\n' '' --fallback m.txt forms.txt cart n:=2
     refusals_of 0 '' '' --check m.txt
@@ -263,6 +303,21 @@ all_cases() {
     refusals_of 2 '' $'bad word: x\n' m.txt hello y=1 x z:=z
     refusals_of 2 '' "$usage"$'\n' m.txt
     refusals_of 3 '' $'none.txt: No such file or directory (os error 2)\n' none.txt hello
+}
+
+all_cases() {
+    message_cases
+    broken_cases
+    head_cases
+    declared_cases
+    kind_cases
+    decimal_cases
+    key_cases
+    fallback_cases
+    form_cases
+    check_cases
+    use_cases
+    refused_calls
 }
 
 run_cases "$@"
