@@ -1,7 +1,7 @@
 //! A choice between two references.
 ghost use Rattle.std.specs.Prelude.{◌≡◌, if◌then◌else◌};
 
-/// The first of two, or else the other, for a choice between two templates.
+/// The first if `is_first`, else the other: for a choice between two templates.
 ///
 /// ```text
 /// let chosen = first_if(german_is_ok, &german, &english);

@@ -75,10 +75,11 @@ pub fn explain(alloc: Global, name: &str, text: &str, error: &Error) -> Result<S
 ///
 /// In the column that is named stands `^`, and `~` under the rest of the innermost argument that
 /// has the place, as far as it is in the line; if no argument has it, `^` stands alone. Before the
-/// marks there is a space under each character, and under a tab a tab, unless it is `^`. A line of
-/// more than 120 characters is cut around the place, with `..` where it is cut. If the format does
-/// not begin the text, a note says which byte of the format the fault's text names. A fault without
-/// a place is shown with the name alone. The text that is returned has no newline at its end.
+/// marks there is a space under each character. Under a tab there is a tab in place of the space or
+/// the `~`, but not of `^`. A line of more than 120 characters is cut around the place, with `..`
+/// where it is cut. If the format does not begin the text, a note says which byte of the format the
+/// fault's text names. A fault without a place is shown with the name alone. The text that is
+/// returned has no newline at its end.
 ///
 /// The format is read again, and memory is taken for that.
 ///

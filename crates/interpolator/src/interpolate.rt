@@ -26,8 +26,8 @@ use std::collections::HashMap;
 
 /// `format`, `write` and the other calls that write, as methods of a context.
 ///
-/// A caller with a map of borrowed values writes `map.format(alloc, text)?` and proves nothing. For
-/// a context type of your own that names at most one lifetime, write an empty impl.
+/// A caller with a map of borrowed values writes `map.format(alloc, text)?`, and has nothing to
+/// prove. For a context type of your own that names at most one lifetime, write an empty impl.
 pub trait Interpolate: Context {
     /// The format's text, as the function `format` makes it.
     ///
@@ -73,7 +73,8 @@ pub trait Interpolate: Context {
         write(alloc, out, text, self)
     }
 
-    /// Writes what the format means and a newline after it, as the function `iwriteln` does.
+    /// Writes what the format means, and a newline after it if there is no fault, as the function
+    /// `iwriteln` does.
     ///
     /// # Errors
     ///
@@ -102,7 +103,8 @@ pub trait Interpolate: Context {
         iwriteln(alloc, out, text, self)
     }
 
-    /// Writes what the parts mean one after the other, as the function `write_parts` does.
+    /// Writes what the parts mean one after the other, as the function `write_parts` does. Together
+    /// they have fewer than 2^64 bytes.
     ///
     /// # Errors
     ///

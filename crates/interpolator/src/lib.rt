@@ -3,8 +3,10 @@
 //! Give it a format and named values, and you get the formatted text, or one fault with its place.
 //! A [`Formattable`] is a value with a slot for each trait under which a format may show it, or a
 //! list of such values. A [`Context`] says what is under a name: a [`ContextMap`], a `HashMap`, or
-//! [`Pairs`], which takes no memory. [`write`] appends to any [`TextWrite`], and [`format`] makes a
-//! new `String`; the methods of [`Interpolate`] do the same for a context.
+//! [`Pairs`] or [`values!`], which take no memory. [`write`] appends to any [`TextWrite`], and
+//! [`format`] makes a new `String`; the methods of [`Interpolate`] do the same for a context, and
+//! [`iformat!`] formats named values in one call. A [`Template`] is a format that is read once, and
+//! can be checked before it is written.
 //!
 //! ```text
 //! let values = [View::Text("Ann"), View::from(-7i32)];

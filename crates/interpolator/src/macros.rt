@@ -1,6 +1,7 @@
 //! Macros that make a context of names and values, and write a format with it.
 //!
-//! Each takes names, with commas between them, in the syntax of the Rust crate `interpolator`:
+//! All but `list!`, which takes values, take names, with commas between them, in the syntax of the
+//! Rust crate `interpolator`:
 //!
 //! - `name` stands for the variable of this name, and `name = value` for a value.
 //! - Before the `=`, each `:` and a trait fill a slot: `?`, `x`, `X`, `o`, `b`, `e` and `E`, or by
@@ -12,6 +13,11 @@
 //! Values go by `View::from`, so that several kinds mix; `context!` borrows values of one type.
 
 /// A context of at most sixteen names, a [`Values`](crate::Values), which takes no memory.
+///
+/// `name` stands for the variable of this name, `name = value` for a value, and `name:i = items`
+/// for a list. Before the `=`, each `:` and a trait fill a slot: `?`, `x`, `X`, `o`, `b`, `e`, `E`,
+/// or words such as `lower_hex`; `debug_display`, `integer` and `float` fill several; `:` alone or
+/// no trait fills the display slot. Write `: :?` with a space, since `::` is one token.
 ///
 /// If a name occurs more than once, its last value counts.
 ///
@@ -27,11 +33,11 @@ macro_rules! values {
     };
 }
 
-/// A [`ContextMap`](crate::ContextMap) of these names, which borrows the values: they are of one
-/// type, as [`View`](crate::View)s are.
+/// A [`ContextMap`](crate::ContextMap) of names, written as for [`values!`](crate::values). It
+/// borrows the values, which are of one type, such as [`View`](crate::View).
 ///
-/// If a name occurs more than once, all of its slots are filled; of a slot that is filled twice,
-/// the last value counts.
+/// If a name occurs more than once, each occurrence fills its own slots; in a slot that is filled
+/// twice, the last value counts.
 ///
 /// ```text
 /// let (name, apples) = (View::from("Ann"), View::from(3u8));
@@ -274,6 +280,10 @@ macro_rules! values_of {
 /// ```text
 /// iformat!(in alloc; "{a}, {b:?}", a = 10u8, b:? = "test")?    // 10, "test"
 /// ```
+///
+/// # Errors
+///
+/// The format's first fault, or `NoMemory`.
 #[macro_export]
 macro_rules! iformat {
     (in $alloc:expr; $format:expr $(, $($named:tt)*)?) => {
@@ -289,6 +299,10 @@ macro_rules! iformat {
 /// ```text
 /// iwrite!(in alloc; &mut out, "{n:>5}", n)?    // with 7, appends "    7"
 /// ```
+///
+/// # Errors
+///
+/// The format's first fault; `Fmt` if the writer refuses; `NoMemory`.
 #[macro_export]
 macro_rules! iwrite {
     (in $alloc:expr; $out:expr, $format:expr $(, $($named:tt)*)?) => {
@@ -301,6 +315,14 @@ macro_rules! iwrite {
 
 /// Writes a format with named values, and a newline after it if there is no fault: `write_line_to`
 /// of [`values!`](crate::values).
+///
+/// ```text
+/// iwriteln!(in alloc; &mut out, "{n:>5}", n)?    // with 7, appends "    7\n"
+/// ```
+///
+/// # Errors
+///
+/// Those of [`iwrite!`](crate::iwrite); `Fmt` at place 0 if the writer refuses the newline alone.
 #[macro_export]
 macro_rules! iwriteln {
     (in $alloc:expr; $out:expr, $format:expr $(, $($named:tt)*)?) => {
@@ -311,8 +333,9 @@ macro_rules! iwriteln {
     };
 }
 
-/// Prints a format with named values to the standard output. The text is made first: if it has a
-/// fault, nothing is printed. A refused write is `Fmt` at place 0.
+/// Prints a format with named values to the standard output of `rt`, the `HostRuntime` that `main`
+/// is given. The text is made first: if the format has a fault, or memory runs out (`NoMemory`),
+/// nothing is printed. A refused write is `Fmt` at place 0.
 ///
 /// ```text
 /// iprint!(rt; "{n:>5}", n)?

@@ -22,7 +22,8 @@ use std::fmt::Display;
 /// ```
 #[derive(Debug, Drop)]
 pub enum OwnedView {
-    /// A number of a signed type of this width. It lies in the range of that type.
+    /// A number of a signed type of this width. To write one outside the range of that type is the
+    /// fault `Fmt`.
     Signed(i128, Bits),
     /// A number of an unsigned type.
     Unsigned(u128),
@@ -32,7 +33,7 @@ pub enum OwnedView {
     Decimal {
         /// How many units.
         units: i128,
-        /// How many digits of them are after the point.
+        /// How many digits are after the point.
         scale: u32,
     },
     /// One character.

@@ -27,7 +27,7 @@ pub(crate) enum Ending {
     Settled,
     /// In a lone `}`, which a second one would double.
     LoneClose,
-    /// In an argument that is unclosed or broken, which takes in what follows it.
+    /// In an argument that is unclosed or broken, which what follows can change.
     Open,
 }
 
@@ -77,13 +77,13 @@ fn ending_of(text: Cursor<'_>) -> Ending
     ending
 }
 
-/// Tests whether no brace at the end of one format is doubled by a brace at the beginning of the
+/// Tests whether no lone `}` at the end of one format is doubled by a `}` at the beginning of the
 /// next.
 ///
 /// It is false in one case: `a` ends in a lone `}` and `b` begins with `}`, so that the two would
 /// be read as a doubled brace. If it is true, the last piece of `a` stays what it is by itself,
-/// unless it is an argument that is unclosed or broken: such an argument takes in what follows it,
-/// as `{x` is closed by `}`. No memory is taken.
+/// unless it is an argument that is unclosed or broken: what follows can change such an argument,
+/// as `}` closes `{x`, and `{` doubles a `{` that ends `a`. No memory is taken.
 ///
 /// # Example
 ///

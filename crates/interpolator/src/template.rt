@@ -519,8 +519,8 @@ impl Template {
 
     /// The innermost argument that has a place of the format, if there is one: its first byte,
     /// which is its opening brace, and the byte after its last. An argument has the places after
-    /// its opening brace, up to its closing brace; without one, up to and including its end. No
-    /// memory is taken.
+    /// its opening brace, up to and including its closing brace; one that is not closed, up to and
+    /// including its end. No memory is taken.
     ///
     /// That it is the innermost is a law, `interpolator_laws::places`.
     ///
@@ -562,7 +562,9 @@ impl Template {
     ///
     /// ```text
     /// for piece in template.pieces() {
-    ///     if piece.kind == PieceKind::Broken { .. } // bytes piece.place up to piece.end
+    ///     if piece.kind == PieceKind::Broken {
+    ///         // the bytes from piece.place up to piece.end
+    ///     }
     /// }
     /// ```
     pub fn pieces(&self) -> &[Piece]

@@ -30,11 +30,12 @@ pub struct Answer {
     pub detail: u32,
     /// The place of a fault, in bytes of the format.
     pub place: usize,
-    /// How many bytes the text has.
+    /// How many bytes the text has, or were written before a fault; of `arguments` and `faults`,
+    /// how many there are.
     pub length: usize,
     /// How many bytes the sentence has that says what is wrong.
     pub message: usize,
-    /// How many rows were written before a fault.
+    /// Of `rows`: how many rows come before the one that has the fault; else 0.
     pub row: usize,
 }
 

@@ -135,8 +135,8 @@ fn arguments_in(alloc: Global, text: &str) -> Result<Vec<Argument>, Error>
     Ok(told)
 }
 
-/// The arguments of a format in order, and after a list those of its groups. The places get as many
-/// as there are of both.
+/// The arguments of a format in order, and after a list those of its groups. As many as fit are
+/// copied to the front of `places`; `length` is how many there are.
 pub fn arguments(alloc: Global, format: &[u8], places: &mut [Argument]) -> Answer
     ensures { ArgumentAnswers format.now places.old places.new result }
 {

@@ -133,8 +133,8 @@ pub fn check<'a>(alloc: Global, format: &[u8], row: FieldRow<'a>, room: &mut [u8
     }
 }
 
-/// All faults that a format has by itself or with a row of examples. As many are copied to the
-/// places as there are of both.
+/// All faults that a format has by itself or with a row of examples. As many as fit are copied to
+/// the front of `places`; `length` is how many there are.
 pub fn faults<'a>(alloc: Global, format: &[u8], row: FieldRow<'a>, places: &mut [Fault]) -> Answer
     ensures { FaultsAnswers row.entry.fields.now row.entry.items.now format.now places.old
         places.new result }

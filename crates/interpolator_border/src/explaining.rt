@@ -72,7 +72,7 @@ fn tell_picture(alloc: Global, located: Located<'_>, error: &Error, room: &mut [
 }
 
 /// The fault of that number, from 0 on, of those that [`faults`](crate::faults) finds, as a compiler
-/// shows it. After code 0 there are fewer.
+/// shows it. Code 0 means that there are no more than `which`.
 pub fn explain<'a>(
     alloc: Global,
     located: Located<'_>,

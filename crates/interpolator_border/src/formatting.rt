@@ -10,7 +10,7 @@ use crate::writing::write_row;
 use interpolator::{Error, TextBuffer, TextWrite};
 use std::alloc::{AllocError, Global};
 
-/// The most bytes that a text has room for beyond its format, for what values take.
+/// The most bytes, beyond those of the format, for which a new buffer has room at first.
 const MOST_MORE: usize = 256;
 
 /// An empty buffer with room for the format and, up to a bound, as many bytes again.

@@ -156,9 +156,9 @@ fn rows_of<'a>(
     }
 }
 
-/// Formats each row of a table of cells, which has as many cells a row as there are columns. The
-/// texts come to the front of the room one after the other, if they fit, and `ends` gets where each
-/// ends.
+/// Formats each row of a table, which has as many rows as `ends` has places, and as many cells in
+/// each row as there are columns. The texts come to the front of the room one after the other, if
+/// they fit, and `ends` gets where each ends.
 #[tactic(auto, using(crate::proofs::TableLemmas::columns_fail))]
 pub fn rows<'a>(
     alloc: Global,

@@ -34,7 +34,7 @@ module _ {X : Type 0} (shows : X → Trait → Spec → Shown) (e : Environment 
   parts_mean p (part ∷ parts) =
       chain (means shows e (from_place p part)) (parts_mean (p + size part) parts)
 
--- the seam is true between this text, followed by the parts before a part, and that part: for each
+-- for each part, the seam is true between this text, followed by the parts before it, and the part
 abbrev pub CleanBehind : (before : List ℕ) → List (List ℕ) → Type 0
 CleanBehind before [] = ⊤
 CleanBehind before (part ∷ parts) =

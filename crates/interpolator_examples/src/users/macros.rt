@@ -6,7 +6,7 @@ use interpolator::{
 };
 use std::alloc::Global;
 
-/// A receipt, line by line. The format is a text of run time.
+/// A receipt, line by line. The format is a text that is known only at run time.
 fn receipt(alloc: Global, layout: &str, rows: &[(&str, u32)]) -> Result<String, Error> {
     let mut out = TextBuffer::new(alloc);
     let mut sum = 0u32;

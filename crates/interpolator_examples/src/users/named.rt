@@ -48,7 +48,8 @@ fn shout<C: Interpolate>(alloc: Global, context: &C) -> Result<String, Error> {
     context.format(alloc, "{name}, {age}, of {city}!")
 }
 
-/// Every kind of value and every way to name a slot, in as many names as a row can have.
+/// Every kind of value but decimals, and every way to name a slot but that of lists, in as many
+/// names as a row can have.
 #[rattlefmt::skip]
 fn sixteen(alloc: Global) -> Result<String, Error> {
     let (t, s, n) = ("é", 'd', 255u8);

@@ -32,7 +32,7 @@ fn owes(alloc: Global, name: &str, amount: Cents) -> Result<String, Error> {
     values!(name, amount = &amount).format(alloc, "{name} owes {amount}")
 }
 
-/// A list of every kind.
+/// A list of every kind but decimals.
 fn kinds(alloc: Global) -> Result<String, Error> {
     let cells = [
         OwnedView::from(-7i8),
