@@ -1,7 +1,7 @@
-# What the scripts run-cases.sh share, which source this with `here`, their folder, `name`, that of the
-# program, and `wanted`, how many cases `all_cases` has. They define that, and end by
-# `run_cases "$@"`. A run passes if no case fails and as many passed as are wanted, so that a case that
-# was not run is seen. The script run-refused.sh sources this with `here` and `name` alone.
+# What the scripts run-cases.sh share, which source this with `here`, their folder, `name`, that of
+# the program, and `wanted`, how many cases `all_cases` has. They define that, and end by
+# `run_cases "$@"`. A run passes if no case fails and as many passed as are wanted, so that a case
+# that was not run is seen. The script run-refused.sh sources this with `here` and `name` alone.
 
 passed=0
 failed=0
@@ -12,8 +12,8 @@ fail() {
     printf '%s: FAILED %s: %s\n' "$name" "$program" "$1"
 }
 
-# A word that is no command, such as a misspelled helper, fails and ends the run. Bash calls this in a
-# shell of its own.
+# A word that is no command, such as a misspelled helper, fails and ends the run. Bash calls this in
+# a shell of its own.
 command_not_found_handle() {
     printf '%s: FAILED: no such command: %s\n' "$name" "$1"
     kill -s TERM "$$"
@@ -33,8 +33,8 @@ held() {
     printf x
 }
 
-# is_text STREAM TEXT FILE CASE: whether the file, which holds the stream of the case, holds this text;
-# if not, fails the case, and shows both.
+# is_text STREAM TEXT FILE CASE: whether the file, which holds the stream of the case, holds this
+# text; if not, fails the case, and shows both.
 is_text() {
     local found
     found=$(held "$3")
@@ -46,8 +46,8 @@ is_text() {
     return 1
 }
 
-# case_of OUT ERR STATUS WANTED_OUT WANTED_ERR WORD..: runs the program on the words, its output going
-# to OUT and its errors to ERR, each `file`, `closed` or `full`.
+# case_of OUT ERR STATUS WANTED_OUT WANTED_ERR WORD..: runs the program on the words, its output
+# going to OUT and its errors to ERR, each `file`, `closed` or `full`.
 case_of() {
     local out=$1 err=$2 status=$3 wanted_out=$4 wanted_err=$5 ended=0
     shift 5
@@ -74,7 +74,8 @@ case_of() {
     fi
 }
 
-# build_refusals FILE: builds what refuses one growth of memory, or one write, of a program (refuse.c).
+# build_refusals FILE: builds what refuses one growth of memory, or one write, of a program
+# (refuse.c).
 build_refusals() {
     local clang
     clang=$(dirname "$(rt doc)")/toolchain/bin/clang
@@ -83,8 +84,8 @@ build_refusals() {
 }
 
 # refused_run VARIABLE NUMBER WORD..: runs the program on the words, with the growth (REFUSE) or the
-# write (REFUSE_WRITE) of this number refused: its status is `ended`, its output `out` and its errors
-# `err`. False if it asked for fewer.
+# write (REFUSE_WRITE) of this number refused: its status is `ended`, its output `out` and its
+# errors `err`. False if it asked for fewer.
 refused_run() {
     ended=0
     : >"$room/asked"
@@ -102,8 +103,8 @@ is_answer() {
     [[ $ended -eq $status && $out == "$wanted_out" && $err == "$wanted_err" ]]
 }
 
-# wants_memory: whether a run reported that memory ran out, or that a file could not be read for lack
-# of it, and wrote no output.
+# wants_memory: whether a run reported that memory ran out, or that a file could not be read for
+# lack of it, and wrote no output.
 wants_memory() {
     [[ -z $out ]] || return 1
     [[ $ended -eq 1 && $err == $'out of memory\n' ]] \
@@ -130,8 +131,8 @@ fail_run() {
     printf '  output: %q\n  errors: %q\n' "$out" "$err"
 }
 
-# refusals_of STATUS WANTED_OUT WANTED_ERR WORD..: runs the program on the words as often as it takes
-# memory and writes, with one growth or write refused each time. This is one case.
+# refusals_of STATUS WANTED_OUT WANTED_ERR WORD..: runs the program on the words as often as it
+# takes memory and writes, with one growth or write refused each time. This is one case.
 refusals_of() {
     local status=$1 wanted_out=$2 wanted_err=$3 variable number ended out err
     shift 3
@@ -158,8 +159,8 @@ refusals_of() {
     passed=$((passed + 1))
 }
 
-# using_case FILE: the line of USING for the program, in the folder that it names, writes what the file
-# holds.
+# using_case FILE: the line of USING for the program, in the folder that it names, writes what the
+# file holds.
 using_case() {
     local line text
     line=$(grep -o "crates/$name\` (there \`rt run -- [^\`]*" "$here/../../docs/USING.md")
@@ -169,8 +170,8 @@ using_case() {
     cd "$room" || exit 1
 }
 
-# cases_of PROGRAM: all cases with the program, in a folder of its own, and whether they were as many
-# as are wanted.
+# cases_of PROGRAM: all cases with the program, in a folder of its own, and whether they were as
+# many as are wanted.
 cases_of() {
     local before=$((passed + failed)) count
     program=$(realpath -- "$1")
@@ -187,8 +188,8 @@ cases_of() {
 }
 
 # run_cases [PROGRAM..]: all cases, with each program. Without words these are the ones that `rt ci`
-# leaves in out/: that of LLVM, and that of Rattle's own compiler where there is one. `rt run` leaves
-# the first of them, too.
+# leaves in out/: that of LLVM, and that of Rattle's own compiler where there is one. `rt run`
+# leaves the first of them, too.
 run_cases() {
     local programs=() given
     for given in "$@"; do

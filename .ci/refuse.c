@@ -1,8 +1,8 @@
-/* Loaded before the C library by LD_PRELOAD, this refuses one growth of memory, or one write to standard
-   output or standard error: the environment variable REFUSE has the number of the growth, counted from
-   1, or REFUSE_WRITE that of the write, and a byte to file descriptor 9 says that it was asked for. So
-   the program that was proved and built is run with each of them refused. It declares what it calls,
-   since the toolchain's compiler has no headers. */
+/* Loaded before the C library by LD_PRELOAD, this refuses one growth of memory, or one write to
+   standard output or standard error: the environment variable REFUSE has the number of the growth,
+   counted from 1, or REFUSE_WRITE that of the write, and a byte to file descriptor 9 says that it was
+   asked for. So the program that was proved and built is run with each of them refused. It declares
+   what it calls, since the toolchain's compiler has no headers. */
 typedef unsigned long size_t;
 extern void *__libc_malloc(size_t size);
 extern void *__libc_realloc(void *block, size_t size);

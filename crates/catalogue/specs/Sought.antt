@@ -18,13 +18,13 @@ abbrev pub choice_for : List Object → List ℕ → List (List ℕ) → Option 
 choice_for objects key some_lines =
     if has_key key some_lines then None else choice_with objects (rule_of some_lines)
 
--- the key that is looked up in some lines: the key itself, or the form of it that their rule chooses
--- by the numbers of objects; and the name of a number that is missing for that
+-- the key that is looked up in some lines: the key itself, or the form of it that their rule
+-- chooses by the numbers of objects; and the name of a number that is missing for that
 abbrev pub sought : List Object → List ℕ → List (List ℕ) → List ℕ × Option (List ℕ)
 sought objects key some_lines = key_by key (choice_for objects key some_lines)
 
--- a line that was found, the name of the number that chooses its form, if that number is missing, its
--- format, and what it declares
+-- a line that was found, the name of the number that chooses its form, if that number is missing,
+-- its format, and what it declares
 pub record Known : Type 0 where
   pub line : Line
   pub lacks : Option (List ℕ)

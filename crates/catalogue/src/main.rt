@@ -5,24 +5,23 @@
 //!
 //! A line of a file is `key = format`, or `key(name, count:, price:., items[]) = format`, which
 //! declares a text `name`, a whole number `count`, a decimal `price` and a list of texts `items`.
-//! The format is then checked with examples of these, and the words have to give them, in any order.
-//! No two lines of a file have the same key. Blank lines, and lines whose first character is `#`, are
-//! skipped. White space around a key and in front of a format does not count; an indented `#` or
-//! `plural:` begins a key.
-//! Each fault is shown in its line, with the file, the line and the column; if there is any, no
-//! message is written.
+//! The format is then checked with examples of these, and the words have to give them, in any
+//! order. No two lines of a file have the same key. Blank lines, and lines whose first character is
+//! `#`, are skipped. White space around a key and in front of a format does not count; an indented
+//! `#` or `plural:` begins a key. Each fault is shown in its line, with the file, the line and the
+//! column; if there is any, no message is written.
 //!
 //! A line that begins with `plural:` is the rule of its file, as
 //! `plural: n == 0 ? zero : n == 1 ? one : other`. It stands once, before all messages. If the file
 //! has no line of the key `cart`, `catalogue FILE cart n:=1` writes the message of `cart.one`: the
-//! form is that of the first test whose number is the one of the word with its name, or else the last
-//! one. A test compares a name with a whole number below 2^64: a rule of `n % 10`, or of numbers between
-//! two, cannot be written. Without a number under a name, be it that a decimal has the name, its test
-//! chooses the form, and that the number is missing is reported; and so is a form that no line has. A
-//! check reports what is wrong with the rule, but not a key that lacks a form.
+//! form is that of the first test whose number is the one of the word with its name, or else the
+//! last one. A test compares a name with a whole number below 2^64: a rule of `n % 10`, or of
+//! numbers between two, cannot be written. If the number of a test is missing, or a decimal has its
+//! name, the form is that of this test, and the missing number is reported; if no line has the form,
+//! that is. A check reports what is wrong with the rule, but not a key that lacks a form.
 //!
-//! The status is 0 after a message, or a check without a fault; 1 after a fault, 2 after a wrong use or
-//! a bad word, and 3 if a file cannot be read or the output cannot be written.
+//! The status is 0 after a message, or a check without a fault; 1 after a fault, 2 after a wrong
+//! use or a bad word, and 3 if a file cannot be read or the output cannot be written.
 #![tactic(auto)]
 
 mod checks;

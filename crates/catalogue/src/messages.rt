@@ -154,19 +154,20 @@ fn given<'o, 'a>(objects: &'o Result<Vec<Object<'a>>, &'a str>) -> &'o [Object<'
 }
 
 /// The message under a key, or under its form, in the first file that has it, with the values of
-/// words `NAME=TEXT`, `NAME:=NUMBER`, `NAME:.=DECIMAL` and `NAME[]=ITEM,ITEM..`; or all that is wrong
-/// with the files, or else with the words, the key or the message.
+/// words `NAME=TEXT`, `NAME:=NUMBER`, `NAME:.=DECIMAL` and `NAME[]=ITEM,ITEM..`; or all that is
+/// wrong with the files, or else with the words, the key or the message.
 ///
 /// There is a message only if every line of every file but blank ones, comments and a whole rule
-/// before all messages is sound: it has an `=` and a key that no line before it has, its declarations
-/// are whole, and its format has no fault, by itself or with examples of what the line declares. Else
-/// all faults of each line are reported. A byte order mark at the head of a file is skipped. Of two
-/// words with one name the last counts.
+/// before all messages is sound: it has an `=` and a key that no line before it has, its
+/// declarations are whole, and its format has no fault, by itself or with examples of what the line
+/// declares. Else all faults of each line are reported. A byte order mark at the head of a file is
+/// skipped. Of two words with one name the last counts.
 ///
-/// A line before all messages may be a rule, `plural: n == 0 ? zero : n == 1 ? one : other`. Then the
-/// key `cart` in a file that has no line of it is `cart.one` if the number of the last word of the
-/// name `n` is 1, and so on: the form is that of the first test that holds, or whose number is missing,
-/// or else the last one. That a number is missing is reported, if the line of the form is there.
+/// A line before all messages may be a rule, `plural: n == 0 ? zero : n == 1 ? one : other`. Then
+/// the key `cart` in a file that has no line of it is `cart.one` if the number of the last word of
+/// the name `n` is 1, and so on: the form is that of the first test that holds, or whose number is
+/// missing, or else the last one. That a number is missing is reported, if the line of the form is
+/// there.
 ///
 /// The format of a line that declares names gets the words of these names, in any order, and no
 /// others. If one of them is missing, or of another kind, that is reported; else the message has no

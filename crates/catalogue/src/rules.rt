@@ -124,8 +124,8 @@ pub fn parts_of(alloc: Global, rule: &str) -> Result<Vec<&str>, AllocError>
     parts_between(alloc, rule, ':')
 }
 
-/// Where a rule is broken, if it is: at the first part that is no test, or at the last one, if that is a
-/// test or no form.
+/// Where a rule is broken, if it is: at the first part that is no test, or at the last one, if that
+/// is a test or no form.
 pub fn broken_in(alloc: Global, rule: &str) -> Result<Option<usize>, AllocError>
     ensures { IfOk result (λ broken. broken ≡ broken_in rule.now) }
 {

@@ -1,13 +1,14 @@
 //! `chart FORMAT FILE`: draws the numbers of a file as bars, by a format that is a file too.
 //!
-//! A line of the file is a name and whole numbers, with one space between each two. The second number
-//! is the measure of its line: its bar is 100 long, and the other bars of the line are in proportion,
-//! rounded down.
-//! The format gets `{height}`, the height of the picture, and `{rows}`, a list for each line: its
-//! place from the top, its name, and each number after the length of its bar.
+//! A line of the file is a name and whole numbers, with one space between each two. The second
+//! number is the measure of its line: its bar is 100 long, and the other bars of the line are in
+//! proportion, rounded down. The format gets `{height}`, the height of the picture, and `{rows}`, a
+//! list for each line: its place from the top, its name, and each number after the length of its
+//! bar.
 //!
-//! Each line has as many numbers as the first, at least two, and as many as the format draws by their
-//! indices. All faults of the file are reported, with line and column, and no picture is drawn.
+//! Each line has as many numbers as the first, at least two, and as many as the format draws by
+//! their indices. All faults of the file are reported, with line and column, and no picture is
+//! drawn.
 #![tactic(auto)]
 
 mod faults;

@@ -81,8 +81,8 @@ fn tell_no_measure(faults: &mut Faults<'_>, word: &Word<'_>) -> Result<(), Error
     )
 }
 
-/// The numbers of a line, which follow its name. A word that is none is a fault, and so is a measure
-/// of 0.
+/// The numbers of a line, which follow its name. A word that is none is a fault, and so is a
+/// measure of 0.
 fn numbers_of(
     alloc: Global,
     faults: &mut Faults<'_>,
@@ -153,8 +153,8 @@ fn read_line(
     Ok(numbers)
 }
 
-/// Reads the lines of a table, each with as many numbers as the first, which has at least as many as
-/// the format draws.
+/// Reads the lines of a table, each with as many numbers as the first, which has at least as many
+/// as the format draws.
 pub fn rows_of_table<'a>(
     alloc: Global,
     faults: &mut Faults<'_>,

@@ -57,7 +57,8 @@ module _ {X : Type 0} where
   abbrev pub item_slots : List X → List (Slots X)
   item_slots objects = map (λ object. with_debug_display empty_slots object) objects
 
-  -- the slots under one name were changed, from empty ones if it had none, and the other names stayed
+  -- the slots under one name were changed, from empty ones if it had none, and the other names
+  -- stayed
   pub record Changes (old : List ℕ → Option (Slots X)) (name : List ℕ) (change : Slots X → Slots X)
       (new : List ℕ → Option (Slots X)) : Type 0 where
     pub here : new name ≡ Some (change (unwrap_or (old name) empty_slots))

@@ -2,10 +2,10 @@
 //!
 //! The first line of the table names its columns; white space around a name does not count. A name
 //! that ends in `:`, as `price:`, is that of a column of numbers, without the `:`. Its fields are
-//! whole numbers or decimals, as -7 or 12.50, of 128 bits without the point. White space around them,
-//! zeros in front and a `+` are not shown; all digits after the point are. `{price:>10.2}` shows such
-//! a field with two digits after the point, at the right of ten characters. The fields of other
-//! columns are texts.
+//! whole numbers or decimals, as -7 or 12.50, of 128 bits without the point. White space around
+//! them, zeros in front and a `+` are not shown; all digits after the point are. `{price:>10.2}`
+//! shows such a field with two digits after the point, at the right of ten characters. The fields
+//! of other columns are texts.
 //!
 //! The other lines have a field for each name. Fields are as RFC 4180 has them, but within one
 //! line: a field with a comma or a quote in it stands in quotes, and a quote in it is doubled. A
