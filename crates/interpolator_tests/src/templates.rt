@@ -1,7 +1,10 @@
-//! What templates report of their arguments, and a law whose body is worth running.
+//! What templates report of their arguments, and laws whose bodies are worth running.
 
 use crate::report::Report;
 use interpolator::{Argument, Error, Formattable, Kind, Pairs, Range, Template, TextBuffer, Trait};
+use interpolator_laws::samples::{
+    a_checked_template_is_formatted, a_checked_template_is_written, a_context_resembles_itself,
+};
 use interpolator_laws::templates::rest_of_the_pieces_is_written;
 
 /// Worked by hand: of the three pieces `a`, `{x}` and `b`, the output of those after the first 0,
@@ -19,6 +22,22 @@ fn tails(report: &mut Report) -> Result<(), Error> {
         rest_of_the_pieces_is_written(alloc, &mut out, &template, skipped, &context)?;
         report.text("the pieces after some", text, out.as_str());
     }
+    Ok(())
+}
+
+/// A template that is checked with a row, and then written with it, is written whole.
+fn checked(report: &mut Report) -> Result<(), Error> {
+    let alloc = report.alloc;
+    let template = Template::parse(alloc, "a{x}b")?;
+    let pairs = [("x", Formattable::display(&1u64))];
+    let row = Pairs(&pairs);
+    template.check_in(alloc, &row)?;
+    a_context_resembles_itself::<u64>();
+    let mut out = TextBuffer::new(alloc);
+    a_checked_template_is_written(alloc, &mut out, &template, &row, &row)?;
+    report.text("a checked template, written", "a1b", out.as_str());
+    let text = a_checked_template_is_formatted(alloc, &template, &row, &row)?;
+    report.text("a checked template, formatted", "a1b", text.as_str());
     Ok(())
 }
 
@@ -66,5 +85,6 @@ fn arguments(report: &mut Report) -> Result<(), Error> {
 pub fn run(report: &mut Report) -> Result<(), Error> {
     report.begin("templates");
     tails(report)?;
+    checked(report)?;
     arguments(report)
 }
