@@ -11,8 +11,8 @@ here=$(cd "$(dirname "$0")" && pwd)
 name=ifmt
 least=-170141183460469231731687303715884105728
 greatest=170141183460469231731687303715884105727
-# the cases of the functions below, the 4 examples and the 12 rows of README
-wanted=167
+# the cases of the functions below, the example and the 12 rows of README
+wanted=164
 . "$here/../../.ci/cases.sh"
 
 # A text, which goes to the output, with status 0.

@@ -20,7 +20,7 @@ use interpolator_syntax::NumberError;
 /// A decimal number: `units` of 10 ^ -`scale`, exactly. 12.50 is 1250 units at the scale 2.
 ///
 /// Two decimals are equal if their fields are: 12.5 and 12.50 are the same number, and not equal,
-/// since they are written otherwise.
+/// since they are written differently.
 ///
 /// ```text
 /// let price = Decimal { units: 1250, scale: 2 };

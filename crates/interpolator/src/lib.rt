@@ -2,19 +2,15 @@
 //!
 //! Give it a format and named values, and you get the formatted text, or one fault with its place.
 //! A [`Formattable`] is a value with a slot for each trait under which a format may show it, or a
-//! list of such values. A [`Context`] says what is under a name: a [`ContextMap`], a `HashMap`, or
-//! [`Pairs`] or [`values!`], which take no memory. [`write`] appends to any [`TextWrite`], and
+//! list of such values. A [`Context`] says what is under a name: [`values!`] or [`Pairs`], which take
+//! no memory, a [`ContextMap`], or a `HashMap`. [`write`] appends to any [`TextWrite`], and
 //! [`format`] makes a new `String`; the methods of [`Interpolate`] do the same for a context, and
 //! [`iformat!`] formats named values in one call. A [`Template`] is a format that is read once, and
 //! can be checked before it is written.
 //!
 //! ```text
-//! let values = [View::Text("Ann"), View::from(-7i32)];
-//! let context = [
-//!     ("name", Formattable::display(&values[0])),
-//!     ("n", Formattable::integer(&values[1])),
-//! ];
-//! Pairs(&context).format(alloc, "Hello {name}, n is {n:>5}")?    // "Hello Ann, n is    -7"
+//! let row = values!(name = "Ann", n:integer = -7i32);
+//! row.format(alloc, "Hello {name}, n is {n:>5}")?    // "Hello Ann, n is    -7"
 //! ```
 //!
 //! What a format means is defined in `specs/`, and `write` is proved to do that and nothing else,

@@ -9,13 +9,13 @@ pub enum Trait {
     Debug,
     /// As a user reads it.
     Display,
-    /// Whole numbers in exponent form, with `e`.
+    /// Whole numbers and decimals in exponent form, with `e`.
     LowerExp,
     /// Whole numbers in base sixteen, with `a` to `f`.
     LowerHex,
     /// Whole numbers in base eight.
     Octal,
-    /// Whole numbers in exponent form, with `E`.
+    /// Whole numbers and decimals in exponent form, with `E`.
     UpperExp,
     /// Whole numbers in base sixteen, with `A` to `F`.
     UpperHex,
@@ -103,8 +103,8 @@ pub struct Spec {
     pub zero: bool,
     /// The least number of characters.
     pub width: Option<usize>,
-    /// For a text, the greatest number of its characters that are shown, before padding; for an
-    /// exponent form, the number of digits after the point.
+    /// For a text, the greatest number of its characters that are shown, before padding; for a
+    /// decimal and an exponent form, the number of digits after the point.
     pub precision: Option<usize>,
     /// How `Trait::Debug` writes whole numbers.
     pub hex_debug: HexDebug,
