@@ -1,22 +1,10 @@
--- What a word gives, and that it gives nothing.
-use Rattle.std.proofs.Common.{◌≡◌, ◌↔◌, ◌∙◌, sym, subst, ℕ, ℤ, List, None, Some}
+-- What a word gives.
+use Rattle.std.proofs.Common.{◌≡◌, ◌↔◌, ℕ, ℤ, List, None, Some}
 use Rattle.interpolator.specs.declared.View.{View}
-use Rattle.catalogue.specs.Words.{Cuts, Fits, Gives, IsCut, IsGood, ShowsAs, Spells}
+use Rattle.catalogue.specs.Words.{Fits, Gives, IsGood, ShowsAs, Spells}
 use Rattle.catalogue.specs.declared.declarations.Kind.TheVariants as kinds
 use Rattle.catalogue.specs.declared.declarations.Kind.{Kind}
 use Rattle.catalogue.specs.declared.entries.Object.{Object}
-
--- a word that is not cut gives nothing
-pub uncut : (word : List ℕ) → ¬ IsCut word → ¬ IsGood word
-uncut word none good = none (good.0, good.1, good.2)
-
--- a word whose text is not of its kind gives nothing
-pub unfit : (word : List ℕ) (declared : List ℕ × Kind) (text : List ℕ) → Cuts word declared text
-    → ¬ Fits declared.1 text → ¬ IsGood word
-unfit word declared text cuts none good =
-    let same = sym good.2.named ∙ cuts.named in
-    let texts = good.2.text_after ∙ sym cuts.text_after in
-    none (subst (λ d. Fits d.1 text) same (subst (λ t. Fits good.0.1 t) texts good.3))
 
 -- a text that spells no number is none
 pub not_a_number : (text : List ℕ) → ((value : ℤ) → Spells text value ↔ (None ≡ Some value))

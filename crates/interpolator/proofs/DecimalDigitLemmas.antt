@@ -36,12 +36,6 @@ value_step n ds i within = grind (arith, drop_more)
 
 -- ---- the loop: `number` is before all the digits, and `n` before those from the i-th on
 
-pub loop_more : (n number next : ℕ) (ds : List ℕ) (i : ℕ) → i < length ds →
-    next ≡ n * 10 + digit_value (get_or ds i 0) →
-    digits_value_after 10 n (drop i ds) ≡ digits_value_after 10 number ds →
-    digits_value_after 10 next (drop (i + 1) ds) ≡ digits_value_after 10 number ds
-loop_more n number next ds i within e so_far = grind (arith, value_step)
-
 pub loop_over : (n number : ℕ) (ds : List ℕ) (i : ℕ) → i < length ds →
     digits_value_after 10 n (drop i ds) ≡ digits_value_after 10 number ds →
     ¬ (n * 10 + digit_value (get_or ds i 0) < 2 ^ 128) →

@@ -122,13 +122,3 @@ last_line_short cs = grind (arith, length-reverse {A = ℕ}, length-take {A = �
 -- a text has no more characters than bytes
 pub characters_short : (text : List ℕ) → IsUtf8 text → length (chars text) ≤ length text
 characters_short text u = omega (arith, ap length (encodes-chars text u), length-le-encodes)
-
--- no more characters begin before a place than there are
-begun_fewer : (place : ℕ) (cs : List ℕ) → length (begun_before place cs) ≤ length cs
-begun_fewer place [] = omega arith
-begun_fewer place (c ∷ cs) = grind (arith, begun_fewer (place - len_utf8 c) cs)
-
--- nor than there are bytes
-pub begun_short : (place : ℕ) (text : List ℕ) → IsUtf8 text
-    → length (begun_before place (chars text)) ≤ length text
-begun_short place text u = omega (arith, begun_fewer, characters_short text u)

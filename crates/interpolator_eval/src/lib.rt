@@ -30,9 +30,7 @@ pub use evaluate::sample::{Candidates, Items, Need, SampleEnvironment};
 pub use evaluate::scan::ScannedList;
 pub use evaluate::sink::{Sink, WriteFault, write_char, write_plain, write_run, write_shown};
 pub use evaluate::source::FormatSource;
-pub use evaluate::value::{
-    LookUp, chosen_list, slot_of, write_plain_value, write_slot, write_value,
-};
+pub use evaluate::value::{LookUp, chosen_list, slot_of, write_plain_value, write_value};
 pub use field_names::{is_name, same_name};
 pub use pairs::Pairs;
 pub use piece_count::PieceCount;

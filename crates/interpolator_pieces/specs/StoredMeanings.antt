@@ -4,13 +4,11 @@ use Rattle.interpolator_render.specs.declared.view.Trait.{Trait}
 use Rattle.interpolator_render.specs.declared.view.Spec.{Spec}
 use Rattle.interpolator_render.specs.Views.{Shown}
 use Rattle.interpolator_syntax.specs.Faults.{Fault, parse, expected}
-use Rattle.interpolator_eval.specs.Slots.{Slots}
 use Rattle.interpolator_eval.specs.Meaning.Environments.{Environment}
 use Rattle.interpolator_eval.specs.Meaning.Meanings.{Meaning}
 use Rattle.interpolator_syntax.specs.Nodes.{as_forest}
 use Rattle.interpolator_eval.specs.Meaning.Meanings.{node_means, forest_means}
-use Rattle.interpolator_eval.specs.Meaning.Meanings.{item_branch_means, join_branch_means}
-use Rattle.interpolator_pieces.specs.Stored.{node_of, nodes_of, branch_of}
+use Rattle.interpolator_pieces.specs.Stored.{node_of, nodes_of}
 use Rattle.interpolator_pieces.specs.Stored.{part, name_part, detail_of}
 use Rattle.interpolator_syntax.specs.declared.piece_kind.PieceKind.{PieceKind}
 use Rattle.interpolator_syntax.specs.declared.piece_kind.PieceKind.TheVariants.{Unclosed}
@@ -43,11 +41,3 @@ module _ {X : Type 0} (shows : X → Trait → Spec → Shown) (e : Environment 
   -- one piece
   abbrev pub stored_piece_means : Piece → Meaning
   stored_piece_means x = node_means shows e (node_of bs x)
-
-  -- what comes between two items of a list
-  abbrev pub stored_join_means : Piece → Meaning
-  stored_join_means x = join_branch_means shows e (branch_of bs (out-Piece x).join)
-
-  -- an item of a list
-  abbrev pub stored_item_means : Piece → (end : ℕ) → Slots X → Meaning
-  stored_item_means x = item_branch_means shows e (branch_of bs (out-Piece x).item)

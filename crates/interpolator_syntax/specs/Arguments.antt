@@ -145,12 +145,6 @@ abbrev pub asked_read : Result (Unit {0}) ArgumentFault → (x : code_request.Re
 asked_read (Ok _) x end = Ok (request_of x, end)
 asked_read (Err broken) x end = Err (argument_fault_of broken)
 
--- the argument of a name, read into x up to `end`; or why it is broken
-abbrev pub argument_read : ArgumentName → Result (Unit {0}) ArgumentFault → (x : code_request.Request)
-    → (end : At) → Result (Argument × At) Fault
-argument_read n (Ok _) x end = Ok (named_argument n (request_of x), end)
-argument_read n (Err broken) x end = Err (argument_fault_of broken)
-
 -- the form of a list, read into x up to `end`; or why it is broken
 abbrev pub list_read : Result (Unit {0}) ArgumentFault → (x : ListForm) → (end : At)
     → Result (ListRequest × At) Fault

@@ -11,13 +11,13 @@ ghost use Rattle.interpolator_eval.specs.Meaning.Environments.{slots_under};
 ghost use Rattle.interpolator_eval.specs.Meaning.Lists.{IsChosen, IsNotChosen, ChosenUnder};
 ghost use Rattle.interpolator_eval.specs.Meaning.Meanings.{under_name, value_means, forbids_list};
 ghost use Rattle.interpolator_eval.specs.Meaning.CodeEnvironments.{environment_of};
-ghost use Rattle.interpolator_eval.specs.Meaning.Sinks.{HasRoom, Writes, write_answered};
+ghost use Rattle.interpolator_eval.specs.Meaning.Sinks.{HasRoom, Writes};
 ghost use Rattle.interpolator_eval.specs.Slots.{slots_of, slot_at, values_of};
 
 use crate::context::Context;
 use crate::evaluate::environment::Environment;
 use crate::evaluate::list::{choose, forbids_list};
-use crate::evaluate::sink::{Sink, WriteFault};
+use crate::evaluate::sink::Sink;
 use crate::slots::Formattable;
 use interpolator_render::{Bounded, Spec, TextWrite, Trait, Value};
 use interpolator_syntax::{Error, ParseError, Range};
@@ -114,23 +114,6 @@ pub fn slot_of<'a, V>(item: &Formattable<'a, V>, wanted: Trait) -> Option<&'a V>
     ensures slot { option_copied result ≡ slot_at wanted (values_of (slots_of item.now)) }
 {
     item.slot(wanted)
-}
-
-/// Writes the value in a slot of an item, under a spec that ends at `end`.
-#[inline(always)]
-pub fn write_slot<'a, W: TextWrite, V: Value>(
-    sink: &mut Sink<'_, W>,
-    item: &'a Formattable<'a, V>,
-    wanted: Trait,
-    spec: &Spec,
-    end: usize,
-) -> Result<(), WriteFault>
-    ensures writes { Writes W.written
-        (value_means V.shows wanted spec.now end (slot_at wanted (values_of (slots_of item.now))))
-        sink.old sink.new (write_answered result) }
-{
-    let value = item.slot(wanted);
-    sink.put_value(value, wanted, spec, end)
 }
 
 /// Returns the items that a range chooses of the list under a name.
