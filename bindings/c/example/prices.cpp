@@ -8,6 +8,7 @@
 #include <cstdlib>
 #include <exception>
 #include <optional>
+#include <stdexcept>
 #include <string>
 
 // A value that is displayed with so many digits after the point as the format wants, but at most two more
@@ -33,10 +34,15 @@ interpolator::value price(std::int64_t cents) {
   };
 }
 
+// The most characters that a format may write: a width may be any number, and who writes a format is not
+// trusted.
+constexpr std::size_t most = 1000000;
+
 int main(int words, char **word) {
   const char *format = words > 1 ? word[1] : "{what}: {price:>10} each, {price:.0} rounded, {rate:+08.1}%";
   const std::int64_t cents = words > 2 ? std::strtoll(word[2], nullptr, 10) : 314;
   try {
+    if (interpolator::cost(format, 64, 0).characters > most) throw std::length_error("the format writes too much");
     const std::string text =
         interpolator::format(format, {{"what", "pie"}, {"price", price(cents)}, {"rate", 2.25}});
     std::fwrite(text.data(), 1, text.size(), stdout);
