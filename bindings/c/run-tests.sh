@@ -87,9 +87,13 @@ prices() {
 sanitized=(-g -O1 -fsanitize=address,undefined -fno-sanitize-recover=all -Wall -Wextra -pedantic -Werror -I.)
 export ASAN_OPTIONS=exitcode=99:allocator_may_return_null=1 UBSAN_OPTIONS=exitcode=99
 
-# The header for C++17, and the examples, so that a wrong access ends them with status 99.
+# Tests and examples, so that a wrong access ends them with status 99.
 sanitize() {
-    c++ -std=c++17 "${sanitized[@]}" tests/header.cpp build/libinterpolator.a -o "$scratch/header_asan" &&
+    cc -std=c99 "${sanitized[@]}" tests/bytes.c build/libinterpolator.a -o "$scratch/bytes_asan" &&
+        cc -std=c99 "${sanitized[@]}" tests/calls.c build/libinterpolator.a -o "$scratch/calls_asan" &&
+        cc -std=c99 -g -O1 -fsanitize=thread -Wall -I. tests/threads.c build/libinterpolator.a -pthread \
+            -o "$scratch/threads_tsan" &&
+        c++ -std=c++17 "${sanitized[@]}" tests/header.cpp build/libinterpolator.a -o "$scratch/header_asan" &&
         c++ -std=c++17 "${sanitized[@]}" example/prices.cpp build/libinterpolator.a -o "$scratch/prices_asan" &&
         cc -std=c99 "${sanitized[@]}" example/catalogue.c build/libinterpolator.a -o "$scratch/catalogue_asan"
 }
@@ -209,17 +213,22 @@ fi
 step 'what the archive gives and wants' names_are_known
 step 'libraries, tests and examples without a warning' make --quiet SCRATCH="$scratch" all tests
 before=$(find . | sort)
+step 'sizes and offsets of the structs' "$scratch/abi"
 step 'each call, by C99' "${valgrind_of[@]}" "$scratch/calls"
 step 'each call, by C++17' "${valgrind_of[@]}" "$scratch/calls_cpp"
 step 'the header for C++17' "${valgrind_of[@]}" "$scratch/header"
 step 'rows of the conformance suite' "$scratch/rows"
 step 'rows of the conformance suite, under valgrind' "${valgrind_of[@]}" "$scratch/rows"
+step 'bytes by chance, under valgrind' "${valgrind_of[@]}" "$scratch/bytes" 3000
 step 'each allocation refused in turn' "${valgrind_of[@]}" "$scratch/memory"
 step 'threads' "$scratch/threads"
 step 'threads, under valgrind' "${valgrind_of[@]}" "$scratch/threads"
 step 'the catalogue' catalogue "$scratch/catalogue"
 step 'the prices' prices "$scratch/prices"
-step 'header and examples by AddressSanitizer and UBSan' sanitize
+step 'tests and examples by AddressSanitizer, UBSan and ThreadSanitizer' sanitize
+step 'threads, by these' "$scratch/threads_tsan"
+step 'each call, by these' "$scratch/calls_asan"
+step 'bytes by chance, by these' "$scratch/bytes_asan" 50000
 step 'the header for C++17, by these' "$scratch/header_asan"
 step 'the catalogue, by these' catalogue "$scratch/catalogue_asan"
 step 'the prices, by these' prices "$scratch/prices_asan"
