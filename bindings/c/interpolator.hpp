@@ -172,7 +172,7 @@ template <class Number> std::string digits_of(Number number, const request &aske
   const shortest of = shortest_of(number);
   if (exponent) return with_exponent(of);
   if (asked.slot == INTERPOLATOR_DISPLAY) return with_point(of, 0);
-  return number == 0 || (of.power >= -5 && of.power < 16) ? with_point(of, 1) : with_exponent(of);
+  return number == 0 || (of.power >= -4 && of.power < 16) ? with_point(of, 1) : with_exponent(of);
 }
 
 // The text of a floating number for a request: under `{}`, `{:?}`, `{:e}` and `{:E}`.

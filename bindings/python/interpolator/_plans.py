@@ -5,6 +5,7 @@ from __future__ import annotations
 
 import ctypes
 import os
+from decimal import Decimal
 from typing import Any, Dict, List, Optional, Tuple
 
 from . import _library as c
@@ -34,6 +35,7 @@ else:
         ctypes.sizeof(c.Field),
         text_for,
         (Character, Integer, Only, Plain),
+        Decimal,
     )
 
 

@@ -23,9 +23,11 @@ typedef interpolator_answer (*rows_call)(
 static format_call library_format;
 static rows_call library_rows;
 
-/* text_for(value, request), and the types whose values are left to the other modules, as a tuple. */
+/* text_for(value, request); the types whose values are left to the other modules, as a tuple; and
+ * Decimal, which is printed as a float is, but under `{:?}`. */
 static PyObject *text_for;
 static PyObject *left_out;
+static PyObject *decimal;
 
 /* ---- How a format uses a value */
 
@@ -201,9 +203,10 @@ static int lay_number(laid *to, interpolator_field *field, PyObject *value) {
 
 /* The text of a value for a request, as a new reference. */
 static PyObject *printed(laid *to, PyObject *value, const wanted *one) {
-  PyObject *text = PyFloat_CheckExact(value)
-                       ? PyObject_Format(value, one->spec)
-                       : PyObject_CallFunctionObjArgs(text_for, value, one->request, NULL);
+  int by_spec = PyFloat_CheckExact(value)
+                || ((PyObject *)Py_TYPE(value) == decimal && one->asked.slot != INTERPOLATOR_DEBUG);
+  PyObject *text = by_spec ? PyObject_Format(value, one->spec)
+                           : PyObject_CallFunctionObjArgs(text_for, value, one->request, NULL);
   if (!text && (PyErr_ExceptionMatches(PyExc_ValueError) || PyErr_ExceptionMatches(PyExc_TypeError)
                 || PyErr_ExceptionMatches(PyExc_ArithmeticError))) {
     PyErr_Clear(); /* the fault is found and told by the other modules */
@@ -551,13 +554,21 @@ static PyType_Spec plan_spec = {
 
 /* ---- The module */
 
-/* bind(addresses of interpolator_format and interpolator_rows, size of a field, text_for, left out). */
+static void keep(PyObject **at, PyObject *object) {
+  Py_INCREF(object);
+  Py_XDECREF(*at);
+  *at = object;
+}
+
+/* bind(addresses of interpolator_format and interpolator_rows, size of a field, text_for, left out,
+ * Decimal). */
 static PyObject *bind(PyObject *module, PyObject *words) {
-  PyObject *format, *rows, *print, *types;
+  PyObject *format, *rows, *print, *types, *number;
   Py_ssize_t size;
   void *at_format, *at_rows;
   (void)module;
-  if (!PyArg_ParseTuple(words, "OOnOO!", &format, &rows, &size, &print, &PyTuple_Type, &types)) return NULL;
+  if (!PyArg_ParseTuple(words, "OOnOO!O", &format, &rows, &size, &print, &PyTuple_Type, &types, &number))
+    return NULL;
   if ((size_t)size != sizeof(interpolator_field))
     return PyErr_SetString(PyExc_ImportError, "the structs of the library are others"), NULL;
   at_format = PyLong_AsVoidPtr(format);
@@ -565,12 +576,9 @@ static PyObject *bind(PyObject *module, PyObject *words) {
   if (PyErr_Occurred()) return NULL;
   memcpy(&library_format, &at_format, sizeof library_format);
   memcpy(&library_rows, &at_rows, sizeof library_rows);
-  Py_INCREF(print);
-  Py_XDECREF(text_for);
-  text_for = print;
-  Py_INCREF(types);
-  Py_XDECREF(left_out);
-  left_out = types;
+  keep(&text_for, print);
+  keep(&left_out, types);
+  keep(&decimal, number);
   Py_RETURN_NONE;
 }
 

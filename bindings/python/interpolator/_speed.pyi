@@ -13,4 +13,5 @@ def bind(
     field_size: int,
     text_for: Callable[[Any, Any], str],
     left_out: Tuple[type, ...],
+    decimal: type,
 ) -> None: ...

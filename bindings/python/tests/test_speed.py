@@ -94,7 +94,7 @@ class Speed(unittest.TestCase):
             for text in texts:
                 template.format(a=text, b=0.5, c=datetime.date(2024, 2, 29), l=[text, 1.5, [text]][:2])
                 outcome(lambda: template.format(a=text, b=0.5, c=Failing(), l=[text]))
-                template.rows({"a": "", "b": 0.5, "c": "", "l": ""}, [])
+                outcome(lambda: template.rows({"a": "", "b": 0.5, "c": "", "l": ""}, []))
                 Template("{a}{b}").rows({"a": "", "b": 0.5}, [(text, 0.5), {"a": text, "b": 1}])
 
         work()
