@@ -49,6 +49,17 @@ def build_sdist(sdist_directory: str, config_settings: Optional[Dict[str, Any]] 
     raise UnsupportedOperation("make a wheel: the library comes from the whole repository")
 
 
+def prepare_metadata_for_build_wheel(
+    metadata_directory: str, config_settings: Optional[Dict[str, Any]] = None
+) -> str:
+    """Writes what is said of the package, if there is a library, and returns the folder's name."""
+    _library()
+    info = Path(metadata_directory) / f"interpolator-{_version()}.dist-info"
+    info.mkdir()
+    (info / "METADATA").write_text(_metadata(_version()), "utf-8")
+    return info.name
+
+
 def build_wheel(
     wheel_directory: str,
     config_settings: Optional[Dict[str, Any]] = None,

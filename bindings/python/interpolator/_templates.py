@@ -108,12 +108,21 @@ class Template:
         """The text of the format with the values of a mapping, whose names may be any text. Of
         the mapping those are looked up that the format names, each once, as `mapping[name]`; a
         KeyError says that it has none."""
-        found, failures = self._found_in(values)
+        if type(values) is not dict:
+            found, failures = self._found_in(values)
+            quick = self._quick(found)
+            return self._slow(found, failures) if quick is None else quick
+        quick = self._quick(values) if self._plan is None else self._plan.format(values)
+        return self._slow(values, {}) if quick is None else quick
+
+    def _quick(self, values: Dict[str, Any]) -> Optional[str]:
+        """The text by the extension module; None if it cannot make it, or there is none."""
         plan = self._planned()
-        quick = plan.format(found) if plan is not None else None
-        if quick is not None:
-            return quick
-        fields = self._fields_of(found)
+        return None if plan is None else plan.format(values)
+
+    def _slow(self, values: Dict[str, Any], failures: "_Failures") -> str:
+        """The text by ctypes, or its fault."""
+        fields = self._fields_of(values)
         code, answer, text = self._call(_library.interpolator_format, fields)
         if code:
             raise self._fault(answer, text, fields, failures)
