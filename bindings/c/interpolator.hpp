@@ -104,13 +104,34 @@ inline std::string padded_number(bool negative, std::string_view digits, const r
 
 namespace detail {
 
+// More digits than these of a double are zeros, after the point, and after the first digit.
+inline constexpr std::size_t most_digits = 1100;
+
+// A number in exponent form without the point, with so many digits after the first; exact ones.
+inline std::string digits_with_exponent(double number, std::size_t precision) {
+  char text[most_digits + 50];
+  const auto end = std::to_chars(text, text + sizeof text, number, std::chars_format::scientific,
+                                 static_cast<int>(precision)).ptr;
+  std::string made(text, end);
+  if (precision) made.erase(1, 1);
+  return made;
+}
+
 // The shortest digits that are read as a number again, and the power of ten of the first one.
 struct shortest {
   std::string digits;
   int power = 0;
 };
 
-// A number that is finite and not negative.
+// Whether a number lies in the middle between these digits and the next ones.
+inline bool is_in_the_middle(double number, const std::string &digits) {
+  const std::string next = digits_with_exponent(number, digits.size());
+  if (next[digits.size()] != '5' || next.compare(0, digits.size(), digits) != 0) return false;
+  const std::string all = digits_with_exponent(number, most_digits);
+  return all[digits.size()] == '5' && all.find_first_not_of('0', digits.size() + 1) == most_digits + 1;
+}
+
+// Of a number that is finite and not negative. Of two that are equally near Rust takes the greater one.
 template <class Number> shortest shortest_of(Number number) {
   char text[64];
   const auto end = std::to_chars(text, text + sizeof text, number, std::chars_format::scientific).ptr;
@@ -121,6 +142,7 @@ template <class Number> shortest shortest_of(Number number) {
   const bool below = at + 1 < end && at[1] == '-';
   std::from_chars(at + 2, end, made.power);
   if (below) made.power = -made.power;
+  if (is_in_the_middle(static_cast<double>(number), made.digits)) made.digits.back()++;
   return made;
 }
 
@@ -145,12 +167,9 @@ inline std::string with_exponent(const shortest &of) {
   return made + 'e' + std::to_string(of.power);
 }
 
-// More digits than these of a double are zeros, after the point, and after the first digit.
-inline constexpr std::size_t most_digits = 1100;
-
 // The digits of a number with so many after the point, or in exponent form after the first.
 inline std::string exact(double number, std::size_t precision, bool exponent) {
-  char text[1500];
+  char text[most_digits + 400];
   const auto form = exponent ? std::chars_format::scientific : std::chars_format::fixed;
   const int digits = static_cast<int>(std::min(precision, most_digits));
   const auto end = std::to_chars(text, text + sizeof text, number, form, digits).ptr;

@@ -114,6 +114,8 @@ static void floating_numbers() {
   };
   for (const auto &one : all) TEXT(one.text, form, {{"v", one.number}});
   TEXT("0.1 0.10000000149 1e-1", "{v} {v:.11} {v:e}", {{"v", 0.1f}});
+  // of two shortest texts that are equally near the greater one
+  TEXT("162236.63 1.6223663e5", "{v} {v:e}", {{"v", 162236.625f}});
   TEXT("5e-324 1.7976931348623157e308", "{a:e} {b:e}",
        {{"a", 5e-324}, {"b", std::numeric_limits<double>::max()}});
   const result tiny = try_format("{a:.2000} {a:.2000e}", {{"a", 5e-324}});
