@@ -83,7 +83,7 @@ class Classes(unittest.TestCase):
 
 class Checks(unittest.TestCase):
     def test_no_fault(self) -> None:
-        self.assertIsNone(check("{n:>5x} {t:?} {l:i({:.1})}", n=0, t="", l=[0.5, "a"]))
+        check("{n:>5x} {t:?} {l:i({:.1})}", n=0, t="", l=[0.5, "a"])
 
     def test_a_group_that_is_not_written_is_checked(self) -> None:
         text = "{l:i({:x})}"

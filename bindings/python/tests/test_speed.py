@@ -10,7 +10,7 @@ import os
 import random
 import sys
 import unittest
-from typing import Any, Callable, Dict, List
+from typing import Any, Callable, Dict, List, Tuple
 from unittest import mock
 
 from interpolator import (
@@ -20,7 +20,7 @@ from interpolator import (
 SPECS = ("", ">9", "?", "x", ".2", "+08.1", "*^7", "e", ".1E", "#b", "X?", "<12?", ":", "i", "i({})(,)",
          "i({:.1}{a})({b})", "i#({:i({:>3})(;)})#(|)", "9i({:?})( )", "i1..-1", "i..2({:e})")
 
-VALUES = ("Ann", "Zoë \U0001F600", "", "\ud800", 0, -1, 7, 2**63, 2**64 - 1, 2**64, -(2**63), -(2**63) - 1, 2**127,
+VALUES: Tuple[Any, ...] = ("Ann", "Zoë \U0001F600", "", "\ud800", 0, -1, 7, 2**63, 2**64 - 1, 2**64, -(2**63), -(2**63) - 1, 2**127,
           10**50, True, False, 0.0, -2.5, 1e300, float("nan"), None, decimal.Decimal("1.25"),
           datetime.date(2024, 2, 29), [], [1, "a", 2.5], (True, None), [[1, 2], [], ("x",)], [[[0.5]]],
           Plain("<b>"), Character("x"), Integer(-1, 8), Only(3, "display"), {"a": 1})

@@ -87,7 +87,7 @@ class Mappings(unittest.TestCase):
                 return int(name) ** 2
 
         self.assertEqual("9 16", interpolator.format_map("{3} {4}", Squares()))  # type: ignore[arg-type]
-        self.assertIsNone(interpolator.check_map("{3:x}", Squares()))  # type: ignore[arg-type]
+        interpolator.check_map("{3:x}", Squares())  # type: ignore[arg-type]
         self.assertEqual([], interpolator.faults("{a}", defaultdict(int)))
 
     def test_a_name_that_is_not_there(self) -> None:
@@ -108,7 +108,7 @@ class Texts(unittest.TestCase):
             for call in (interpolator.format, interpolator.check, interpolator.check_alone,
                          interpolator.faults, interpolator.explain, Template):
                 with self.subTest(text, call=call), self.assertRaisesRegex(TypeError, "a format is a str"):
-                    call(text)  # type: ignore[arg-type, operator]
+                    call(text)  # type: ignore[operator]
             self.assertRaises(TypeError, rows, text, {}, [])
 
     def test_a_long_format_is_not_kept(self) -> None:
@@ -171,12 +171,13 @@ class Tables(unittest.TestCase):
         made.close()
 
     def test_what_is_no_row(self) -> None:
-        for row in ("ab", b"ab", {"a", "b"}, 7, None):
+        no_rows: Tuple[Any, ...] = ("ab", b"ab", {"a", "b"}, 7, None)
+        for row in no_rows:
             with self.subTest(row), self.assertRaisesRegex(TypeError, "row 1 is no tuple and no dict"):
                 rows("{a}{b}", {"a": "", "b": ""}, [("x", "y"), row])
 
     def test_a_fault_says_its_row(self) -> None:
-        good: list = [(n,) for n in range(5000)]
+        good: List[Tuple[Any]] = [(n,) for n in range(5000)]
         with self.assertRaises(MissingTrait) as raised:
             rows("{a:x}", {"a": 1}, [*good, ("b",)])
         error = raised.exception

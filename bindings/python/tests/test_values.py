@@ -9,7 +9,7 @@ import enum
 import fractions
 import unittest
 import uuid
-from typing import List, NamedTuple
+from typing import Any, List, NamedTuple
 
 from interpolator import (
     Character, Code, Integer, MissingTrait, Only, Plain, TooDeep, Trait, ValueFailed,
@@ -150,7 +150,7 @@ class Lists(unittest.TestCase):
         self.assertRaises(MissingTrait, format, "{n:i}", n=1)
 
     def test_lists_as_deep_as_the_format_looks(self) -> None:
-        ring: list = []
+        ring: List[Any] = []
         ring.append(ring)
         self.assertEqual(";", format("{l:i#({:i(x)(,)})#(;)}", l=[[], []]))
         self.assertEqual("x", format("{l:i#({:i(x)})#}", l=ring))
