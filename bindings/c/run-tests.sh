@@ -1,11 +1,14 @@
 #!/usr/bin/env bash
 # Builds the C library out of the proved archive of crates/interpolator_c, and runs the tests of
-# bindings/c: the header by C99 and C++17 without a warning, each call, the rows of the conformance suite,
-# refused memory, threads, an installed copy by pkg-config, all under valgrind, and the examples.
+# bindings/c: the headers by C99 and C++17 without a warning, each call, the rows of the conformance
+# suite, refused memory, threads, all under valgrind; the header for C++17 and the examples under
+# AddressSanitizer and UBSan, the examples on a hundred hostile formats each; an installed copy by
+# pkg-config and CMake, a package, and the programs of README.md. It leaves nothing but build/, with the
+# library.
 #
 # The archive is the one that `rt lib` or the gate left in crates/interpolator_c/out; without one it is
 # made by `rt lib`, which proves what is not proved yet. A tool that is missing fails the run, but for
-# CI_SKIP_BINDINGS=1, by which nothing is run.
+# cmake and man, whose steps are then left out, and for CI_SKIP_BINDINGS=1, by which nothing is run.
 set -eu
 cd "$(dirname "$0")"
 
@@ -15,7 +18,7 @@ if [[ ${CI_SKIP_BINDINGS:-} == 1 ]]; then
 fi
 
 missing=()
-for tool in rt make cc c++ ar nm python3 valgrind pkg-config; do
+for tool in make cc c++ ar nm python3 valgrind pkg-config; do
     command -v "$tool" >/dev/null || missing+=("$tool")
 done
 if [[ ${#missing[@]} -ne 0 ]]; then
@@ -24,13 +27,16 @@ if [[ ${#missing[@]} -ne 0 ]]; then
 fi
 
 passed=0
+scratch=$(mktemp -d)
+trap 'rm -rf -- "$scratch"' EXIT
+export PYTHONDONTWRITEBYTECODE=1
 
 # step NAME COMMAND..: runs the command, and ends the run with what it wrote if it fails.
 step() {
     local name=$1
     shift
-    if ! "$@" >build/log 2>&1; then
-        tail -n 30 build/log
+    if ! "$@" >"$scratch/log" 2>&1; then
+        tail -n 30 "$scratch/log"
         echo "bindings/c: FAILED: $name"
         exit 1
     fi
@@ -50,29 +56,20 @@ names_are_known() {
         [[ $(printf '%s\n' $wanted | grep -vxE 'rattle_(alloc|realloc|dealloc)|mem(cpy|move|set|cmp)|bcmp|__u(div|mod)ti3' | wc -l) -eq 0 ]]
 }
 
-# The library as a program finds it that is not in this folder.
-installed_copy() {
-    local root=$PWD/build/installed
-    rm -rf "$root"
-    make --quiet install PREFIX="$root" &&
-        export PKG_CONFIG_PATH=$root/lib/pkgconfig &&
-        cc -std=c99 example/catalogue.c $(pkg-config --cflags --libs interpolator) \
-            -Wl,-rpath,"$root/lib" -o build/catalogue_installed &&
-        catalogue build/catalogue_installed
-}
-
 # What the example writes of a file with one broken format: to the output the others, to the errors the
-# picture.
+# picture. No message is too long for it.
 catalogue() {
-    printf 'Dear {name},\nyou have {count:>3} new {messages}\n{count:x} in hexadecimal\n' >build/messages.txt
+    printf 'Dear {name},\nyou have {count:>3} new {messages}\n{count:x} in hexadecimal\n{name:>5000}' \
+        >"$scratch/messages.txt"
     local status=0
-    "$@" build/messages.txt Bob 255 >build/out 2>build/errors || status=$?
-    diff - build/out <<'END' || return 1
+    (cd "$scratch" && "$@" messages.txt Bob 255 >out 2>errors) || status=$?
+    diff - "$scratch/out" <<END || return 1
 Dear Bob,
 ff in hexadecimal
+$(printf '%5000s' Bob)
 END
-    diff - build/errors <<'END' || return 1
-build/messages.txt:2:26: specified value not in context `messages` at 25
+    diff - "$scratch/errors" <<'END' || return 1
+messages.txt:2:26: specified value not in context `messages` at 25
   |
 2 | you have {count:>3} new {messages}
   |                         ~^~~~~~~~~
@@ -80,19 +77,167 @@ END
     [[ $status -eq 1 ]]
 }
 
-mkdir -p build
+prices() {
+    diff <("$@") - <<<'pie:       3.14 each, 3 rounded, +00002.2%' || return 1
+    diff <("$@" '{price:0>+9.1}|{price:*<8}|{price:^+11.3}|{price:09.0}|{price:>1.4}' -199995) - \
+        <<<'00-2000.0|-1999.95| -1999.950 |-00002000|-1999.9500' || return 1
+    diff <("$@" '{price:+}|{price:.1}|{price:.0}|{rate:?}' 4 2>&1) - <<<'+0.04|0.0|0|2.25'
+}
+
+sanitized=(-g -O1 -fsanitize=address,undefined -fno-sanitize-recover=all -Wall -Wextra -pedantic -Werror -I.)
+export ASAN_OPTIONS=exitcode=99:allocator_may_return_null=1 UBSAN_OPTIONS=exitcode=99
+
+# Tests and examples, so that a wrong access ends them with status 99.
+sanitize() {
+    cc -std=c99 "${sanitized[@]}" tests/bytes.c build/libinterpolator.a -o "$scratch/bytes_asan" &&
+        cc -std=c99 "${sanitized[@]}" tests/calls.c build/libinterpolator.a -o "$scratch/calls_asan" &&
+        cc -std=c99 -g -O1 -fsanitize=thread -Wall -I. tests/threads.c build/libinterpolator.a -pthread \
+            -o "$scratch/threads_tsan" &&
+        c++ -std=c++17 "${sanitized[@]}" tests/header.cpp build/libinterpolator.a -o "$scratch/header_asan" &&
+        c++ -std=c++17 "${sanitized[@]}" example/prices.cpp build/libinterpolator.a -o "$scratch/prices_asan" &&
+        cc -std=c99 "${sanitized[@]}" example/catalogue.c build/libinterpolator.a -o "$scratch/catalogue_asan"
+}
+
+# ended STATUS FORMAT: whether a program ended by itself, with a text or a fault.
+ended() {
+    [[ $1 -eq 0 || $1 -eq 1 ]] || { echo "status $1 of: ${2:0:200}"; return 1; }
+}
+
+hostile_prices() {
+    local format status count=0
+    while IFS= read -r format; do
+        status=0
+        "$scratch/prices_asan" "$format" -314159 >"$scratch/out" 2>"$scratch/errors" || status=$?
+        ended "$status" "$format" || { cat "$scratch/errors"; return 1; }
+        count=$((count + 1))
+    done < <(python3 tests/hostile.py what price rate)
+    [[ $count -eq 100 ]]
+}
+
+# Each line alone, and all of them with zero bytes and a line without an end.
+hostile_catalogue() {
+    local format status=0 count=0
+    python3 tests/hostile.py name count >"$scratch/hostile.txt"
+    while IFS= read -r format; do
+        status=0
+        printf '%s' "$format" >"$scratch/line.txt"
+        "$scratch/catalogue_asan" "$scratch/line.txt" $'\xff' 1 >"$scratch/out" 2>"$scratch/errors" || status=$?
+        ended "$status" "$format" || { cat "$scratch/errors"; return 1; }
+        count=$((count + 1))
+    done <"$scratch/hostile.txt"
+    printf 'zero\0{name}\0\n{count' >>"$scratch/hostile.txt"
+    status=0
+    "$scratch/catalogue_asan" "$scratch/hostile.txt" Ann -1 >"$scratch/out" 2>"$scratch/errors" || status=$?
+    [[ $status -eq 1 && $count -eq 100 ]]
+}
+
+# The library as a program finds it that is not in this folder; the tools of the proofs are not needed.
+installed_copy() {
+    root=$scratch/installed
+    PATH=/usr/local/bin:/usr/bin:/bin make --quiet install PREFIX="$root" &&
+        export PKG_CONFIG_PATH=$root/lib/pkgconfig &&
+        cc -std=c99 example/catalogue.c $(pkg-config --cflags --libs interpolator) \
+            -Wl,-rpath,"$root/lib" -o "$scratch/catalogue_installed" &&
+        catalogue "$scratch/catalogue_installed"
+}
+
+# The package, unpacked where it was not made, by pkg-config.
+package() {
+    make --quiet package || return 1
+    mkdir -p "$scratch/unpacked"
+    tar -C "$scratch/unpacked" --strip-components=1 -xzf build/interpolator-*.tar.gz
+    rm build/interpolator-*.tar.gz
+    diff <(cd "$scratch/unpacked" && find . | sort) <(cd "$scratch/installed" && find . | sort) || return 1
+    PKG_CONFIG_PATH=$scratch/unpacked/lib/pkgconfig
+    c++ -std=c++17 example/prices.cpp $(pkg-config --cflags --libs interpolator) \
+        -Wl,-rpath,"$scratch/unpacked/lib" -o "$scratch/prices_unpacked" &&
+        prices "$scratch/prices_unpacked"
+}
+
+# block LANGUAGE NUMBER: a block of README.md.
+block() {
+    awk -v fence="\`\`\`$1" -v wanted="$2" \
+        '/^```/ {inside = $0 == fence && ++seen == wanted; next} inside' README.md
+}
+
+# The programs of README.md, by its own CMakeLists.txt or else by pkg-config, and what it says of them.
+readme() {
+    local room=$scratch/readme language
+    mkdir -p "$room"
+    block cmake 1 >"$room/CMakeLists.txt"
+    block c 1 >"$room/lists.c"
+    block cpp 1 >"$room/lists.cpp"
+    if command -v cmake >/dev/null; then
+        cmake -S "$room" -B "$room/made" -DCMAKE_PREFIX_PATH="$scratch/unpacked" -DCMAKE_BUILD_TYPE=Release &&
+            cmake --build "$room/made" || return 1
+    else
+        mkdir -p "$room/made"
+        local found
+        found="$(pkg-config --cflags --libs interpolator) -Wl,-rpath,$scratch/unpacked/lib"
+        cc -std=c99 "$room/lists.c" $found -o "$room/made/lists_c" &&
+            c++ -std=c++17 "$room/lists.cpp" $found -o "$room/made/lists_cpp" || return 1
+    fi
+    diff <(block text 1) <("$room/made/lists_c") && diff <(block text 2) <("$room/made/lists_cpp")
+}
+
+# A later version than there is, and one of another major number, are not found.
+cmake_versions() {
+    local room=$scratch/versions version
+    for version in 1.0 1.0.0 '1.0.0 EXACT' 1.1 0.9 2.0; do
+        rm -rf "$room" && mkdir "$room"
+        printf 'cmake_minimum_required(VERSION 3.13)\nproject(p C)\nfind_package(interpolator %s REQUIRED)\n' \
+            "$version" >"$room/CMakeLists.txt"
+        if cmake -S "$room" -B "$room/made" -DCMAKE_PREFIX_PATH="$scratch/unpacked" >/dev/null 2>&1; then
+            echo "$version is found"
+        else
+            echo "$version is not found"
+        fi
+    done | diff - <(printf '%s is found\n' 1.0 1.0.0 '1.0.0 EXACT'; printf '%s is not found\n' 1.1 0.9 2.0)
+}
+
+# The page names each call, and man has nothing to say of it.
+man_page() {
+    local call
+    for call in $(sed -n 's/^interpolator_[a-z_]* \(interpolator_[a-z_]*\)(.*/\1/p; s/^uint32_t \(interpolator_[a-z_]*\)(.*/\1/p' interpolator.h); do
+        grep -q "$call" interpolator.3 || { echo "interpolator.3 does not have $call"; return 1; }
+        [[ -f $scratch/installed/share/man/man3/$call.3 ]] || { echo "no page $call.3"; return 1; }
+    done
+    [[ -z $(LC_ALL=C.UTF-8 man --warnings -l interpolator.3 2>&1 >/dev/null) ]]
+}
+
 archive=../../crates/interpolator_c/out/libinterpolator_c.a
-[[ -f $archive ]] || step 'the proved archive (rt lib)' bash -c 'cd ../../crates/interpolator_c && rt lib'
+if [[ ! -f $archive ]]; then
+    command -v rt >/dev/null || { echo 'bindings/c: FAILED: there is no rt, and no proved archive'; exit 1; }
+    step 'the proved archive (rt lib)' bash -c 'cd ../../crates/interpolator_c && rt lib'
+fi
 step 'what the archive gives and wants' names_are_known
-step 'libraries, tests and examples without a warning' make --quiet BUILD=build all tests
-step 'each call, by C99' "${valgrind_of[@]}" build/calls
-step 'each call, by C++17' "${valgrind_of[@]}" build/calls_cpp
-step 'rows of the conformance suite' build/rows
-step 'rows of the conformance suite, under valgrind' "${valgrind_of[@]}" build/rows
-step 'each allocation refused in turn' "${valgrind_of[@]}" build/memory
-step 'threads' build/threads
-step 'threads, under valgrind' "${valgrind_of[@]}" build/threads
-step 'the catalogue' catalogue build/catalogue
-step 'the prices' "${valgrind_of[@]}" build/prices
+step 'libraries, tests and examples without a warning' make --quiet SCRATCH="$scratch" all tests
+before=$(find . | sort)
+step 'sizes and offsets of the structs' "$scratch/abi"
+step 'each call, by C99' "${valgrind_of[@]}" "$scratch/calls"
+step 'each call, by C++17' "${valgrind_of[@]}" "$scratch/calls_cpp"
+step 'the header for C++17' "${valgrind_of[@]}" "$scratch/header"
+step 'rows of the conformance suite' "$scratch/rows"
+step 'rows of the conformance suite, under valgrind' "${valgrind_of[@]}" "$scratch/rows"
+step 'bytes by chance, under valgrind' "${valgrind_of[@]}" "$scratch/bytes" 3000
+step 'each allocation refused in turn' "${valgrind_of[@]}" "$scratch/memory"
+step 'threads' "$scratch/threads"
+step 'threads, under valgrind' "${valgrind_of[@]}" "$scratch/threads"
+step 'the catalogue' catalogue "$scratch/catalogue"
+step 'the prices' prices "$scratch/prices"
+step 'tests and examples by AddressSanitizer, UBSan and ThreadSanitizer' sanitize
+step 'threads, by these' "$scratch/threads_tsan"
+step 'each call, by these' "$scratch/calls_asan"
+step 'bytes by chance, by these' "$scratch/bytes_asan" 50000
+step 'the header for C++17, by these' "$scratch/header_asan"
+step 'the catalogue, by these' catalogue "$scratch/catalogue_asan"
+step 'the prices, by these' prices "$scratch/prices_asan"
+step 'a hundred hostile formats for the catalogue' hostile_catalogue
+step 'a hundred hostile formats for the prices' hostile_prices
 step 'an installed copy' installed_copy
+step 'a package' package
+step 'the programs of README.md' readme
+command -v cmake >/dev/null && step 'versions by CMake' cmake_versions
+command -v man >/dev/null && step 'the page of the manual' man_page
+step 'no file is left' diff <(echo "$before") <(find . | sort)
 echo "bindings/c: passed, $passed steps"

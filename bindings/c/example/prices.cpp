@@ -1,51 +1,55 @@
-// A double, which only the program can print: the format says how, printf prints it, and the field lends
-// the texts.
-#include "interpolator.h"
+// A price in cents, which only the program can print: the format says how, and a printer makes the digits.
+//
+//   prices [FORMAT CENTS]
+#include "interpolator.hpp"
 
+#include <cstdint>
 #include <cstdio>
+#include <cstdlib>
+#include <exception>
+#include <optional>
+#include <stdexcept>
 #include <string>
-#include <string_view>
-#include <vector>
 
-// The texts of a price, one for each argument of the format that has its name.
-class Price {
-public:
-  Price(std::string_view format, std::string_view name, double price) {
-    std::vector<interpolator_argument> asked(16);
-    auto got = interpolator_arguments(format.data(), format.size(), asked.data(), asked.size());
-    asked.resize(got.code == INTERPOLATOR_OK && got.length < asked.size() ? got.length : 0);
-    for (auto &one : asked)
-      if (format.substr(one.name_first, one.name_end - one.name_first) == name) add(one.request, price);
-    for (std::size_t k = 0; k < texts.size(); k++)
-      lent.push_back({requests[k], interpolator_span(texts[k].data(), texts[k].size())});
+// A value that is displayed with so many digits after the point as the format wants, but at most two more
+// than a price has, and rounded half up.
+interpolator::value price(std::int64_t cents) {
+  return [cents](const interpolator::request &asked) -> std::optional<std::string> {
+    if (asked.slot != INTERPOLATOR_DISPLAY) return std::nullopt;  // so that the format has a fault
+    std::size_t after = asked.given & INTERPOLATOR_PRECISION ? asked.precision : 2;
+    if (after > 4) return std::nullopt;
+    std::uint64_t amount = cents < 0 ? 0 - static_cast<std::uint64_t>(cents) : static_cast<std::uint64_t>(cents);
+    std::string zeros;
+    for (; after > 2; after--) zeros += '0';
+    if (after < 2) {
+      const std::uint64_t unit = after ? 10 : 100;
+      amount = amount / unit + (amount % unit >= unit / 2);
+    }
+    std::string digits = std::to_string(amount);
+    if (after) {
+      if (digits.size() <= after) digits.insert(0, after + 1 - digits.size(), '0');
+      digits.insert(digits.size() - after, ".");
+    }
+    return interpolator::padded_number(cents < 0 && amount, digits + zeros, asked);
+  };
+}
+
+// The most characters that a format may write: a width may be any number, and who writes a format is not
+// trusted.
+constexpr std::size_t most = 1000000;
+
+int main(int words, char **word) {
+  const char *format = words > 1 ? word[1] : "{what}: {price:>10} each, {price:.0} rounded, {rate:+08.1}%";
+  const std::int64_t cents = words > 2 ? std::strtoll(word[2], nullptr, 10) : 314;
+  try {
+    if (interpolator::cost(format, 64, 0).characters > most) throw std::length_error("the format writes too much");
+    const std::string text =
+        interpolator::format(format, {{"what", "pie"}, {"price", price(cents)}, {"rate", 2.25}});
+    std::fwrite(text.data(), 1, text.size(), stdout);
+    std::putchar('\n');
+    return 0;
+  } catch (const std::exception &fault) {
+    std::fprintf(stderr, "prices: %s\n", fault.what());
+    return 1;
   }
-
-  interpolator_field field(const char *name) const {
-    return interpolator_lent_texts(name, lent.data(), lent.size());
-  }
-
-private:
-  void add(const interpolator_request &request, double price) {
-    if (request.slot != INTERPOLATOR_DISPLAY) return; // then the format is told that it is missing
-    int precision = request.given & INTERPOLATOR_PRECISION ? static_cast<int>(request.precision) : 2;
-    char text[400];
-    int length = std::snprintf(text, sizeof text, "%*.*f", static_cast<int>(request.width), precision, price);
-    texts.emplace_back(text, static_cast<std::size_t>(length));
-    requests.push_back(request);
-  }
-
-  std::vector<std::string> texts;
-  std::vector<interpolator_request> requests;
-  std::vector<interpolator_lent> lent;
-};
-
-int main() {
-  const std::string_view format = "{what}: {price:>10.2} each, {price:.0} rounded";
-  Price price(format, "price", 3.14159);
-  interpolator_field fields[] = {interpolator_text("what", "pie"), price.field("price")};
-  std::string room(200, '\0');
-  auto got = interpolator_format(format.data(), format.size(), fields, 2, nullptr, 0, room.data(), room.size());
-  room.resize(got.code == INTERPOLATOR_OK ? got.length : got.message);
-  std::puts(room.c_str());
-  return got.code != INTERPOLATOR_OK || room != "pie:       3.14 each, 3 rounded";
 }

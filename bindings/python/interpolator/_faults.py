@@ -53,6 +53,8 @@ class FormatError(ValueError):
     """the fault as a compiler shows it: line, column, and the line with its argument marked"""
     trait: Optional[Trait]
     """of a missing trait, which one"""
+    row: Optional[int]
+    """the number of the row of a table that it is in, the first of which is 0; else None"""
 
     __module__ = "interpolator"
 
@@ -64,6 +66,7 @@ class FormatError(ValueError):
         index: int = 0,
         picture: str = "",
         trait: Optional[Trait] = None,
+        row: Optional[int] = None,
     ) -> None:
         super().__init__(message)
         self.message = message
@@ -72,12 +75,14 @@ class FormatError(ValueError):
         self.index = index
         self.picture = picture
         self.trait = trait
+        self.row = row
 
     def __str__(self) -> str:
-        return self.message
+        return self.message if self.row is None else f"{self.message}, in row {self.row}"
 
     def __reduce__(self) -> Tuple[Any, ...]:
-        parts = (self.message, self.code, self.place, self.index, self.picture, self.trait)
+        parts = (
+            self.message, self.code, self.place, self.index, self.picture, self.trait, self.row)
         return type(self), parts
 
 
@@ -158,7 +163,8 @@ def fault(
     index: int = 0,
     picture: str = "",
     detail: int = 0,
+    row: Optional[int] = None,
 ) -> FormatError:
     """The exception for a code."""
     trait = Trait(detail) if code == Code.MISSING_TRAIT else None
-    return _CLASSES.get(code, FormatError)(message, code, place, index, picture, trait)
+    return _CLASSES.get(code, FormatError)(message, code, place, index, picture, trait, row)

@@ -12,7 +12,7 @@ import ctypes
 import ctypes.util
 import os
 from pathlib import Path
-from typing import Any, Dict, List
+from typing import Any, Callable, Dict, List, Tuple
 
 VERSION = 1
 
@@ -209,6 +209,21 @@ def _agree(library: ctypes.CDLL, path: str) -> None:
         if there != here:
             raise ImportError(
                 f"{path} lays out its structs otherwise: {name} is {there}, not {here}")
+
+
+def with_room(
+    call: Callable[..., Answer], given: Tuple[Any, ...], guess: int
+) -> Tuple[Answer, Any, int]:
+    """Calls a function with a room, and once more if its text does not fit. Returns its answer, the
+    room, and how many bytes at its front are the text's or the sentence's."""
+    size = guess
+    while True:
+        room = ctypes.create_string_buffer(size)
+        answer = call(*given, room, size)
+        length = answer.message if answer.code else answer.length
+        if length <= size:
+            return answer, room, length
+        size = length
 
 
 def load() -> ctypes.CDLL:

@@ -162,9 +162,10 @@ def text_for(value: Any, request: Request) -> str:
 
     Under `{:?}` it is `repr(value)`, padded like a text; a `float` or an `int` is debugged as it is
     displayed. Under any other trait it is `format(value, spec)` with the same spec in Python's
-    form; a precision of a number counts the digits after the point. A date or a time, and a value
-    whose type does not say how it is formatted, is displayed as `format(value, "")`, padded here,
-    since its `__format__` does not know widths. What a whole number or a text ignores is left out.
+    form; a precision of a number counts the digits after the point. These are displayed as
+    `format(value, "")`, padded here, since their `__format__` does not know widths: a date or a time,
+    a value whose type does not say how it is formatted, and a text or a whole number whose type has
+    a `__str__` of its own. What a whole number or a text ignores is left out.
 
     >>> text_for(3.14159, Request(width=8, precision=2))
     '    3.14'
@@ -173,28 +174,108 @@ def text_for(value: Any, request: Request) -> str:
     >>> text_for(None, Request(trait=Trait.DEBUG, width=6))
     'None  '
     """
-    if isinstance(value, int):
-        request = request._replace(precision=None)
-    elif isinstance(value, str):
+    if isinstance(value, int) and type(value).__format__ is int.__format__:
+        text = _whole_number(value, request)
+        if text is not None:
+            return text
+    if isinstance(value, str):
         request = request._replace(sign="", alternate=False, zero=False)
     if request.trait == Trait.DEBUG:
-        if type(value).__repr__ not in (int.__repr__, float.__repr__):
+        its: Any = type(value)
+        if its.__repr__ not in (int.__repr__, float.__repr__):
             return padded(repr(value), request)
         request = request._replace(trait=_DEBUGS[request.hex_debug])
     if request.trait == Trait.DISPLAY and _leaves_padding(value):
         return padded(format(value, ""), request)
+    if isinstance(value, int) and not _says_how(value):
+        request = request._replace(precision=None)
     return format(value, python_spec(request, fixed=isinstance(value, numbers.Number)))
+
+
+def float_spec(request: Request) -> str:
+    """The spec by which `format()` makes the text of a `float` for a request, as `text_for` does.
+
+    >>> float_spec(Request(trait=Trait.DEBUG, width=8, precision=2))
+    '8.2f'
+    """
+    if request.trait == Trait.DEBUG:
+        request = request._replace(trait=_DEBUGS[request.hex_debug])
+    return python_spec(request, fixed=True)
 
 
 # What a number is debugged as.
 _DEBUGS = {"": Trait.DISPLAY, "x": Trait.LOWER_HEX, "X": Trait.UPPER_HEX}
 
+_BASES = (Trait.BINARY, Trait.OCTAL, Trait.LOWER_HEX, Trait.UPPER_HEX)
+
+
+def _whole_number(value: int, request: Request) -> Optional[str]:
+    """The text of a whole number where Python would make another one than the library does of
+    those that it writes itself: in exponent form, and of a negative one in two's complement."""
+    if request.trait in (Trait.LOWER_EXP, Trait.UPPER_EXP):
+        digits = exponent_form(abs(int(value)), request.precision, _TYPES[request.trait])
+        return _padded_number("-" if value < 0 else "", digits, request)
+    if request.trait in _BASES and -(2**127) <= value < 0:
+        request = request._replace(precision=None)
+        return format(int(value) + 2**128, python_spec(request))
+    return None
+
+
+def exponent_form(number: int, precision: Optional[int], letter: str) -> str:
+    """A whole number that is not negative in exponent form.
+
+    >>> exponent_form(1200, None, "e"), exponent_form(1250, 1, "e"), exponent_form(1350, 1, "E")
+    ('1.2e3', '1.2e3', '1.4E3')
+    >>> exponent_form(996, 1, "e"), exponent_form(12, 3, "e"), exponent_form(0, None, "e")
+    ('1.0e3', '1.200e1', '0e0')
+    """
+    digits = str(number)
+    exponent = len(digits) - 1
+    if precision is None:
+        digits = digits.rstrip("0") or "0"
+    elif precision < exponent:
+        unit = 10 ** (exponent - precision)
+        units, rest = divmod(number, unit)
+        units += 2 * rest > unit or (2 * rest == unit and units % 2)
+        digits = str(units)
+        if len(digits) > precision + 1:
+            digits, exponent = digits[:-1], exponent + 1
+    else:
+        digits = digits.ljust(precision + 1, "0")
+    point = "." if len(digits) > 1 else ""
+    return f"{digits[0]}{point}{digits[1:]}{letter}{exponent}"
+
+
+def _padded_number(sign: str, digits: str, request: Request) -> str:
+    """A number padded as one: at the right, if no alignment is given."""
+    sign = sign or request.sign.replace("-", "")
+    if request.zero:
+        digits = digits.rjust((request.width or 0) - len(sign), "0")
+    aligned = request._replace(alignment=request.alignment or ">", precision=None)
+    return padded(sign + digits, aligned)
+
 
 def _leaves_padding(value: Any) -> bool:
     """Whether the `__format__` of a value does not know widths."""
+    its: Any = type(value)
+    if isinstance(value, (int, str)):
+        plain: Any = int if isinstance(value, int) else str
+        return its.__format__ is plain.__format__ and has_own_str(its, plain)
     if isinstance(value, numbers.Number):
         return False
     return (
         isinstance(value, (datetime.date, datetime.time))
-        or type(value).__format__ is object.__format__
+        or its.__format__ is object.__format__
     )
+
+
+def _says_how(value: Any) -> bool:
+    """Whether a whole number is of a type with a `__format__` of its own, which an enum has from the
+    number."""
+    its: Any = type(value)
+    return its.__format__ is not int.__format__ and not isinstance(value, enum.Enum)
+
+
+def has_own_str(its: Any, plain: Any) -> bool:
+    """Whether a type derived from `int` or `str` says itself how `str()` shows it."""
+    return its.__str__ not in (plain.__str__, plain.__repr__)

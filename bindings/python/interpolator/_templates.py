@@ -3,17 +3,20 @@
 from __future__ import annotations
 
 import ctypes
+import functools
 import itertools
-from collections.abc import Mapping
 from dataclasses import dataclass
 from typing import (
-    Any, Callable, Dict, Iterable, Iterator, List, NamedTuple, Optional, Sequence, Tuple, Union,
+    Any, Callable, Dict, Iterable, Iterator, List, Mapping, NamedTuple, Optional, Tuple,
 )
 
 from . import _library as c
 from ._faults import PLACED, SENTENCES, Code, FormatError, fault
-from ._requests import PLAIN_DISPLAY, Request, Trait, request_of
-from ._values import UNUSED, Fields, Uses, bytes_of, encoded, is_list
+from ._plans import Plan, plan_of
+from ._reading import Reading
+from ._requests import Request, request_of
+from ._tables import Columns, Row, Table
+from ._values import UNUSED, Fields, Uses, bytes_of, encoded
 
 # What a format is called in the picture of its fault.
 NAME = "<format>"
@@ -72,13 +75,16 @@ class Template:
     ('name', 'price')
     """
 
-    __slots__ = ("text", "_bytes", "_read", "_arguments")
+    __slots__ = ("text", "_bytes", "_read", "_plan", "_arguments")
 
     def __init__(self, text: str) -> None:
+        if not isinstance(text, str):
+            raise TypeError(f"a format is a str, not {type(text).__name__}")
         self.text = text
         """the text of the format"""
         self._bytes = encoded(text)
-        self._read: Optional[_Read] = None
+        self._read: Optional[Reading] = None
+        self._plan: Optional[Plan] = None
         self._arguments: Optional[Tuple[Argument, ...]] = None
 
     def __repr__(self) -> str:
@@ -99,11 +105,27 @@ class Template:
         return self.format_map(values)
 
     def format_map(self, values: Mapping[str, Any]) -> str:
-        """The text of the format with the values of a mapping, whose names may be any text."""
+        """The text of the format with the values of a mapping, whose names may be any text. Of
+        the mapping those are looked up that the format names, each once, as `mapping[name]`; a
+        KeyError says that it has none."""
+        if type(values) is not dict:
+            found, failures = self._found_in(values)
+            quick = self._quick(found)
+            return self._slow(found, failures) if quick is None else quick
+        quick = self._quick(values) if self._plan is None else self._plan.format(values)
+        return self._slow(values, {}) if quick is None else quick
+
+    def _quick(self, values: Dict[str, Any]) -> Optional[str]:
+        """The text by the extension module; None if it cannot make it, or there is none."""
+        plan = self._planned()
+        return None if plan is None else plan.format(values)
+
+    def _slow(self, values: Dict[str, Any], failures: "_Failures") -> str:
+        """The text by ctypes, or its fault."""
         fields = self._fields_of(values)
         code, answer, text = self._call(_library.interpolator_format, fields)
         if code:
-            raise self._fault(answer, text, fields)
+            raise self._fault(answer, text, fields, failures)
         return text
 
     def check(self, /, **examples: Any) -> None:
@@ -121,10 +143,11 @@ class Template:
 
     def check_map(self, examples: Mapping[str, Any]) -> None:
         """Raises the first fault that the format has with the examples of a mapping."""
-        fields = self._fields_of(examples, are_examples=True)
+        found, failures = self._found_in(examples)
+        fields = self._fields_of(found, are_examples=True)
         code, answer, text = self._call(_library.interpolator_check, fields)
         if code:
-            raise self._fault(answer, text, fields)
+            raise self._fault(answer, text, fields, failures)
 
     def check_alone(self) -> None:
         """Raises the first fault that the format has by itself, whatever the values are.
@@ -135,7 +158,7 @@ class Template:
         interpolator.BrokenFormat: error while parsing input: Format spec at 1 is nether closed with a `}`
         """
         given = (self._bytes, len(self._bytes))
-        answer, room, length = _with_room(_library.interpolator_check_alone, given, 256)
+        answer, room, length = c.with_room(_library.interpolator_check_alone, given, 256)
         if answer.code:
             raise self._fault(answer, ctypes.string_at(room, length).decode(), Fields())
 
@@ -155,7 +178,7 @@ class Template:
         self, source: "Source", examples: Optional[Mapping[str, Any]] = None
     ) -> Iterator[FormatError]:
         """The same, with pictures of a text in which the format begins."""
-        fields = self._fields_of(examples or {}, are_examples=True)
+        fields = self._examples(examples)
         for which in itertools.count():
             code, answer, picture = self._explained(fields, source, which)
             if not code:
@@ -185,7 +208,7 @@ class Template:
         3 | Hello {name
           |       ~^~~~
         """
-        fields = self._fields_of(examples or {}, are_examples=True)
+        fields = self._examples(examples)
         source = Source(name, self.text if text is None else text, first_line, start)
         code, answer, picture = self._explained(fields, source, 0)
         if code in PLACED:
@@ -194,31 +217,17 @@ class Template:
             raise self._fault(answer, picture, fields)
         return None
 
-    def rows(
-        self,
-        columns: Union[Mapping[str, Any], Iterable[Tuple[str, Any]]],
-        cells: Iterable[Sequence[Any]],
-    ) -> List[str]:
+    def rows(self, columns: Columns, cells: Iterable[Row]) -> List[str]:
         """The text of the format for each row of a table. `columns` are the names with an example
-        each, and a row has a cell for each of them, in their order. The format is read and
-        prepared once. A cell may not be a list.
+        each. A row has a cell for each of them in their order, as a tuple has, or by their names,
+        as a dict has; by names it may have others too, and needs none that the format does not
+        use. The format is read once. A cell may not be a list.
 
-        >>> Template("{item}: {n:>3}").rows({"item": "", "n": 0}, [("tea", 5), ("milk", 12)])
+        >>> line = Template("{item}: {n:>3}")
+        >>> line.rows({"item": "", "n": 0}, [("tea", 5), {"n": 12, "item": "milk"}])
         ['tea:   5', 'milk:  12']
         """
-        heads = list(columns.items() if isinstance(columns, Mapping) else columns)
-        if any(is_list(example) for _, example in heads):
-            raise TypeError("a cell of a table may not be a list")
-        examples = self._fields_of(heads, are_examples=True)
-        uses = [self._uses_of(name) for name, _ in heads]
-        table = Fields()
-        count = 0
-        for row in cells:
-            if len(row) != len(heads):
-                raise ValueError(f"row {count} has {len(row)} cells, not {len(heads)}")
-            table.add_row(row, uses)
-            count += 1
-        return self._rows([name for name, _ in heads], examples, table, count)
+        return Table(self, columns).texts(cells)
 
     def cost(self, *, text: int, items: int) -> Cost:
         """How much the format can write at most, with values whose texts have at most `text`
@@ -265,25 +274,46 @@ class Template:
         """A place as an index."""
         return len(self._bytes[:place].decode(errors="ignore"))
 
-    def _reading(self) -> "_Read":
+    def _reading(self) -> Reading:
         if self._read is None:
-            self._read = _Read(self._bytes)
+            self._read = Reading(self._bytes)
         return self._read
+
+    def _planned(self) -> Optional[Plan]:
+        """The quick way over the names of the format, where there is one."""
+        if self._plan is None:
+            self._plan = plan_of(self._bytes, self._reading().uses)
+        return self._plan
 
     def _uses_of(self, name: str) -> Uses:
         """How the format uses a name."""
         return self._reading().uses.get(name, UNUSED)
 
-    def _fields_of(
-        self,
-        values: Union[Mapping[str, Any], Iterable[Tuple[str, Any]]],
-        are_examples: bool = False,
-    ) -> Fields:
-        """The fields of the values under their names."""
+    def _found_in(self, values: Mapping[str, Any]) -> Tuple[Dict[str, Any], "_Failures"]:
+        """The values of a mapping under the names that the format uses, and why there are not
+        others."""
+        failures: _Failures = {}
+        if type(values) is dict:
+            return values, failures
+        found = {}
+        for name in self._reading().uses:
+            try:
+                found[name] = values[name]
+            except KeyError as cause:
+                failures[name] = cause
+        return found, failures
+
+    def _fields_of(self, values: Dict[str, Any], are_examples: bool = False) -> Fields:
+        """The fields of the values that the format uses, under their names."""
         fields = Fields(are_examples)
-        for name, value in values.items() if isinstance(values, Mapping) else values:
-            fields.add(name, value, self._uses_of)
+        for name, uses in self._reading().uses.items():
+            if name in values:
+                fields.add(name, values[name], uses)
         return fields
+
+    def _examples(self, examples: Optional[Mapping[str, Any]]) -> Fields:
+        found, _ = self._found_in({} if examples is None else examples)
+        return self._fields_of(found, are_examples=True)
 
     def _call(
         self,
@@ -296,8 +326,12 @@ class Template:
         sentence."""
         row, items = fields.fields(), fields.items()
         given = (*before, self._bytes, len(self._bytes), row, len(row), items, len(items), *after)
-        answer, room, length = _with_room(call, given, len(self._bytes) + 256)
+        answer, room, length = c.with_room(call, given, len(self._bytes) + 256)
         return answer.code, answer, ctypes.string_at(room, length).decode()
+
+    def _has_fault(self, fields: Fields) -> bool:
+        """Whether the format has a fault over fields as examples."""
+        return self._explained(fields, Source(NAME, self.text), 0)[0] in PLACED
 
     def _explained(
         self, fields: Fields, source: "Source", which: int
@@ -305,68 +339,49 @@ class Template:
         before = (ctypes.byref(source.struct()),)
         return self._call(_library.interpolator_explain, fields, before, (which,))
 
-    def _rows(
-        self, names: List[str], examples: Fields, table: Fields, count: int
-    ) -> List[str]:
-        columns, cells = examples.fields(), table.fields()
-        ends = (ctypes.c_size_t * count)()
-        given = (
-            self._bytes, len(self._bytes), columns, len(columns), cells, len(cells), ends, count)
-        guess = count * (len(self._bytes) + 32) + 256
-        answer, room, length = _with_room(_library.interpolator_rows, given, guess)
-        made = ctypes.string_at(room, length)
-        if answer.code:
-            failed = table.row(answer.row, names)
-            raise self._fault(answer, made.decode(), examples, failed, table)
-        starts = [0, *ends[:-1]]
-        return [made[start:end].decode() for start, end in zip(starts, ends)]
-
     def _fault(
         self,
         answer: c.Answer,
         message: str,
         fields: Fields,
-        row: Optional[Fields] = None,
-        table: Optional[Fields] = None,
+        failures: Optional["_Failures"] = None,
+        row: Optional[int] = None,
     ) -> FormatError:
-        """The exception for what a call over fields returned; of a table they are its examples, and
-        `row` is the row that a fault may be in."""
+        """The exception for what a call over fields returned."""
         code = Code(answer.code)
         message = message or SENTENCES.get(code, "")
         if code not in PLACED:
             return fault(code, message, picture=f"{NAME}: {message}")
         index = self._index(answer.place)
-        picture = self._picture(answer, message, [fields] + ([row] if row else []))
-        found = fault(code, message, answer.place, index, picture, answer.detail)
+        picture = self._picture(answer, message, fields)
+        found = fault(code, message, answer.place, index, picture, answer.detail, row)
         if code == Code.FMT:
-            found.__cause__ = self._cause(answer, fields, table)
+            found.__cause__ = self._cause(answer, fields)
+        elif code == Code.MISSING_VALUE and failures:
+            found.__cause__ = failures.get(self._reading().name_at(answer.place))
         return found
 
-    def _picture(self, answer: c.Answer, message: str, candidates: List[Fields]) -> str:
+    def _picture(self, answer: c.Answer, message: str, fields: Fields) -> str:
         """The picture of a fault: that of one of the faults over the values as examples, among which
         it is."""
         source = Source(NAME, self.text)
-        for fields in candidates:
-            for which in itertools.count():
-                code, explained, picture = self._explained(fields, source, which)
-                if (code, explained.place) == (answer.code, answer.place):
-                    return picture
-                if code not in PLACED:
-                    break
-        return f"{NAME}: {message}"
+        wanted = (answer.code, answer.place, answer.detail)
+        for which in itertools.count():
+            code, explained, picture = self._explained(fields, source, which)
+            if (code, explained.place, explained.detail) == wanted:
+                return picture
+            if code not in PLACED:
+                return f"{NAME}: {message}"
+        raise AssertionError
 
-    def _cause(
-        self, answer: c.Answer, fields: Fields, table: Optional[Fields]
-    ) -> Optional[Exception]:
+    def _cause(self, answer: c.Answer, fields: Fields) -> Optional[Exception]:
         """What the `__format__` raised of the value that failed at a place."""
         used = self._reading().used_at(answer.place)
-        if used is None:
-            return None
-        uses, request = used
-        cause = fields.failure(uses, request)
-        if cause is None and table is not None:
-            cause = table.failure(uses, request, answer.row)
-        return cause
+        return fields.failure(*used) if used else None
+
+
+# Why a mapping has no value under a name.
+_Failures = Dict[str, KeyError]
 
 
 class Source:
@@ -395,51 +410,6 @@ class Source:
         return message[: -len(note)] if self._start else message
 
 
-class _Read:
-    """The arguments of a format, and how it uses each name."""
-
-    __slots__ = ("structs", "uses", "_used")
-
-    def __init__(self, text: bytes) -> None:
-        self.structs = _arguments_of(text)
-        self.uses: Dict[str, Uses] = {}
-        # of each argument the place of its name, whose value it writes, and how
-        self._used: List[Tuple[int, Uses, Request]] = []
-        self._read(text)
-
-    def _read(self, text: bytes) -> None:
-        # the item formats around an argument, each with its end and how its items are used
-        around: List[Tuple[int, Uses]] = []
-        for struct in self.structs:
-            while around and struct.name_first > around[-1][0]:
-                around.pop()
-            name = text[struct.name_first : struct.name_end].decode()
-            if name or not around:
-                uses = self.uses.setdefault(name, Uses())
-            else:
-                uses = around[-1][1]
-            request = request_of(struct.request)
-            self._used.append((struct.name_first, uses, request))
-            if request.trait != Trait.LIST:
-                uses.requests[request] = None
-            elif struct.item_first:
-                around.append((struct.item_end, uses.of_items()))
-            else:
-                uses.of_items().requests[PLAIN_DISPLAY] = None
-
-    def used_at(self, place: int) -> Optional[Tuple[Uses, Request]]:
-        """Whose value the argument writes that has the byte after its spec here, and how."""
-        found = None
-        for first, uses, request in self._used:
-            if first > place:
-                break
-            found = uses, request
-        if found and found[1].trait == Trait.LIST and found[0].items:
-            # items that are displayed plainly
-            return found[0].items, PLAIN_DISPLAY
-        return found
-
-
 def _count(number: int) -> int:
     """A count as the library takes it."""
     if number < 0:
@@ -447,29 +417,20 @@ def _count(number: int) -> int:
     return min(number, c.SIZE_MAX)
 
 
-def _arguments_of(text: bytes) -> List[c.Argument]:
-    """The arguments of a format, of which each begins with a brace of its own."""
-    places = (c.Argument * text.count(b"{"))()
-    answer = _library.interpolator_arguments(text, len(text), places, len(places))
-    # a format that is not UTF-8 has none, and its fault is raised where it is used
-    if answer.code == Code.NO_MEMORY:
-        raise fault(Code.NO_MEMORY, SENTENCES[Code.NO_MEMORY])
-    return places[: answer.length] if answer.code == 0 else []
+# The longest format that is kept.
+_LONGEST_KEPT = 4096
 
 
-def _with_room(
-    call: Callable[..., c.Answer], given: Tuple[Any, ...], guess: int
-) -> Tuple[c.Answer, Any, int]:
-    """Calls a function with a room, and once more if its text does not fit. Returns its answer, the
-    room, and how many bytes at its front are the text's or the sentence's."""
-    size = guess
-    while True:
-        room = ctypes.create_string_buffer(size)
-        answer = call(*given, room, size)
-        length = answer.message if answer.code else answer.length
-        if length <= size:
-            return answer, room, length
-        size = length
+@functools.lru_cache(maxsize=256)
+def _kept(text: str) -> Template:
+    return Template(text)
+
+
+def _template(text: str) -> Template:
+    """The format of a text, which is read once as long as it is among the last ones."""
+    if type(text) is str and len(text) <= _LONGEST_KEPT:
+        return _kept(text)
+    return Template(text)
 
 
 def format(text: str, /, **values: Any) -> str:
@@ -480,7 +441,7 @@ def format(text: str, /, **values: Any) -> str:
     >>> format("{l:i..-1({:?})(, )} and {l:i-1({:?})}", l=["a", "b", "c"])
     '"a", "b" and "c"'
     """
-    return Template(text).format_map(values)
+    return _template(text).format_map(values)
 
 
 def format_map(text: str, values: Mapping[str, Any], /) -> str:
@@ -489,7 +450,7 @@ def format_map(text: str, values: Mapping[str, Any], /) -> str:
     >>> format_map("{first name}", {"first name": "Ann"})
     'Ann'
     """
-    return Template(text).format_map(values)
+    return _template(text).format_map(values)
 
 
 def check(text: str, /, **examples: Any) -> None:
@@ -497,17 +458,17 @@ def check(text: str, /, **examples: Any) -> None:
 
     >>> check("{users:i({:>8})(, )}", users=["Ann"])
     """
-    Template(text).check_map(examples)
+    _template(text).check_map(examples)
 
 
 def check_map(text: str, examples: Mapping[str, Any], /) -> None:
     """Raises the first fault that a format has with the examples of a mapping."""
-    Template(text).check_map(examples)
+    _template(text).check_map(examples)
 
 
 def check_alone(text: str, /) -> None:
     """Raises the first fault that a format has by itself: see `Template.check_alone`."""
-    Template(text).check_alone()
+    _template(text).check_alone()
 
 
 def explain(
@@ -520,24 +481,19 @@ def explain(
 ) -> Optional[str]:
     """The first fault that a format has with these examples, as a compiler shows it: see
     `Template.explain`."""
-    return Template(text).explain(examples, name=name, first_line=first_line)
+    return _template(text).explain(examples, name=name, first_line=first_line)
 
 
 def faults(text: str, examples: Optional[Mapping[str, Any]] = None, /) -> List[FormatError]:
     """All faults that a format has with these examples: see `Template.faults`."""
-    return Template(text).faults(examples)
+    return _template(text).faults(examples)
 
 
-def rows(
-    text: str,
-    columns: Union[Mapping[str, Any], Iterable[Tuple[str, Any]]],
-    cells: Iterable[Sequence[Any]],
-    /,
-) -> List[str]:
+def rows(text: str, columns: Columns, cells: Iterable[Row], /) -> List[str]:
     """The text of a format for each row of a table: see `Template.rows`."""
-    return Template(text).rows(columns, cells)
+    return _template(text).rows(columns, cells)
 
 
 def cost(text: str, /, *, text_limit: int, items: int) -> Cost:
     """How much a format can write at most: see `Template.cost`."""
-    return Template(text).cost(text=text_limit, items=items)
+    return _template(text).cost(text=text_limit, items=items)

@@ -5,11 +5,11 @@ from __future__ import annotations
 import ctypes
 from collections import deque
 from dataclasses import dataclass
-from typing import Any, Callable, Deque, Dict, Iterable, List, Optional, Tuple, Union
+from typing import Any, Deque, Dict, Iterable, List, Optional, Tuple, Union
 
 from . import _library as c
 from ._faults import SENTENCES, Code, fault
-from ._requests import Request, Trait, struct_of, text_for
+from ._requests import Request, Trait, has_own_str, struct_of, text_for
 
 
 @dataclass(frozen=True)
@@ -148,12 +148,10 @@ class Fields:
         self._failures: Dict[Tuple[int, int, Request], Exception] = {}
         self._row = -1
 
-    def add(self, name: str, value: Any, uses_of: Callable[[str], Uses]) -> None:
-        """Adds a value under a name. How the name is used is looked up if it matters."""
-        field = _own(value)
-        if field is None:
-            field = self._field(value, uses_of(name), 0)
-            self._lay_lists()
+    def add(self, name: str, value: Any, uses: Uses) -> None:
+        """Adds a value under a name that is used so."""
+        field = self._field(value, uses, 0)
+        self._lay_lists()
         field.name = bytes_of(name)
         self._fields.append(field)
 
@@ -161,8 +159,6 @@ class Fields:
         """Adds the cells of the next row of a table."""
         self._row += 1
         for cell, its_uses in zip(cells, uses):
-            if is_list(cell):
-                raise TypeError("a cell of a table may not be a list")
             self._fields.append(self._field(cell, its_uses, 0))
 
     def fields(self) -> "ctypes.Array[c.Field]":
@@ -180,11 +176,14 @@ class Fields:
         for name, field in zip(named, self._fields[number * len(named) :]):
             field.name = bytes_of(name)
             row._fields.append(field)
+        for (uses, its_row, request), cause in self._failures.items():
+            if its_row == number:
+                row._failures[uses, row._row, request] = cause
         return row
 
-    def failure(self, uses: Uses, request: Request, row: int = -1) -> Optional[Exception]:
-        """Why a value that is used so, in this row of a table, has no text for a request."""
-        return self._failures.get((id(uses), row, request))
+    def failure(self, uses: Uses, request: Request) -> Optional[Exception]:
+        """Why a value that is used so has no text for a request."""
+        return self._failures.get((id(uses), self._row, request))
 
     def _lay_lists(self) -> None:
         """Lays the items of the lists that are waiting, level by level."""
@@ -269,8 +268,12 @@ def _own(value: Any) -> Optional[c.Field]:
 
 
 def _shows_as(its: type, kind: type) -> bool:
-    """Whether a type formats and represents its values as this one does."""
-    return its.__format__ is kind.__format__ and its.__repr__ is kind.__repr__
+    """Whether a type formats, shows and represents its values as this one does."""
+    return (
+        its.__format__ is kind.__format__
+        and its.__repr__ is kind.__repr__
+        and not has_own_str(its, kind)
+    )
 
 
 _LOW = 2**64 - 1

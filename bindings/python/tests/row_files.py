@@ -113,7 +113,8 @@ def value_of(words: List[str]) -> Any:
 def _in_parentheses(words: List[str]) -> List[str]:
     """Takes the words between a parenthesis at the front and the one that closes it."""
     words.pop(0)
-    inside, depth = [], 1
+    inside: List[str] = []
+    depth = 1
     while True:
         word = words.pop(0)
         depth += {"(": 1, ")": -1}.get(word, 0)

@@ -12,7 +12,9 @@ import unittest
 from pathlib import Path
 from typing import Iterable, Tuple
 
-PACKAGE = Path(__file__).resolve().parent.parent
+import interpolator
+
+PACKAGE = Path(interpolator.__file__).resolve().parent.parent
 
 NO_DECLARATIONS = "declarations are `(NAME, NAME:, NAME:., NAME[])`, each name once"
 NO_RULE = "a rule is `NAME == NUMBER ? FORM : .. : FORM`"

@@ -4,7 +4,6 @@ from __future__ import annotations
 
 import doctest
 import importlib
-import pkgutil
 import unittest
 from pathlib import Path
 
@@ -16,12 +15,12 @@ README = Path(__file__).resolve().parent.parent / "README.md"
 class Examples(unittest.TestCase):
     def test_docstrings(self) -> None:
         attempted = 0
-        names = [one.name for one in pkgutil.iter_modules(interpolator.__path__)]
+        # not the library, whose name is that of a module too
+        names = [path.stem for path in Path(interpolator.__file__).parent.glob("_[!_]*.py")]
         for name in ["interpolator", *(f"interpolator.{name}" for name in names)]:
-            if name != "interpolator.__main__":
-                result = doctest.testmod(importlib.import_module(name))
-                self.assertEqual(0, result.failed, name)
-                attempted += result.attempted
+            result = doctest.testmod(importlib.import_module(name))
+            self.assertEqual(0, result.failed, name)
+            attempted += result.attempted
         self.assertGreaterEqual(attempted, 30)
 
     def test_readme(self) -> None:

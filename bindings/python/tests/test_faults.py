@@ -14,7 +14,7 @@ from interpolator import (
     UnsupportedOption, check, check_alone, explain, format,
 )
 
-PACKAGE = Path(__file__).resolve().parent.parent
+PACKAGE = Path(interpolator.__file__).resolve().parent.parent
 
 
 class Classes(unittest.TestCase):
@@ -83,7 +83,7 @@ class Classes(unittest.TestCase):
 
 class Checks(unittest.TestCase):
     def test_no_fault(self) -> None:
-        self.assertIsNone(check("{n:>5x} {t:?} {l:i({:.1})}", n=0, t="", l=[0.5, "a"]))
+        check("{n:>5x} {t:?} {l:i({:.1})}", n=0, t="", l=[0.5, "a"])
 
     def test_a_group_that_is_not_written_is_checked(self) -> None:
         text = "{l:i({:x})}"
@@ -164,6 +164,16 @@ class Pictures(unittest.TestCase):
             "  |\n"
             "2 |  {x}\n"
             "  |  ~^~", raised.exception.picture)
+
+    def test_says_what_the_message_says(self) -> None:
+        # of some formats two faults are at one place
+        for text in ("{l:i({:i})}", "{l:i({:x})}", "{l:i({:i({:x})})}", "{l:i}", "{l:i({})({:b})}", "{l:?}{l:x}"):
+            for value in ([1, "a"], ["a", [1]], [[1], "a", 2], 7, "a", [[["a"]]], [0.5]):
+                try:
+                    format(text, l=value)
+                except FormatError as error:
+                    with self.subTest(text, value=value):
+                        self.assertIn(f": {error.message}\n", error.picture)
 
     def test_without_a_place(self) -> None:
         with self.assertRaises(NotUtf8) as raised:

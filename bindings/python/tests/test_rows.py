@@ -57,8 +57,8 @@ def fault_of(words: List[str]) -> Optional[Tuple[Code, int, str]]:
     if kind == "ok":
         return None
     if kind == "Parse":
-        place, text = parse_fault(words)
-        return Code.PARSE, place, f"error while parsing input: {text}"
+        at, text = parse_fault(words)
+        return Code.PARSE, at, f"error while parsing input: {text}"
     if kind == "MissingValue":
         name, place = text_of(words), words.pop(0)
         return Code.MISSING_VALUE, int(place), f"specified value not in context `{name}` at {place}"
@@ -104,7 +104,9 @@ def request_of(trait: Trait, words: List[str]) -> Request:
         elif word == "0":
             request = request._replace(zero=True)
         elif word in ("width", "precision"):
-            request = request._replace(**{word: int(words.pop(0))})
+            number = int(words.pop(0))
+            request = (request._replace(width=number) if word == "width"
+                       else request._replace(precision=number))
         else:
             request = request._replace(hex_debug=word[0])
     return request
@@ -171,7 +173,8 @@ class Rows(unittest.TestCase):
             self.assertEqual(fault_of(facts["check"]), raised(template.check_alone))
             self.counts["check"] += 1
         if "names" in facts:
-            words, names = list(facts["names"]), {}
+            words = list(facts["names"])
+            names: Dict[str, None] = {}
             while words:
                 names[text_of(words)] = None
             self.assertEqual(tuple(names), template.names)

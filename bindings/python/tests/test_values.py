@@ -9,7 +9,7 @@ import enum
 import fractions
 import unittest
 import uuid
-from typing import List, NamedTuple
+from typing import Any, List, NamedTuple
 
 from interpolator import (
     Character, Code, Integer, MissingTrait, Only, Plain, TooDeep, Trait, ValueFailed,
@@ -150,7 +150,7 @@ class Lists(unittest.TestCase):
         self.assertRaises(MissingTrait, format, "{n:i}", n=1)
 
     def test_lists_as_deep_as_the_format_looks(self) -> None:
-        ring: list = []
+        ring: List[Any] = []
         ring.append(ring)
         self.assertEqual(";", format("{l:i#({:i(x)(,)})#(;)}", l=[[], []]))
         self.assertEqual("x", format("{l:i#({:i(x)})#}", l=ring))
@@ -259,6 +259,39 @@ class OtherValues(unittest.TestCase):
 
         # a text ignores the sign, `#` and `0`
         self.assertEqual("pass|pas  |Secret(..)", format("{s}|{s:+#05.3}|{s:?}", s=Secret("pass")))
+
+    def test_texts_and_numbers_that_say_how_they_are_shown(self) -> None:
+        class Shouted(str):
+            def __str__(self) -> str:
+                return self.upper()
+
+        class Counted(int):
+            def __str__(self) -> str:
+                return f"no. {int(self)}"
+
+        class Priced(int):
+            def __format__(self, spec: str) -> str:
+                return f"{self / 100:{spec}} EUR"
+
+        self.assertEqual(f"{Shouted('ab')}|AB..", format("{s}|{s:.<4}", s=Shouted("ab")))
+        self.assertEqual(f"{Counted(7)}| no. 7", format("{n}|{n:>6}", n=Counted(7)))
+        self.assertEqual("7e0 0x7", format("{n:e} {n:#x}", n=Counted(7)))
+        self.assertEqual("12.50 EUR|   12.5 EUR", format("{p:.2}|{p:7}", p=Priced(1250)))
+        self.assertEqual("NO. 7", format("{l:i}", l=[Shouted("no. 7")]))
+
+    def test_an_exponent_has_one_form(self) -> None:
+        class Own(int):
+            def __repr__(self) -> str:
+                return "Own"
+
+        for number in (0, 5, -1200, 1250, 99950, 10**30 + 1):
+            for spec in ("e", "E", ".0e", ".2E", "+.3e", "012.1e", "<12e", "*^+14.2e"):
+                with self.subTest(number, spec=spec):
+                    text = f"{{n:{spec}}}"
+                    self.assertEqual(format(text, n=number), format(text, n=Own(number)))
+        self.assertEqual("1e60 -1.3e60 1.50E129", format(
+            "{a:e} {b:.1e} {c:.2E}", a=10**60, b=-125 * 10**58 - 1, c=15 * 10**128))
+        self.assertEqual("f" * 31 + "e", format("{n:x}", n=Own(-2)))
 
     def test_a_value_that_fails(self) -> None:
         with self.assertRaises(ValueFailed) as raised:

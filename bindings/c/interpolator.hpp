@@ -1,0 +1,660 @@
+// interpolator.hpp: interpolator.h for C++17, by the types of the standard library.
+//
+// A format and named values go in; a std::string comes out, or an exception of the class `error`:
+//
+//   std::string text = interpolator::format("{name:>8}: {l:i({})(, )}", {{"name", "Ann"}, {"l", {1, 2}}});
+//
+// A `value` views a string literal or a std::string_view, which has to live until the last call with it; a
+// std::string it keeps. Nothing else has to be freed or kept.
+#ifndef INTERPOLATOR_HPP
+#define INTERPOLATOR_HPP
+#include "interpolator.h"
+
+#include <algorithm>
+#include <charconv>
+#include <cmath>
+#include <cstddef>
+#include <cstdint>
+#include <deque>
+#include <functional>
+#include <initializer_list>
+#include <map>
+#include <memory>
+#include <optional>
+#include <stdexcept>
+#include <string>
+#include <string_view>
+#include <type_traits>
+#include <utility>
+#include <variant>
+#include <vector>
+
+namespace interpolator {
+
+// How an argument wants its value written: its trait, and its spec.
+using request = interpolator_request;
+
+// No printer is asked for a text under a greater width or precision, and no floating number has one: the
+// format then has the fault MISSING_TRAIT at that argument. The same limit is that of Rust's own formats.
+inline constexpr std::size_t most_width = 65535;
+
+// ---- Texts that a program makes
+
+// A text cut to the precision of a request, and padded to its width as a text is.
+inline std::string padded(std::string_view text, const request &asked);
+
+// A number without its sign, padded to the width of a request as a number is: with its sign, zeros or the
+// fill, at the right if no alignment is given. (The precision is for whoever made the digits.)
+inline std::string padded_number(bool negative, std::string_view digits, const request &asked);
+
+namespace detail {
+
+// How many characters a text in UTF-8 has.
+inline std::size_t characters(std::string_view text) {
+  return static_cast<std::size_t>(
+      std::count_if(text.begin(), text.end(), [](char byte) { return (byte & 0xC0) != 0x80; }));
+}
+
+// A character in UTF-8.
+inline std::string encoded(std::uint32_t code) {
+  const auto part = [&](int shift, std::uint32_t mark) {
+    return static_cast<char>(mark | (mark == 0x80 ? code >> shift & 0x3F : code >> shift));
+  };
+  if (code < 0x80) return {static_cast<char>(code)};
+  if (code < 0x800) return {part(6, 0xC0), part(0, 0x80)};
+  if (code < 0x10000) return {part(12, 0xE0), part(6, 0x80), part(0, 0x80)};
+  return {part(18, 0xF0), part(12, 0x80), part(6, 0x80), part(0, 0x80)};
+}
+
+// A text between the fill of a request; `otherwise` is the alignment of a request that gives none.
+inline std::string aligned(std::string_view text, const request &asked, std::uint32_t otherwise) {
+  const std::size_t length = characters(text);
+  const std::size_t missing = asked.width > length ? asked.width - length : 0;
+  const std::uint32_t alignment = asked.alignment ? asked.alignment : otherwise;
+  const std::size_t before = alignment == 3 ? missing : alignment == 2 ? missing / 2 : 0;
+  const std::string fill = asked.fill == INTERPOLATOR_NO_FILL ? " " : encoded(asked.fill);
+  std::string made;
+  for (std::size_t k = 0; k < before; k++) made += fill;
+  made += text;
+  for (std::size_t k = before; k < missing; k++) made += fill;
+  return made;
+}
+
+}  // namespace detail
+
+inline std::string padded(std::string_view text, const request &asked) {
+  if (asked.given & INTERPOLATOR_PRECISION) {
+    std::size_t end = 0, kept = 0;
+    for (; end < text.size(); end++)
+      if ((text[end] & 0xC0) != 0x80 && kept++ == asked.precision) break;
+    text = text.substr(0, end);
+  }
+  return detail::aligned(text, asked, 1);
+}
+
+inline std::string padded_number(bool negative, std::string_view digits, const request &asked) {
+  std::string made = negative ? "-" : asked.sign == 1 ? "+" : "";
+  const std::size_t length = made.size() + detail::characters(digits);
+  if (asked.zero && asked.width > length) made.append(asked.width - length, '0');
+  made += digits;
+  return detail::aligned(made, asked, 3);
+}
+
+// ---- Floating numbers, as Rust writes them
+
+namespace detail {
+
+// More digits than these of a double are zeros, after the point, and after the first digit.
+inline constexpr std::size_t most_digits = 1100;
+
+// A number in exponent form without the point, with so many digits after the first; exact ones.
+inline std::string digits_with_exponent(double number, std::size_t precision) {
+  char text[most_digits + 50];
+  const auto end = std::to_chars(text, text + sizeof text, number, std::chars_format::scientific,
+                                 static_cast<int>(precision)).ptr;
+  std::string made(text, end);
+  if (precision) made.erase(1, 1);
+  return made;
+}
+
+// The shortest digits that are read as a number again, and the power of ten of the first one.
+struct shortest {
+  std::string digits;
+  int power = 0;
+};
+
+// Whether a number lies in the middle between these digits and the next ones.
+inline bool is_in_the_middle(double number, const std::string &digits) {
+  const std::string next = digits_with_exponent(number, digits.size());
+  if (next[digits.size()] != '5' || next.compare(0, digits.size(), digits) != 0) return false;
+  const std::string all = digits_with_exponent(number, most_digits);
+  return all[digits.size()] == '5' && all.find_first_not_of('0', digits.size() + 1) == most_digits + 1;
+}
+
+// Of a number that is finite and not negative. Of two that are equally near Rust takes the greater one.
+template <class Number> shortest shortest_of(Number number) {
+  char text[64];
+  const auto end = std::to_chars(text, text + sizeof text, number, std::chars_format::scientific).ptr;
+  shortest made;
+  const char *at = text;
+  for (; at != end && *at != 'e'; at++)
+    if (*at != '.') made.digits += *at;
+  const bool below = at + 1 < end && at[1] == '-';
+  std::from_chars(at + 2, end, made.power);
+  if (below) made.power = -made.power;
+  if (is_in_the_middle(static_cast<double>(number), made.digits)) made.digits.back()++;
+  return made;
+}
+
+// The digits of a number with a point, and none of zeros after it but for `least` of them.
+inline std::string with_point(const shortest &of, std::size_t least) {
+  std::string made = of.digits;
+  if (of.power < 0) {
+    made.insert(0, static_cast<std::size_t>(-of.power), '0');
+  } else if (made.size() <= static_cast<std::size_t>(of.power)) {
+    made.append(static_cast<std::size_t>(of.power) + 1 - made.size(), '0');
+  }
+  const std::size_t whole = of.power < 0 ? 1 : static_cast<std::size_t>(of.power) + 1;
+  const std::size_t after = made.size() - whole;
+  if (after < least) made.append(least - after, '0');
+  if (made.size() > whole) made.insert(whole, 1, '.');
+  return made;
+}
+
+inline std::string with_exponent(const shortest &of) {
+  std::string made = of.digits;
+  if (made.size() > 1) made.insert(1, 1, '.');
+  return made + 'e' + std::to_string(of.power);
+}
+
+// The digits of a number with so many after the point, or in exponent form after the first.
+inline std::string exact(double number, std::size_t precision, bool exponent) {
+  char text[most_digits + 400];
+  const auto form = exponent ? std::chars_format::scientific : std::chars_format::fixed;
+  const int digits = static_cast<int>(std::min(precision, most_digits));
+  const auto end = std::to_chars(text, text + sizeof text, number, form, digits).ptr;
+  std::string made(text, end);
+  const std::size_t zeros = precision - static_cast<std::size_t>(digits);
+  if (!exponent) return made.append(zeros, '0');
+  const std::size_t at = made.find('e');
+  int power = 0;
+  std::from_chars(made.data() + at + 2, made.data() + made.size(), power);
+  const bool below = made[at + 1] == '-';
+  return made.substr(0, at).append(zeros, '0') + (below ? "e-" : "e") + std::to_string(power);
+}
+
+// The digits of a finite number that is not negative, for a request.
+template <class Number> std::string digits_of(Number number, const request &asked) {
+  const bool exponent = asked.slot == INTERPOLATOR_LOWER_EXP || asked.slot == INTERPOLATOR_UPPER_EXP;
+  if (asked.given & INTERPOLATOR_PRECISION)
+    return exact(static_cast<double>(number), asked.precision, exponent);
+  const shortest of = shortest_of(number);
+  if (exponent) return with_exponent(of);
+  if (asked.slot == INTERPOLATOR_DISPLAY) return with_point(of, 0);
+  return number == 0 || (of.power >= -4 && of.power < 16) ? with_point(of, 1) : with_exponent(of);
+}
+
+// The text of a floating number for a request: under `{}`, `{:?}`, `{:e}` and `{:E}`.
+template <class Number> std::optional<std::string> floating_text(Number number, const request &asked) {
+  if (asked.slot != INTERPOLATOR_DISPLAY && asked.slot != INTERPOLATOR_DEBUG &&
+      asked.slot != INTERPOLATOR_LOWER_EXP && asked.slot != INTERPOLATOR_UPPER_EXP)
+    return std::nullopt;
+  if (std::isnan(number)) {
+    request unsigned_one = asked;
+    unsigned_one.sign = 0;
+    return padded_number(false, "NaN", unsigned_one);
+  }
+  if (std::isinf(number)) return padded_number(std::signbit(number), "inf", asked);
+  std::string digits = digits_of(std::abs(number), asked);
+  if (asked.slot == INTERPOLATOR_UPPER_EXP)
+    std::replace(digits.begin(), digits.end(), 'e', 'E');
+  return padded_number(std::signbit(number), digits, asked);
+}
+
+template <class Type> inline constexpr bool is_character =
+    std::is_same_v<Type, char> || std::is_same_v<Type, char16_t> || std::is_same_v<Type, char32_t> ||
+    std::is_same_v<Type, wchar_t>;
+
+template <class Type> inline constexpr bool is_whole =
+    std::is_integral_v<Type> && !std::is_same_v<Type, bool> && !is_character<Type> && sizeof(Type) <= 8;
+
+template <class Type, class = void> inline constexpr bool is_range = false;
+template <class Type> inline constexpr bool is_range<
+    Type, std::void_t<decltype(std::declval<const Type &>().begin()), decltype(std::declval<const Type &>().end())>> =
+    !std::is_convertible_v<Type, std::string_view>;
+
+}  // namespace detail
+
+// ---- Values
+
+// Makes the text of a value for a request. Without one the format has the fault MISSING_TRAIT there.
+using printer = std::function<std::optional<std::string>(const request &)>;
+
+// A value: a text, a whole number, a truth value, a character, a floating number, a list, or what a
+// printer prints.
+class value {
+public:
+  // An empty list.
+  value() : value(std::vector<value>()) {}
+  value(const char *text) : value(std::string_view(text)) {}
+  value(std::string_view text) : kind_(INTERPOLATOR_TEXT), of_(text) {}
+  value(std::string text) : kind_(INTERPOLATOR_TEXT), of_(std::move(text)) {}
+  value(std::initializer_list<value> items) : value(std::vector<value>(items)) {}
+  value(std::vector<value> items) : kind_(INTERPOLATOR_LIST), of_(std::move(items)) {}
+
+  // A truth value, and nothing that only converts to one.
+  template <class Truth, std::enable_if_t<std::is_same_v<Truth, bool>, int> = 0>
+  value(Truth truth) : kind_(INTERPOLATOR_TRUTH), of_(whole{0, truth, 0}) {}
+
+  // A character. A `char` past ASCII is none: to write it is the fault FMT.
+  template <class Character, std::enable_if_t<detail::is_character<Character>, long> = 0>
+  value(Character character) : kind_(INTERPOLATOR_CHARACTER), of_(whole{0, code_of(character), 0}) {}
+
+  // A whole number of 8 to 64 bits.
+  template <class Number, std::enable_if_t<detail::is_whole<Number>, short> = 0>
+  value(Number number) : kind_(kind_of<Number>()), of_(whole_of(number)) {}
+
+#ifdef __SIZEOF_INT128__
+  __extension__ value(__int128 number)
+      : kind_(INTERPOLATOR_SIGNED128),
+        of_(whole{static_cast<std::int64_t>(number >> 64), static_cast<std::uint64_t>(number), 0}) {}
+  __extension__ value(unsigned __int128 number)
+      : kind_(INTERPOLATOR_UNSIGNED128),
+        of_(whole{0, static_cast<std::uint64_t>(number), static_cast<std::uint64_t>(number >> 64)}) {}
+#endif
+
+  // A floating number, written as Rust writes it.
+  value(double number) : kind_(INTERPOLATOR_LENT), of_(number) {}
+  value(float number) : kind_(INTERPOLATOR_LENT), of_(number) {}
+
+  // What a printer prints.
+  template <class Printer, std::enable_if_t<
+      std::is_invocable_r_v<std::optional<std::string>, const Printer &, const request &>, char> = 0>
+  value(Printer print) : kind_(INTERPOLATOR_LENT), of_(printer(std::move(print))) {}
+
+  // The items of a container.
+  template <class Range, std::enable_if_t<detail::is_range<Range>, int *> = nullptr>
+  value(const Range &items) : value(std::vector<value>(items.begin(), items.end())) {}
+
+  // A text that is written as it is, without padding and quotes.
+  static value plain(std::string text) {
+    value made(std::move(text));
+    made.kind_ = INTERPOLATOR_PLAIN;
+    return made;
+  }
+
+  // The same value, which a format may write under these slots alone: INTERPOLATOR_SLOT_DISPLAY ..
+  value only(std::uint32_t slots) && {
+    slots_ = slots;
+    return std::move(*this);
+  }
+
+  // What a call needs of it.
+  struct whole {
+    std::int64_t number;
+    std::uint64_t natural, upper;
+  };
+  std::uint32_t kind() const { return kind_; }
+  std::uint32_t slots() const { return slots_; }
+  const std::vector<value> *items() const { return std::get_if<std::vector<value>>(&of_); }
+  const whole *number() const { return std::get_if<whole>(&of_); }
+  std::string_view text() const {
+    if (const auto *view = std::get_if<std::string_view>(&of_)) return *view;
+    if (const auto *kept = std::get_if<std::string>(&of_)) return *kept;
+    return {};
+  }
+  std::optional<std::string> printed(const request &asked) const {
+    if (asked.width > most_width || asked.precision > most_width) return std::nullopt;
+    if (const auto *number = std::get_if<double>(&of_)) return detail::floating_text(*number, asked);
+    if (const auto *number = std::get_if<float>(&of_)) return detail::floating_text(*number, asked);
+    const auto *print = std::get_if<printer>(&of_);
+    return print && *print ? (*print)(asked) : std::nullopt;
+  }
+
+private:
+  template <class Number> static constexpr std::uint32_t kind_of() {
+    if (std::is_unsigned_v<Number>) return INTERPOLATOR_UNSIGNED;
+    return sizeof(Number) == 1   ? INTERPOLATOR_SIGNED8
+           : sizeof(Number) == 2 ? INTERPOLATOR_SIGNED16
+           : sizeof(Number) == 4 ? INTERPOLATOR_SIGNED32
+                                 : INTERPOLATOR_SIGNED64;
+  }
+  template <class Number> static whole whole_of(Number number) {
+    if constexpr (std::is_unsigned_v<Number>) return whole{0, number, 0};
+    else return whole{number, 0, 0};
+  }
+  template <class Character> static std::uint64_t code_of(Character character) {
+    const auto code = static_cast<std::uint32_t>(character);
+    return std::is_same_v<Character, char> && code >= 0x80 ? UINT32_MAX : code;
+  }
+
+  std::uint32_t kind_;
+  std::uint32_t slots_ = 0;
+  std::variant<std::string_view, std::string, whole, double, float, printer, std::vector<value>> of_;
+};
+
+// A value under a name.
+struct field {
+  std::string_view name;
+  value of;
+};
+
+// The fields of a format, `{{"name", "Ann"}, {"n", 7}}`; of two equal names the last counts.
+using fields = std::vector<field>;
+
+// A fault of a format, or of a call: `what()` is its sentence.
+class error : public std::runtime_error {
+public:
+  error(const interpolator_answer &answer, const std::string &sentence)
+      : std::runtime_error(sentence), code(answer.code), detail(answer.detail), place(answer.place),
+        row(answer.row) {}
+
+  const std::uint32_t code;    // INTERPOLATOR_MISSING_TRAIT ..
+  const std::uint32_t detail;  // as interpolator.h says
+  const std::size_t place;     // the byte of the format, of the codes 1 to 5
+  const std::size_t row;       // of `rows`: how many rows come before it
+};
+
+// A text, or what is wrong.
+struct result {
+  interpolator_answer answer;
+  std::string text;  // or the sentence of the fault
+  explicit operator bool() const { return answer.code == INTERPOLATOR_OK; }
+};
+
+namespace detail {
+
+inline const char *sentence_of(std::uint32_t code) {
+  switch (code) {
+  case INTERPOLATOR_NO_MEMORY: return "out of memory";
+  case INTERPOLATOR_NOT_UTF8: return "not UTF-8";
+  case INTERPOLATOR_LISTS: return "lists are nested too deep";
+  case INTERPOLATOR_TABLE: return "a row has not as many cells as there are columns";
+  default: return "a call failed";
+  }
+}
+
+// Calls a function with a room, and again with one that is large enough.
+template <class Call> result answered(Call call, std::size_t guess) {
+  std::string room(guess, '\0');
+  for (;;) {
+    const interpolator_answer answer = call(room.data(), room.size());
+    const std::size_t length = answer.code == INTERPOLATOR_OK && !answer.message ? answer.length : answer.message;
+    const bool fits = length <= room.size();
+    room.resize(length);
+    if (!fits) continue;
+    if (answer.code != INTERPOLATOR_OK && room.empty()) room = sentence_of(answer.code);
+    return {answer, std::move(room)};
+  }
+}
+
+inline std::string text_or_throw(result got) {
+  if (!got) throw error(got.answer, got.text);
+  return std::move(got.text);
+}
+
+inline interpolator_bytes bytes_of(std::string_view text) {
+  return interpolator_span(text.data(), text.size());
+}
+
+// How a format uses a value: under which requests it prints it, and how it uses the items.
+struct uses {
+  std::vector<request> requests;
+  std::unique_ptr<uses> items;
+
+  uses &of_items() {
+    if (!items) items = std::make_unique<uses>();
+    return *items;
+  }
+};
+
+inline const uses &unused() {
+  static const uses none;
+  return none;
+}
+
+inline request plain_display() {
+  request made{};
+  made.fill = INTERPOLATOR_NO_FILL;
+  return made;
+}
+
+inline std::vector<interpolator_argument> arguments_of(std::string_view format) {
+  std::vector<interpolator_argument> found(static_cast<std::size_t>(std::count(format.begin(), format.end(), '{')));
+  const auto got = interpolator_arguments(format.data(), format.size(), found.data(), found.size());
+  if (got.code == INTERPOLATOR_NO_MEMORY) throw error(got, sentence_of(got.code));
+  // a format that is not UTF-8 has none, and its fault is that of the call
+  found.resize(got.code == INTERPOLATOR_OK ? std::min(got.length, found.size()) : 0);
+  return found;
+}
+
+// How a format uses each name.
+class reading {
+public:
+  explicit reading(std::string_view format) {
+    std::vector<std::pair<std::size_t, uses *>> around;  // item formats, each with its end
+    for (const auto &one : arguments_of(format)) {
+      while (!around.empty() && one.name_first > around.back().first) around.pop_back();
+      const auto name = format.substr(one.name_first, one.name_end - one.name_first);
+      uses &of = name.empty() && !around.empty() ? *around.back().second : names_[name];
+      if (one.request.slot != INTERPOLATOR_ITER) of.requests.push_back(one.request);
+      else if (one.item_first) around.emplace_back(one.item_end, &of.of_items());
+      else of.of_items().requests.push_back(plain_display());
+    }
+  }
+
+  const uses &of(std::string_view name) const {
+    const auto found = names_.find(name);
+    return found == names_.end() ? unused() : found->second;
+  }
+
+private:
+  std::map<std::string_view, uses> names_;
+};
+
+inline bool prints(const value &of) {
+  const auto *items = of.items();
+  return items ? std::any_of(items->begin(), items->end(), prints) : of.kind() == INTERPOLATOR_LENT;
+}
+
+// The fields of a call, and what they point to.
+class laid {
+public:
+  laid(std::string_view format, const fields &row) {
+    std::optional<reading> read;
+    for (const auto &one : row) {
+      if (!read && prints(one.of)) read.emplace(format);
+      add(one.name, one.of, read ? read->of(one.name) : unused());
+    }
+    lay_lists();
+  }
+
+  // The cells of a table, which have no items.
+  laid(const std::vector<const uses *> &columns, const std::vector<std::vector<value>> &rows) {
+    for (const auto &row : rows)
+      for (std::size_t k = 0; k < row.size(); k++) add({}, row[k], k < columns.size() ? *columns[k] : unused());
+    lists_.clear();
+  }
+
+  const interpolator_field *row() const { return row_.data(); }
+  std::size_t count() const { return row_.size(); }
+  const interpolator_field *items() const { return items_.data(); }
+  std::size_t item_count() const { return items_.size(); }
+
+private:
+  struct list {
+    bool among_items;
+    std::size_t at;
+    const std::vector<value> *items;
+    const uses *of;
+  };
+
+  void add(std::string_view name, const value &of, const uses &used) {
+    if (of.items()) lists_.push_back({false, row_.size(), of.items(), &used});
+    row_.push_back(made_of(of, used));
+    row_.back().name = bytes_of(name);
+  }
+
+  // The items level by level, as interpolator.h says.
+  void lay_lists() {
+    for (; !lists_.empty(); lists_.pop_front()) {
+      const list next = lists_.front();
+      const std::size_t first = items_.size();
+      const uses &used = next.of->items ? *next.of->items : unused();
+      for (const auto &item : *next.items) {
+        if (item.items()) lists_.push_back({true, items_.size(), item.items(), &used});
+        items_.push_back(made_of(item, used));
+      }
+      interpolator_field &holder = next.among_items ? items_[next.at] : row_[next.at];
+      holder.first = first;
+      holder.end = items_.size();
+    }
+  }
+
+  interpolator_field made_of(const value &of, const uses &used) {
+    interpolator_field made = interpolator_of("", of.kind());
+    made.slots = of.slots();
+    if (const auto *number = of.number()) {
+      made.number = number->number;
+      made.natural = number->natural;
+      made.upper = number->upper;
+    } else if (of.kind() == INTERPOLATOR_LENT) {
+      lend(made, of, used);
+    } else {
+      made.text = bytes_of(of.text());
+    }
+    return made;
+  }
+
+  void lend(interpolator_field &made, const value &of, const uses &used) {
+    std::vector<interpolator_lent> &lent = lent_.emplace_back();
+    for (const auto &asked : used.requests)
+      if (auto text = of.printed(asked)) lent.push_back({asked, bytes_of(texts_.emplace_back(std::move(*text)))});
+    made.lent = lent.data();
+    made.lent_count = lent.size();
+  }
+
+  std::vector<interpolator_field> row_, items_;
+  std::deque<list> lists_;
+  std::deque<std::vector<interpolator_lent>> lent_;
+  std::deque<std::string> texts_;
+};
+
+}  // namespace detail
+
+// ---- Calls
+
+// The text of a format, or its fault.
+inline result try_format(std::string_view format, const fields &row) {
+  const detail::laid of(format, row);
+  return detail::answered([&](char *room, std::size_t size) {
+    return interpolator_format(format.data(), format.size(), of.row(), of.count(), of.items(), of.item_count(),
+                               room, size);
+  }, format.size() + 128);
+}
+
+// The text of a format; a fault is thrown as `error`.
+inline std::string format(std::string_view format, const fields &row) {
+  return detail::text_or_throw(try_format(format, row));
+}
+
+// Throws the first fault that a format has by itself or over a row of examples. If it returns, no row
+// that resembles the examples makes one.
+inline void check(std::string_view format, const fields &examples) {
+  const detail::laid of(format, examples);
+  detail::text_or_throw(detail::answered([&](char *room, std::size_t size) {
+    return interpolator_check(format.data(), format.size(), of.row(), of.count(), of.items(), of.item_count(),
+                              room, size);
+  }, 128));
+}
+
+// Throws the first fault that a format has by itself, whatever the values are.
+inline void check_alone(std::string_view format) {
+  detail::text_or_throw(detail::answered([&](char *room, std::size_t size) {
+    return interpolator_check_alone(format.data(), format.size(), room, size);
+  }, 128));
+}
+
+// All faults that a format has by itself or over a row of examples.
+inline std::vector<interpolator_fault> faults(std::string_view format, const fields &examples) {
+  const detail::laid of(format, examples);
+  std::vector<interpolator_fault> found(8);
+  for (;;) {
+    const auto got = interpolator_faults(format.data(), format.size(), of.row(), of.count(), of.items(),
+                                         of.item_count(), found.data(), found.size());
+    if (got.code != INTERPOLATOR_OK) throw error(got, detail::sentence_of(got.code));
+    const bool fits = got.length <= found.size();
+    found.resize(got.length);
+    if (fits) return found;
+  }
+}
+
+// Where a format is: in a text, such as a line of a file, which begins at this line of what has this name.
+struct source {
+  std::string_view name;
+  std::string_view text;
+  std::size_t first_line = 1;
+  std::size_t start = 0;  // the byte of the text at which the format begins
+};
+
+// A fault as a compiler shows it, or nothing if there are no more than `which` faults.
+inline std::optional<std::string> explain(const source &where, std::string_view format, const fields &examples,
+                                          std::size_t which = 0) {
+  const detail::laid of(format, examples);
+  const interpolator_source from{
+      detail::bytes_of(where.name), detail::bytes_of(where.text), where.first_line, where.start};
+  result got = detail::answered([&](char *room, std::size_t size) {
+    return interpolator_explain(&from, format.data(), format.size(), of.row(), of.count(), of.items(),
+                                of.item_count(), which, room, size);
+  }, 256);
+  if (got) return std::nullopt;
+  if (got.answer.code > INTERPOLATOR_UNSUPPORTED) throw error(got.answer, got.text);
+  return std::move(got.text);
+}
+
+// The text of a format for each row of a table: the columns have a name and an example each, and each row
+// has a cell for each column, none of which is a list. The format is read and prepared once.
+inline std::vector<std::string> rows(std::string_view format, const fields &columns,
+                                     const std::vector<std::vector<value>> &cells) {
+  const detail::laid heads(format, columns);
+  const detail::reading read(format);
+  std::vector<const detail::uses *> used;
+  for (const auto &column : columns) used.push_back(&read.of(column.name));
+  for (std::size_t k = 0; k < cells.size(); k++) {
+    if (cells[k].size() == columns.size()) continue;
+    interpolator_answer wrong{};
+    wrong.code = INTERPOLATOR_TABLE;
+    wrong.row = k;
+    throw error(wrong, detail::sentence_of(wrong.code));
+  }
+  const detail::laid table(used, cells);
+  std::vector<std::size_t> ends(cells.size());
+  const std::string text = detail::text_or_throw(detail::answered([&](char *room, std::size_t size) {
+    return interpolator_rows(format.data(), format.size(), heads.row(), heads.count(), table.row(),
+                             table.count(), ends.data(), ends.size(), room, size);
+  }, cells.size() * (format.size() + 16) + 128));
+  std::vector<std::string> made;
+  for (std::size_t k = 0; k < ends.size(); k++) {
+    const std::size_t start = k ? ends[k - 1] : 0;
+    made.push_back(text.substr(start, ends[k] - start));
+  }
+  return made;
+}
+
+// How much a format can write, over values whose texts have at most `text` characters and whose lists
+// have at most `items` items.
+inline interpolator_cost_answer cost(std::string_view format, std::size_t text, std::size_t items) {
+  const auto got = interpolator_cost(format.data(), format.size(), text, items);
+  if (got.code == INTERPOLATOR_OK) return got;
+  interpolator_answer wrong{};
+  wrong.code = got.code;
+  throw error(wrong, detail::sentence_of(got.code));
+}
+
+// The arguments of a format in order, and after a list those of its item format and of its join.
+inline std::vector<interpolator_argument> arguments(std::string_view format) {
+  return detail::arguments_of(format);
+}
+
+}  // namespace interpolator
+#endif
