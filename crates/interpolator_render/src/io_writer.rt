@@ -23,10 +23,11 @@ const GATHERED: usize = 8192;
 ///
 /// It gathers up to 8 KiB of text in memory, and then passes it on. A longer text is gathered whole.
 /// What the writer below has got is at any time a prefix of the text taken, with nothing left out and
-/// nothing twice.
+/// nothing twice. This holds after every call of the library that is given the writer.
 ///
-/// It refuses a text only if a write below fails or there is no memory for the text, and from then on
-/// every text but the empty one. Once it has refused, it passes nothing on.
+/// It refuses a text only if a write or a flush of the writer below has failed, or if there is no
+/// memory for the text, and from then on every text but the empty one. Once it has refused, it passes
+/// nothing on.
 ///
 /// Dropping it passes nothing on either, so end with [`IoWriter::flush`]: after `Ok`, all the text
 /// taken has been passed on.

@@ -37,7 +37,8 @@ pub(crate) fn refused(answer: Result<(), Refusal>) -> Result<(), RenderFault>
 /// out.room()         // None: it is not bounded
 /// ```
 pub trait TextWrite {
-    // the characters taken so far, and whether a text was refused
+    // the characters taken so far, whether a text was refused, and what no call changes (`plain`
+    // for a writer that has no memory ready for all that it takes, and none below)
     ghost written: { Self → Written };
 
     // how many bytes it takes at most from now on, if it is limited
