@@ -16,5 +16,6 @@ pub mod SinkLemmas
 pub mod AskedGrammarLemmas
 pub mod ListLawLemmas
 pub mod ListLemmas
+pub mod ListPlaceLemmas
 pub mod LookUpLemmas
 pub mod SourceLemmas

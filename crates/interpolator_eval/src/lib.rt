@@ -27,7 +27,7 @@ pub use evaluate::environment::Environment;
 pub use evaluate::evaluator::{write_source, write_text, write_uncounted};
 pub use evaluate::list::{chosen, forbids_list};
 pub use evaluate::sample::{Candidates, Items, Need, SampleEnvironment};
-pub use evaluate::scan::ScannedList;
+pub use evaluate::scan::{ScannedList, write_before_list};
 pub use evaluate::sink::{Sink, WriteFault, write_char, write_plain, write_run, write_shown};
 pub use evaluate::source::FormatSource;
 pub use evaluate::value::{LookUp, chosen_list, slot_of, write_plain_value, write_value};

@@ -16,6 +16,7 @@ pub mod WholePieceLemmas
 -- of this crate alone
 mod CostLemmas
 mod DepthLemmas
+mod ListTextLemmas
 mod ParseLemmas
 mod PartLemmas
 mod WalkLemmas

@@ -1,4 +1,4 @@
-//! The functions that write a format, make its text, and check it.
+//! The functions that write a format, write its pieces, and check it.
 
 ghost use Rattle.std.specs.Prelude.{◌≡◌, ◌+◌, ◌<◌, ◌≤◌, ◌⊎◌, [], false, length, IfOk, Some};
 ghost use Rattle.std.specs.Prelude.{option_map};
@@ -229,42 +229,6 @@ pub fn format_pieces<C: Context>(
     }
     answer?;
     Ok(out.into_string())
-}
-
-/// The format's text in a new `String`.
-///
-/// The format is first read into its pieces, which are then written. To write a text once into a
-/// buffer of your own, [`write`] is faster; to write it often, use a `Template`.
-///
-/// # Errors
-///
-/// Those of `write` with the same format and context, where `Fmt` means that a value failed; and
-/// `NoMemory` if there is no memory for the text, for the room that it has at the beginning, or for
-/// the pieces of the format.
-///
-/// # Example
-///
-/// ```text
-/// let text = format(alloc, "{{{x}}}", &context)?; // with 1 under `x`: {1}
-/// ```
-pub fn format<C: Context>(alloc: Global, format: &str, context: &C) -> Result<String, Error>
-    ensures formats { Formats
-        (means C.Object.shows (environment (C.finds context.now)) (outermost (chars format.now)))
-        result }
-    ensures asked { let a = outermost (chars format.now) in Formats
-        (means C.Object.shows (cut (environment (C.finds context.now)) (asked_names a)) a) result }
-    ensures place { PlaceWithin (length format.now) (result_answer result) }
-{
-    let start = Cursor {
-        place: 0,
-        rest: format,
-    };
-    let pieces = parse_pieces(alloc, start)?;
-    let parsed = Parsed {
-        text: format,
-        pieces: &pieces,
-    };
-    format_pieces(alloc, parsed, context)
 }
 
 /// Reports the first fault that a format has by itself, as

@@ -15,6 +15,7 @@ mod copy;
 mod cost;
 mod extent;
 mod fault_collector;
+mod formatting;
 mod functions;
 mod line;
 mod names;
@@ -31,9 +32,8 @@ pub use copy::copy_piece;
 pub use cost::{Cost, Limits, cost_of};
 pub use extent::{Deepest, Widest};
 pub use fault_collector::FaultCollector;
-pub use functions::{
-    Parsed, buffer_for, check, format, format_pieces, write, write_counted, write_pieces,
-};
+pub use formatting::format;
+pub use functions::{Parsed, buffer_for, check, format_pieces, write, write_counted, write_pieces};
 pub use line::{iwriteln, write_newline};
 pub use names::Names;
 pub use parse::parse_pieces;

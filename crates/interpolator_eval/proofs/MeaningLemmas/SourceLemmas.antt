@@ -20,7 +20,7 @@ use Rattle.interpolator_eval.specs.Meaning.Work.{or_stop, node_work, forest_work
 use Rattle.interpolator_eval.specs.declared.evaluate.sink.Sink.{Sink}
 use Rattle.interpolator_eval.proofs.MeaningLemmas.MeaningLemmas.{joined_assoc, joined_none}
 use Rattle.interpolator_eval.proofs.MeaningLemmas.SinkLemmas.{and_then, fault_first, nothing_done}
-use Rattle.interpolator_eval.proofs.MeaningLemmas.SinkLemmas.{same_then, goes_on}
+use Rattle.interpolator_eval.proofs.MeaningLemmas.SinkLemmas.{same_end, same_then, goes_on}
 use Rattle.interpolator_eval.proofs.MeaningLemmas.OutcomeLemmas.{no_fault}
 
 -- ---- how many there are
@@ -105,6 +105,32 @@ module _ {X : Type 0} (shows : X → Trait → Spec → Shown) (e : Environment 
         ≡ (or_stop (list_with_brace shows e x after).fault (node_work shows e First)
         (forest_work shows e h.rest)).pieces
     from_gone = grind (arith, argument_is)
+
+  -- ---- what is written before the first list, and then from it on
+
+  module _ {W : Type 0} (written : W → Written) (xs : Forest) (s t : Sink W) where
+    -- what comes before it ends the run
+    pub before_fails : (q : Answer) → Writes written (All (before_list xs)) s t (Some q)
+        → Writes written (All xs) s t (Some q)
+    before_fails q o = record {
+      outcome = rw (means_split xs) (fault_first _ _ _ _ q o.outcome);
+      same = o.same;
+    }
+
+    -- what comes before it is done, and then the rest is written
+    pub from_on : (u : Sink W) (answer : Option Answer)
+        → Writes written (All (before_list xs)) s t None
+        → Writes written (All (from_list xs)) t u answer → Writes written (All xs) s u answer
+    from_on u answer o k = record {
+      outcome = rw (means_split xs) (and_then _ _ _ _ _ answer o.outcome k.outcome);
+      same = same_then s t u o.same k.same;
+    }
+
+    -- there is no list
+    pub before_all : from_list xs ≡ no_nodes → Writes written (All (before_list xs)) s t None
+        → Writes written (All xs) s t None
+    before_all none o =
+        from_on t None o (rw none (record { outcome = nothing_done _; same = same_end t }))
 
   -- ---- pieces list by list
 

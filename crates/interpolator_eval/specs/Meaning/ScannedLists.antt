@@ -1,14 +1,14 @@
 -- What the scan of a text keeps of a list that it met.
-use Rattle.std.specs.Prelude.{◌≡◌, ℕ, true, false, Option, None, Some, option_map}
+use Rattle.std.specs.Prelude.{◌≡◌, ℕ, ◌+◌, List, ◌++◌, true, false, Option, None, Some, option_map}
 use Rattle.std.specs.Str.{chars}
-use Rattle.interpolator_syntax.specs.At.{At, at, strip}
+use Rattle.interpolator_syntax.specs.At.{At, at, size, strip}
 use Rattle.interpolator_syntax.specs.Arguments.{list_of}
 use Rattle.interpolator_syntax.specs.Classes.{close_brace}
-use Rattle.interpolator_syntax.specs.Nodes.{Forest, nodes_and, as_forest, nodes, group_branch, token_node}
+use Rattle.interpolator_syntax.specs.Nodes.{Forest, no_nodes, nodes_and, as_forest, nodes, group_branch, token_node}
 use Rattle.interpolator_syntax.specs.Pieces.{argument_from}
 use Rattle.interpolator_syntax.specs.Tokens.{argument}
 use Rattle.interpolator_syntax.specs.declared.cursor.Cursor.{Cursor}
-use Rattle.interpolator_eval.specs.Meaning.Sources.{ListArgument, FirstAsks, asks_list}
+use Rattle.interpolator_eval.specs.Meaning.Sources.{ListArgument, FirstAsks, asks_list, from_list}
 use Rattle.interpolator_eval.specs.declared.evaluate.scan.ScannedList.{ScannedList}
 
 -- the pieces of a text
@@ -41,3 +41,16 @@ ArgumentTold p a l None =
 ArgumentTold p a l (Some rest) =
     (asks_list (token_node nodes p argument a) ≡ false)
     × (at rest ≡ (argument_from a.place a).rest)
+
+-- the first list of a text begins at this place: the pieces from it on are those of the text there
+pub record ListAt (a : At) (place : ℕ) : Type 0 where
+  pub front : List ℕ
+  pub back : List ℕ
+  pub split : a.text ≡ front ++ back
+  pub after : place ≡ a.place + size front
+  pub left : from_list (text_forest a) ≡ text_forest (record { place = place; text = back })
+
+-- where the first list of a text begins, or that there is none
+abbrev pub ListPlace : At → Option ℕ → Type 0
+ListPlace a None = from_list (text_forest a) ≡ no_nodes
+ListPlace a (Some place) = ListAt a place

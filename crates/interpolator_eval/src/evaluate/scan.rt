@@ -1,5 +1,5 @@
 //! A text as a source: it is written while it is read. Callers come before what they call.
-ghost use Rattle.std.specs.Prelude.{◌≡◌, ◌≢◌, ◌+◌, ◌≤◌, ⊤, ℕ, IfOk, None, Some, option_map};
+ghost use Rattle.std.specs.Prelude.{◌≡◌, ◌≢◌, ◌+◌, ◌<◌, ◌≤◌, ⊤, ℕ, IfOk, None, Some, option_map};
 ghost use Rattle.interpolator_render.specs.declared.view.Trait.TheVariants.{Iter};
 ghost use Rattle.interpolator_syntax.specs.At.{at, strip};
 ghost use Rattle.interpolator_syntax.specs.Classes.{close_brace};
@@ -13,7 +13,7 @@ ghost use Rattle.interpolator_syntax.specs.Pieces.{argument_from};
 ghost use Rattle.interpolator_syntax.specs.Tokens.{argument as argument_token};
 ghost use Rattle.interpolator_eval.specs.Meaning.CodeEnvironments.{environment_of};
 ghost use Rattle.interpolator_eval.specs.Meaning.Meanings.{argument_means, forest_means};
-ghost use Rattle.interpolator_eval.specs.Meaning.ScannedLists.{ArgumentTold, scanned_list};
+ghost use Rattle.interpolator_eval.specs.Meaning.ScannedLists.{ArgumentTold, ListPlace, scanned_list};
 ghost use Rattle.interpolator_eval.specs.Meaning.ScannedLists.{scanned_rest, text_forest};
 ghost use Rattle.interpolator_eval.specs.Meaning.Sinks.{Writes};
 ghost use Rattle.interpolator_eval.specs.Meaning.Sources.{FirstAsks, Met, asks_list, before_list};
@@ -33,7 +33,8 @@ use interpolator_syntax::{
     ArgumentName, Cursor, Error, Group, ParseError, Request, Token, inside, next_token, take_name,
     take_request,
 };
-use std::sync::ledger::Ledger;
+use std::marker::Brand;
+use std::sync::ledger::{Blank, Ledger};
 
 /// A list argument that the scan has met.
 #[derive(Clone, Copy)]
@@ -130,6 +131,47 @@ impl<'t> FormatSource for Cursor<'t> {
     }
 }
 
+/// Writes what a text means up to its first list, and returns the place where that begins, if there
+/// is one.
+pub fn write_before_list<'a, W: TextWrite, C: Context>(
+    sink: &mut Sink<'_, W>,
+    environment: &Environment<'a, C, C::Object>,
+    text: Cursor<'_>,
+) -> Result<Option<usize>, Error>
+    ensures writes { Writes W.written
+        (forest_means C.Object.shows (environment_of C.finds environment.now)
+        (before_list (text_forest (at text.entry))))
+        sink.old sink.new (result_answer result) }
+    ensures list { IfOk result (λ place. ListPlace (at text.entry) place) }
+{
+    write_before_list_on::<W, C, Brand>(sink, environment, text, Blank::new(1))
+}
+
+/// Does what [`write_before_list`] does, and counts from a blank ledger.
+#[inline(always)]
+fn write_before_list_on<'a, W: TextWrite, C: Context, L: Ledger>(
+    sink: &mut Sink<'_, W>,
+    environment: &Environment<'a, C, C::Object>,
+    text: Cursor<'_>,
+    blank: Blank,
+) -> Result<Option<usize>, Error>
+    requires name { blank.name ≡ L.name }
+    requires parts { blank.parts ≡ L.parts }
+    requires some { 0 < blank.parts }
+    ensures writes { Writes W.written
+        (forest_means C.Object.shows (environment_of C.finds environment.now)
+        (before_list (text_forest (at text.entry))))
+        sink.old sink.new (result_answer result) }
+    ensures list { IfOk result (λ place. ListPlace (at text.entry) place) }
+{
+    let mut count = PieceCount::<L>::open(blank);
+    let mut list = text.scratch_list();
+    if write_tokens(sink, environment, text, &mut list, &mut count)? {
+        return Ok(Some(list.start - 1));
+    }
+    Ok(None)
+}
+
 /// Returns a cursor at the beginning of a group's text, if there is a group.
 #[inline(always)]
 fn group_start(group: Option<Group<'_>>) -> Option<Cursor<'_>>
@@ -193,7 +235,9 @@ fn write_tokens<'t, 'a, W: TextWrite, C: Context, L: Ledger>(
 /// closing one. If the argument is a list, nothing is written; it is stored in `list`, and the
 /// result is `None`.
 ///
-/// A name alone has a function of its own, in which the compiler knows the trait and the spec.
+/// A name alone has a function of its own, in which the compiler knows the trait and the spec. This
+/// function is inlined into each loop over tokens: a call for each argument costs a fifth more.
+#[inline(always)]
 fn write_argument<'t, 'a, W: TextWrite, C: Context>(
     sink: &mut Sink<'_, W>,
     environment: &Environment<'a, C, C::Object>,

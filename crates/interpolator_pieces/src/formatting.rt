@@ -1,0 +1,140 @@
+//! The text of a format in a new `String`.
+
+ghost use Rattle.std.specs.Prelude.{◌≡◌, ◌⊎◌, length, Some};
+ghost use Rattle.std.specs.Str.{chars};
+ghost use Rattle.interpolator_syntax.specs.At.{outermost};
+ghost use Rattle.interpolator_syntax.specs.Faults.{result_answer, no_memory, PlaceWithin};
+ghost use Rattle.interpolator_eval.specs.Meaning.AskedNames.{asked_names};
+ghost use Rattle.interpolator_eval.specs.Meaning.CodeEnvironments.{environment_of};
+ghost use Rattle.interpolator_eval.specs.Meaning.Environments.{environment, cut};
+ghost use Rattle.interpolator_eval.specs.Meaning.Meanings.{forest_means, means};
+ghost use Rattle.interpolator_eval.specs.Meaning.Outcomes.{Outcome, Formats};
+ghost use Rattle.interpolator_eval.specs.Meaning.ScannedLists.{ListAt, text_forest};
+ghost use Rattle.interpolator_eval.specs.Meaning.Sinks.{SameEnd, Writes};
+ghost use Rattle.interpolator_eval.specs.Meaning.Sources.{from_list};
+
+use crate::functions::buffer_for;
+use crate::parse::parse_pieces;
+use crate::stored_source::{Stored, cut};
+use interpolator_eval::{Context, Environment, Sink, write_before_list, write_uncounted};
+use interpolator_render::TextWrite;
+use interpolator_syntax::{Cursor, Error};
+use std::alloc::Global;
+
+/// The format's text in a new `String`.
+///
+/// The text is written while the format is read, up to the first list; from there on the format is
+/// read into its pieces first, which are then written. So the format of an item is read once, and
+/// not for each item. To write into a buffer of your own, use [`write`](crate::write); to write a
+/// format often, use a `Template`.
+///
+/// # Errors
+///
+/// Those of `write` with the same format and context, where `Fmt` means that a value failed; and
+/// `NoMemory` if there is no memory for the text, for the room that it has at the beginning, or for
+/// the pieces of the format from its first list on.
+///
+/// # Example
+///
+/// ```text
+/// let text = format(alloc, "{{{x}}}", &context)?; // with 1 under `x`: {1}
+/// ```
+pub fn format<C: Context>(alloc: Global, format: &str, context: &C) -> Result<String, Error>
+    ensures formats { Formats
+        (means C.Object.shows (environment (C.finds context.now)) (outermost (chars format.now)))
+        result }
+    ensures asked { let a = outermost (chars format.now) in Formats
+        (means C.Object.shows (cut (environment (C.finds context.now)) (asked_names a)) a) result }
+    ensures place { PlaceWithin (length format.now) (result_answer result) }
+{
+    let mut out = buffer_for(alloc, format)?;
+    let answer = write_once(alloc, &mut out, format, context);
+    if out.refused() {
+        return Err(Error::NoMemory);
+    }
+    answer?;
+    Ok(out.into_string())
+}
+
+/// Writes what the format means in the context, or returns that there was no memory for its pieces.
+#[tactic(auto, using(interpolator_eval::proofs::MeaningLemmas::SinkLemmas::writer_stays))]
+fn write_once<W: TextWrite, C: Context>(
+    alloc: Global,
+    out: &mut W,
+    format: &str,
+    context: &C,
+) -> Result<(), Error>
+    ensures outcome { (Outcome
+        (means C.Object.shows (environment (C.finds context.now)) (outermost (chars format.now)))
+        (W.written out.old) (W.written out.new) (result_answer result))
+        ⊎ (result_answer result ≡ Some no_memory) }
+    ensures asked { let a = outermost (chars format.now) in (Outcome
+        (means C.Object.shows (cut (environment (C.finds context.now)) (asked_names a)) a)
+        (W.written out.old) (W.written out.new) (result_answer result))
+        ⊎ (result_answer result ≡ Some no_memory) }
+    ensures place { PlaceWithin (length format.now) (result_answer result) }
+{
+    let mut sink = Sink::Writer(out);
+    let answer = write_to_end(
+        alloc,
+        &mut sink,
+        &Environment::outermost(alloc, context),
+        format,
+    );
+    sink.into_writer();
+    answer
+}
+
+/// Writes the format while it is read, up to its first list, and what is left by its pieces.
+fn write_to_end<'a, W: TextWrite, C: Context>(
+    alloc: Global,
+    sink: &mut Sink<'_, W>,
+    environment: &Environment<'a, C, C::Object>,
+    format: &str,
+) -> Result<(), Error>
+    ensures outcome { (Writes W.written
+        (means C.Object.shows (environment_of C.finds environment.now)
+        (outermost (chars format.now)))
+        sink.old sink.new (result_answer result))
+        ⊎ (result_answer result ≡ Some no_memory) }
+    ensures same { SameEnd sink.old sink.new }
+{
+    let text = Cursor {
+        place: 0,
+        rest: format,
+    };
+    match write_before_list(sink, environment, text)? {
+        Some(place) => write_from_list(alloc, sink, environment, format, place),
+        None => Ok(()),
+    }
+}
+
+/// Reads the format into its pieces from its first list on, which begins at `place`, and writes
+/// these. It is not inlined, so that a text without a list takes no step for it.
+#[inline(never)]
+fn write_from_list<'a, W: TextWrite, C: Context>(
+    alloc: Global,
+    sink: &mut Sink<'_, W>,
+    environment: &Environment<'a, C, C::Object>,
+    format: &str,
+    place: usize,
+) -> Result<(), Error>
+    requires list { ListAt (outermost (chars format.now)) place }
+    ensures outcome { (Writes W.written
+        (forest_means C.Object.shows (environment_of C.finds environment.now)
+        (from_list (text_forest (outermost (chars format.now)))))
+        sink.old sink.new (result_answer result))
+        ⊎ (result_answer result ≡ Some no_memory) }
+    ensures same { SameEnd sink.old sink.new }
+{
+    let start = Cursor {
+        place,
+        rest: cut(format, place, format.len()),
+    };
+    let pieces = parse_pieces(alloc, start)?;
+    let source = Stored {
+        text: format,
+        pieces: &pieces,
+    };
+    write_uncounted(sink, environment, source)
+}
