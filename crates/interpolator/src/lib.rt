@@ -18,7 +18,7 @@
 //! ```
 //!
 //! What a format means is defined in `specs/`, and `write` is proved to do that and nothing else,
-//! for every format, context and writer. Read on at [`write`], at the laws of
+//! for every format, context and writer. Read on at [`write`], at [`laws`] and those of
 //! `interpolator_laws`, and at `Meaning/Meanings` in `specs/` of `interpolator_eval`.
 #![tactic(auto)]
 
@@ -28,6 +28,7 @@ mod escaping;
 mod excerpt;
 mod explaining;
 mod interpolate;
+pub mod laws;
 mod lent;
 mod macros;
 pub mod made;
