@@ -9,10 +9,12 @@ set -u
 usage='usage: report FILE'
 # the greatest number of 128 bits, without its last digit, which is 7
 most=17014118346046923173168730371588410572
+# the number after that one
+next=17014118346046923173168730371588410573
 zeros=0.0000000000000000000000000000000000000000
 here=$(cd "$(dirname "$0")" && pwd)
 name=report
-wanted=35
+wanted=42
 . "$here/../../.ci/cases.sh"
 
 # table WANTED TEXT: the report of a file with this text, which goes to the output, with status 0.
@@ -42,6 +44,12 @@ table_cases() {
     table $'n    \n1.5  \n1.   \ntotal\n' $'n\n1.5\n1.\n'
     table "$(printf '%42s\n' n 0 "$zeros" 0 "$zeros")"$'\n' $'n\n0\n'"$zeros"$'\n0\n'
     table "$(printf '%40s\n' n -0.0 "${most}.7" "${most}.7")"$'\n' $'n\n-0.0\n'"${most}.7"$'\n'
+    table "$(printf '%40s\n' n -0.5 "$next" "${most}.5")"$'\n' $'n\n-0.5\n'"$next"$'\n'
+    table "$(printf '%40s\n' n "$next" -0.5 "${most}.5")"$'\n' $'n\n'"$next"$'\n-0.5\n'
+    table "$(printf '%39s\n' n "${most}7" 1 -1 "${most}7")"$'\n' $'n\n'"${most}7"$'\n1\n-1\n'
+    table "$(printf '%40s\n' n "-${most}8" -1 1 "-${most}8")"$'\n' $'n\n'"-${most}8"$'\n-1\n1\n'
+    table "$(printf '%42s\n' n "${most}7" "$zeros" "-${most}7" "$zeros")"$'\n' \
+        $'n\n'"${most}7"$'\n'"$zeros"$'\n'"-${most}7"$'\n'
 }
 
 fault_cases() {
@@ -50,11 +58,14 @@ fault_cases() {
     fault 't:3: 0 fields, but line 1 has 1' $'a\n1\n\n'
     fault 't:1: the first line names no columns' ''
     fault 't:1: the first line names no columns' $'\n1\n'
-    fault 't:3: the total of `n` has more than 128 bits from here on' $'n\n'"${most}7"$'\n1\n'
-    fault 't:3: the total of `n` has more than 128 bits from here on' $'n\n'"-${most}8"$'\n-1\n'
-    fault 't:3: the total of `n` has more than 128 bits from here on' $'n\n'"${most}7"$'\n0.5\n'
-    fault 't:3: the total of `n` has more than 128 bits from here on' $'n\n0.5\n'"-${most}.9"$'\n'
-    fault 't:2: the total of `m` has more than 128 bits from here on' $'t,m\na,'"${most}8"$'\nb,1\n'
+    fault 't:1: the total of `n` has more than 128 bits' $'n\n'"${most}7"$'\n1\n'
+    fault 't:1: the total of `n` has more than 128 bits' $'n\n'"-${most}8"$'\n-1\n'
+    fault 't:1: the total of `n` has more than 128 bits' $'n\n'"${most}7"$'\n0.5\n'
+    fault 't:1: the total of `n` has more than 128 bits' $'n\n0.5\n'"-${most}.9"$'\n'
+    fault 't:1: the total of `n` has more than 128 bits' $'n\n0.3\n'"$next"$'\n'
+    fault 't:2: the number of `m` has more than 128 bits' $'t,m\na,'"${most}8"$'\nb,-1\n'
+    fault $'t:1: the total of `n` has more than 128 bits\nt:3: the number of `m` has more than 128 bits' \
+        $'n,m\n'"${most}7,1"$'\n1,-'"${most}9"$'\n'
 }
 
 # Wrong use, unreadable files and refused writes.

@@ -4,14 +4,16 @@ pub mod EscapeLemmas
 pub mod ExcerptLemmas
 pub mod PartLemmas
 pub mod SamplePlaceLemmas
-pub mod SeamLemmas
 -- of this crate alone
 mod DecimalDigitLemmas
+mod DecimalReadLemmas
 mod DecimalTextLemmas
 mod EndingLemmas
 mod LentLemmas
 mod NamedRowLemmas
 mod NamedValueLemmas
 mod NamingLemmas
+mod OwnedLemmas
 mod PositionLemmas
 mod SampleWalkLemmas
+mod SeamLemmas

@@ -7,7 +7,7 @@ use Rattle.interpolator_render.specs.Views.{fits_signed}
 use Rattle.interpolator.specs.declared.owned_view.OwnedView.{OwnedView}
 use Rattle.interpolator.specs.declared.owned_view.OwnedView.TheVariants as owned
 
--- the value itself, and a failure for a signed number outside its width
+-- the value itself; a failure for a signed number outside its width, and for a value that failed
 abbrev pub owned_shows : OwnedView → Shown
 owned_shows (owned.Signed number bits) =
     if fits_signed number bits then signed_number number bits else failure
@@ -16,3 +16,4 @@ owned_shows (owned.Truth truth) = truth_value truth
 owned_shows (owned.Decimal units scale) = decimal_number units scale
 owned_shows (owned.Character c) = one_character c
 owned_shows (owned.Text text) = some_text (chars (string_bytes text))
+owned_shows owned.Failed = failure

@@ -14,7 +14,7 @@
 //! ```
 //!
 //! What a format means is defined in `specs/`, and `write` is proved to do that and nothing else,
-//! for every format, context and writer. Read on at [`write`], at the laws of
+//! for every format, context and writer. Read on at [`write`], at [`laws`] and those of
 //! `interpolator_laws`, and at `Meaning/Meanings` in `specs/` of `interpolator_eval`.
 #![tactic(auto)]
 
@@ -24,6 +24,7 @@ mod escaping;
 mod excerpt;
 mod explaining;
 mod interpolate;
+pub mod laws;
 mod lent;
 mod macros;
 pub mod made;

@@ -1,5 +1,6 @@
 //! Values of several kinds that own their text.
-ghost use Rattle.std.specs.Prelude.{◌≡◌, IfOk, IfErr, IfSome};
+ghost use Rattle.std.specs.Prelude.{◌≡◌, ◌≢◌, ◌++◌, IfOk, IfErr, IfSome};
+ghost use Rattle.std.specs.Prelude.{Err, Ok, if◌then◌else◌, string_bytes};
 ghost use Rattle.std.specs.Str.{chars};
 ghost use Rattle.interpolator_render.specs.declared.view.Bits.TheVariants.{B8, B16, B32, B64, B128};
 ghost use Rattle.interpolator_render.specs.Views.{shown_by, some_text, fits_signed, IsInRange};
@@ -11,7 +12,7 @@ use crate::decimal::Decimal;
 use interpolator_render::{Bits, Spec, Trait, Value, View};
 use interpolator_syntax::Error;
 use std::alloc::Global;
-use std::fmt::Display;
+use std::fmt::{self, Display, Write};
 
 /// A [`View`] that owns its text: for rows whose texts are `String`s, and for values that only
 /// `Display` can write.
@@ -40,25 +41,66 @@ pub enum OwnedView {
     Character(char),
     /// A text.
     Text(String),
+    /// A value that failed. To write it is the fault `Fmt`.
+    Failed,
+}
+
+/// A text that is being written, and whether memory was refused for it.
+#[derive(Drop)]
+struct Draft {
+    text: String,
+    refused: bool,
+}
+
+impl Write for Draft {
+    ghost write_str_gives = { λ before bytes after.
+        string_bytes after.text ≡ string_bytes before.text ++ bytes };
+
+    fn write_str(&mut self, text: &str) -> fmt::Result {
+        match self.text.push_str(text) {
+            Ok(()) => Ok(()),
+            Err(_) => {
+                self.refused = true;
+                Err(fmt::Error)
+            }
+        }
+    }
+}
+
+/// What a value shows that could not be written.
+fn unwritten(refused: bool) -> Result<OwnedView, Error>
+    ensures { result ≡ (if refused then Err NoMemory else Ok owned.Failed) }
+{
+    if refused {
+        return Err(Error::NoMemory);
+    }
+    Ok(OwnedView::Failed)
 }
 
 impl OwnedView {
-    /// The text of any value with `Display`, as `{}` of std writes it.
+    /// The text of any value with `Display`, as `{}` of std writes it, or `Failed`, if the value
+    /// fails although memory was not refused.
     ///
     /// # Errors
     ///
-    /// `NoMemory`: there is no memory for the text, or the value failed.
+    /// `NoMemory`: there is no memory for the text.
     ///
     /// ```text
     /// OwnedView::shown(alloc, Cents(1250))?    // shows the text 12.50, if `Cents` writes it so
     /// ```
     pub fn shown<D: Display + Drop>(alloc: Global, value: D) -> Result<OwnedView, Error>
-        ensures text { IfOk result (λ made. IfSome (D.output value)
+        ensures text { IfOk result (λ made. (made ≢ owned.Failed) → IfSome (D.output value)
             (λ bytes. owned_shows made ≡ some_text (chars bytes))) }
         ensures refused { IfErr result (λ error. error ≡ NoMemory) }
     {
-        let text = String::format(alloc, value)?;
-        Ok(OwnedView::Text(text))
+        let mut draft = Draft {
+            text: String::new(alloc),
+            refused: false,
+        };
+        match draft.write(value) {
+            Ok(()) => Ok(OwnedView::Text(draft.text)),
+            Err(_) => unwritten(draft.refused),
+        }
     }
 }
 
@@ -97,6 +139,7 @@ impl<'a> From<&'a OwnedView> for View<'a> {
             },
             OwnedView::Character(c) => View::Character(*c),
             OwnedView::Text(text) => View::Text(text.as_str()),
+            OwnedView::Failed => View::Failed,
         }
     }
 }

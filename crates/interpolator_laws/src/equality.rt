@@ -1,9 +1,9 @@
-//! Laws of the equality of positions, limits and costs, each the contract of a small function,
-//! beside those of the reader's types.
+//! Laws of the equality of positions, limits, costs and decimals, each the contract of a small
+//! function, beside those of the reader's types.
 
 ghost use Rattle.std.specs.Prelude.{◌≡◌, ◌↔◌, IsTrue};
 
-use interpolator::Position;
+use interpolator::{Decimal, Position};
 use interpolator_pieces::{Cost, Limits};
 pub use interpolator_syntax::laws::equality::{
     is_same_argument, is_same_group, is_same_kind, is_same_range,
@@ -28,4 +28,12 @@ pub fn is_same_cost(cost: Cost, other: Cost) -> bool
     ensures { IsTrue result ↔ (cost ≡ other) }
 {
     cost == other
+}
+
+/// Tests whether two decimals are equal: exactly when their units and their scales are. So 12.5 and
+/// 12.50, which are the same number, are not equal.
+pub fn is_same_decimal(decimal: Decimal, other: Decimal) -> bool
+    ensures { IsTrue result ↔ (decimal ≡ other) }
+{
+    decimal == other
 }

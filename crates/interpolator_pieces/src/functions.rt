@@ -1,7 +1,7 @@
 //! The functions that write a format, write its pieces, and check it.
 
 ghost use Rattle.std.specs.Prelude.{◌≡◌, ◌+◌, ◌<◌, ◌≤◌, ◌⊎◌, [], false, length, IfOk, Some};
-ghost use Rattle.std.specs.Prelude.{option_map};
+ghost use Rattle.std.specs.Prelude.{min, option_map};
 ghost use Rattle.std.specs.Str.{chars};
 ghost use Rattle.interpolator_syntax.specs.At.{outermost};
 ghost use Rattle.interpolator_eval.specs.Meaning.AskedNames.{asked_names};
@@ -101,6 +101,8 @@ pub fn buffer_for(alloc: Global, format: &str) -> Result<TextBuffer, AllocError>
     ensures empty { IfOk result
         (λ buffer. as_writer buffer ≡ record { text = []; refused = false; origin = plain }) }
     ensures room { IfOk result (λ buffer. length format.now ≤ buffer.room) }
+    ensures most { IfOk result
+        (λ buffer. buffer.room ≤ length format.now + min (length format.now) 256) }
 {
     let len = format.len();
     let text = String::with_capacity(alloc, len.saturating_add(len.min(MOST_MORE)))?;

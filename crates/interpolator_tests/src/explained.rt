@@ -99,13 +99,15 @@ fn long_line(report: &mut Report) -> Result<(), Error> {
 
 /// A missing name, the names that there are, and the line that lists them, by hand.
 #[rattlefmt::skip]
-const NAMES: [(&str, &[&str], &str); 8] = [
+const NAMES: [(&str, &[&str], &str); 10] = [
     ("nme", &["n", "name", "nm"], "\n  = did you mean `name`? names: `n`, `name`, `nm`"),
     ("naame", &["name"], "\n  = did you mean `name`? names: `name`"),
     ("näme", &["name"], "\n  = did you mean `name`? names: `name`"),
     ("anme", &["name"], "\n  = did you mean `name`? names: `name`"),
     ("é", &["", "e"], "\n  = did you mean ``? names: ``, `e`"),
     ("nmae", &["naem", "nam", "n"], "\n  = names: `naem`, `nam`, `n`"),
+    ("nme", &["nme"], "\n  = names: `nme`"),
+    ("nme", &["nme", "name"], "\n  = did you mean `name`? names: `nme`, `name`"),
     ("city", &["name"], "\n  = names: `name`"),
     ("name", &[], ""),
 ];

@@ -5,9 +5,10 @@ use crate::counting::Counting;
 use crate::given::gives;
 use crate::report::Report;
 use interpolator::{
-    ContextMap, Error, Formattable, Interpolate, Pairs, Template, TextBuffer, TextWrite, View,
-    check, items_of, rows_of,
+    ContextMap, Error, Formattable, Interpolate, OwnedView, Pairs, Row, Template, TextBuffer,
+    TextWrite, View, check, items_of, rows_of,
 };
+use std::fmt;
 
 /// A value of a million letters is written by one call.
 fn a_long_value(report: &mut Report) -> Result<(), Error> {
@@ -41,6 +42,49 @@ fn many_arguments(report: &mut Report) -> Result<(), Error> {
     Ok(())
 }
 
+/// Thousands of pieces, prepared: an argument and a text in turn.
+fn many_pieces(report: &mut Report) -> Result<(), Error> {
+    let alloc = report.alloc;
+    let format = "{x}-".repeat(alloc, MANY)?;
+    let text = "7-".repeat(alloc, MANY)?;
+    let row = [Formattable::display(&7u64)];
+    let template = Template::parse(alloc, format.as_str())?;
+    let prepared = template.prepare(alloc, &Pairs(&[("x", row[0])]))?;
+    let mut out = TextBuffer::new(alloc);
+    let answer = prepared.write(alloc, &mut out, &Row(&row));
+    report.written("many steps", (text.as_str(), ""), out.as_str(), answer);
+    report.made(
+        "many steps",
+        (text.as_str(), ""),
+        prepared.format(alloc, &Row(&row)),
+    );
+    Ok(())
+}
+
+/// A value that fails.
+#[derive(Clone, Copy)]
+struct Failing;
+
+impl fmt::Display for Failing {
+    fn fmt<W: fmt::Write>(&self, f: &mut fmt::Formatter<W>) -> fmt::Result {
+        f.write_str("7")?;
+        Err(fmt::Error)
+    }
+}
+
+/// Values that own a long text, which `Display` wrote; one that failed is no text, and no lack of
+/// memory.
+fn owned_texts(report: &mut Report) -> Result<(), Error> {
+    let alloc = report.alloc;
+    let long = "a".repeat(alloc, MANY)?;
+    let owned = OwnedView::shown(alloc, long.as_str())?;
+    let pairs = Pairs(&[("t", Formattable::display(&owned))]);
+    gives(report, &pairs, "{t}", (long.as_str(), ""))?;
+    let failed = OwnedView::shown(alloc, Failing)?;
+    let pairs = Pairs(&[("t", Formattable::display(&failed))]);
+    gives(report, &pairs, "a{t}", ("a", "Fmt(Error, 3)"))
+}
+
 /// How many times the ten digits are in the lists.
 const TIMES: usize = 10_000;
 
@@ -52,6 +96,16 @@ fn many_items(report: &mut Report, digits: &[char], text: &str) -> Result<(), Er
     gives(report, &map, "{l:i}", (text, ""))?;
     let text = format!(in report.alloc; "   {text}")?;
     gives(report, &map, "{l:>100003i}", (text.as_str(), ""))
+}
+
+/// Under a width, a fault of the last of thousands of items leaves no text of the list. By hand, the
+/// item that has no slot is asked at the `}` of `{}`, 9 bytes from the beginning.
+fn a_fault_after_many_items(report: &mut Report, digits: &[char]) -> Result<(), Error> {
+    let mut items = items_of(report.alloc, digits)?;
+    items.push(Formattable::iter(&[]))?;
+    let pairs = Pairs(&[("l", Formattable::iter(&items))]);
+    let fault = "MissingTraitImpl(Display, 9)";
+    gives(report, &pairs, "a{l:>6i({})}", ("a", fault))
 }
 
 /// Thousands of rows of twenty items each.
@@ -72,6 +126,7 @@ fn many_digits(report: &mut Report) -> Result<(), Error> {
     let text = "0123456789".repeat(report.alloc, TIMES)?;
     let digits = text.chars().collect::<Vec<char>>(report.alloc)?;
     many_items(report, &digits, text.as_str())?;
+    a_fault_after_many_items(report, &digits)?;
     many_rows(report, &digits, text.as_str())
 }
 
@@ -95,6 +150,8 @@ pub fn run(report: &mut Report) -> Result<(), Error> {
     report.begin("long");
     a_long_value(report)?;
     many_arguments(report)?;
+    many_pieces(report)?;
+    owned_texts(report)?;
     many_digits(report)?;
     a_buffer(report)
 }

@@ -1,46 +1,102 @@
--- The total of a column, entry after entry.
-use Rattle.std.proofs.Common.{◌≡◌, ◌+◌, ◌<◌, ℕ, ℤ, pos, ◌+ℤ◌, ◌*ℤ◌, List, [], ◌∷◌, ◌++◌, map, take, get_or, length, refl, sym, ap, subst, ◌∙◌}
-use Rattle.std.proofs.lemmas.List.{map-append, map_more}
+-- The entries of a column, one after the other.
+use Rattle.std.proofs.Common.{◌≡◌, ◌+◌, ◌<◌, ℕ, zero, suc, refl, ap, subst, ◌∙◌, arith}
+use Rattle.std.proofs.Common.{List, [], ◌∷◌, ◌++◌, map, take, get_or, length}
 use Rattle.std.proofs.Common.{None, Option, Some, option_map}
+use Rattle.std.proofs.lemmas.List.{map-append, map_more}
+use Rattle.std.proofs.lemmas.List.Elements.{All-push}
 use Rattle.std.proofs.lemmas.Option.{unwrap_or-slice_get}
 use Rattle.std.specs.Borrow.{Bor}
-use Rattle.std.specs.List.{slice_get}
+use Rattle.std.specs.List.{All, slice_get}
 use Rattle.std.specs.Option.{unwrap_or}
-use Rattle.interpolator.specs.DecimalTexts.{Spells}
-use Rattle.report.specs.Totals.{IsSum, IsTotal, column, entry_at, nothing}
+use Rattle.std.proofs.Common.{Err, IfErr, Result, true, false}
+use Rattle.interpolator.specs.DecimalTexts.{Explains, Spells}
+use Rattle.interpolator_syntax.specs.declared.error.NumberError.{NumberError}
+use Rattle.interpolator_syntax.specs.declared.error.NumberError.TheVariants.{InvalidDigit}
+use Rattle.report.specs.Totals.{IsNumber, Spell, column, entry_at}
 use Rattle.interpolator.specs.declared.decimal.Decimal.{Decimal}
 
--- one entry more
-total_more : (carried : Decimal) (entries : List (List ℕ)) (entry : List ℕ)
-    (total value new : Decimal)
-    → IsTotal carried entries total → Spells entry value → IsSum total value new
-    → IsTotal carried (entries ++ (entry ∷ [])) new
-total_more carried [] entry total value new h spelled sum =
-    (value, new, spelled, subst (λ x. IsSum x value new) h sum, refl)
-total_more carried (x ∷ entries) entry total value new h spelled sum =
-    (h.0, h.1, h.2, h.3, total_more h.1 entries entry total value new h.4 spelled sum)
+-- ---- a column of lines, each lent
 
--- the entries of the lines so far, and of one more
-entries_more : (index : ℕ) (some_lines : List (Bor (List ℕ))) (n : ℕ) (line : Bor (List ℕ))
-    → n < length some_lines
-    → column index (map (λ x. x.now) (take (n + 1) some_lines))
-    ≡ column index (map (λ x. x.now) (take n some_lines))
-    ++ (entry_at index (get_or some_lines n line).now ∷ [])
-entries_more index some_lines n line within =
-    ap (λ (xs : List (List ℕ)). column index xs) (map_more (λ x. x.now) some_lines n line within)
-    ∙ map-append (entry_at index) (map (λ x. x.now) (take n some_lines))
-    ((get_or some_lines n line).now ∷ [])
+module _ (index : ℕ) where
+  abbrev pub entries : List (Bor (List ℕ)) → List (List ℕ)
+  entries some_lines = column index (map (λ x. x.now) some_lines)
 
--- so the total of the lines so far, and of one more
-pub total_step : (index : ℕ) (some_lines : List (Bor (List ℕ))) (n : ℕ) (line : Bor (List ℕ))
-    (total value new : Decimal) → n < length some_lines
-    → IsTotal nothing (column index (map (λ x. x.now) (take n some_lines))) total
-    → Spells (entry_at index (get_or some_lines n line).now) value → IsSum total value new
-    → IsTotal nothing (column index (map (λ x. x.now) (take (n + 1) some_lines))) new
-total_step index some_lines n line total value new within h spelled sum =
-    subst (λ entries. IsTotal nothing entries new)
-    (sym (entries_more index some_lines n line within))
-    (total_more nothing _ _ total value new h spelled sum)
+  -- the entries of the lines so far, and of one more
+  entries_more : (some_lines : List (Bor (List ℕ))) (n : ℕ) (line : Bor (List ℕ)) →
+      n < length some_lines →
+      entries (take (n + 1) some_lines)
+      ≡ entries (take n some_lines) ++ (entry_at index (get_or some_lines n line).now ∷ [])
+  entries_more some_lines n line within =
+      ap (λ (xs : List (List ℕ)). column index xs)
+      (map_more (λ x. x.now) some_lines n line within)
+      ∙ map-append (entry_at index) (map (λ x. x.now) (take n some_lines))
+      ((get_or some_lines n line).now ∷ [])
+
+  pub length-entries : (some_lines : List (Bor (List ℕ))) →
+      length (entries some_lines) ≡ length some_lines
+  length-entries [] = refl
+  length-entries (x ∷ xs) = ap suc (length-entries xs)
+
+  -- the entry of the line at this place
+  pub entry_there : (some_lines : List (Bor (List ℕ))) (n : ℕ) (line : Bor (List ℕ)) (d : List ℕ) →
+      n < length some_lines →
+      get_or (entries some_lines) n d ≡ entry_at index (get_or some_lines n line).now
+  entry_there [] n line d h = absurd (omega arith)
+  entry_there (x ∷ xs) zero line d h = refl
+  entry_there (x ∷ xs) (suc n) line d h = entry_there xs n line d (omega arith)
+
+  pub take-entries : (some_lines : List (Bor (List ℕ))) (n : ℕ) →
+      take n (entries some_lines) ≡ entries (take n some_lines)
+  take-entries [] zero = refl
+  take-entries [] (suc n) = refl
+  take-entries (x ∷ xs) zero = refl
+  take-entries (x ∷ xs) (suc n) = ap (λ es. entry_at index x.now ∷ es) (take-entries xs n)
+
+  -- the number of one entry more
+  spell_more : (texts : List (List ℕ)) (numbers : List Decimal) (text : List ℕ) (number : Decimal) →
+      Spell texts numbers → Spells text number →
+      Spell (texts ++ (text ∷ [])) (numbers ++ (number ∷ []))
+  spell_more [] [] text number all one = (one, all)
+  spell_more [] (n ∷ ns) text number all one = absurd all
+  spell_more (t ∷ ts) [] text number all one = absurd all
+  spell_more (t ∷ ts) (n ∷ ns) text number all one =
+      (all.0, spell_more ts ns text number all.1 one)
+
+  pub spell_step : (some_lines : List (Bor (List ℕ))) (n : ℕ) (line : Bor (List ℕ))
+      (numbers more : List Decimal) (number : Decimal) → n < length some_lines →
+      Spell (entries (take n some_lines)) numbers →
+      Spells (entry_at index (get_or some_lines n line).now) number →
+      more ≡ numbers ++ (number ∷ []) → Spell (entries (take (n + 1) some_lines)) more
+  spell_step some_lines n line numbers more number within all one e =
+      rw (e, entries_more some_lines n line within)
+      (spell_more (entries (take n some_lines)) numbers _ number all one)
+
+  pub numeric_step : (some_lines : List (Bor (List ℕ))) (n : ℕ) (line : Bor (List ℕ)) →
+      n < length some_lines → All IsNumber (entries (take n some_lines)) →
+      IsNumber (entry_at index (get_or some_lines n line).now) →
+      All IsNumber (entries (take (n + 1) some_lines))
+  numeric_step some_lines n line within all one =
+      rw (entries_more some_lines n line within)
+      (All-push IsNumber (entries (take n some_lines)) _ all one)
+
+  pub numeric_there : (some_lines : List (Bor (List ℕ))) (n : ℕ) (line : Bor (List ℕ)) →
+      n < length some_lines → All IsNumber (entries some_lines) →
+      IsNumber (entry_at index (get_or some_lines n line).now)
+  numeric_there some_lines n line within all =
+      subst IsNumber (entry_there some_lines n line [] within)
+      (all n [] (rw (length-entries some_lines) within))
+
+pub not_both : false ≡ true → ⊥
+not_both e = grind arith
+
+-- a text with a character that is no digit is no number
+pub no_digit : (read : Result Decimal NumberError) (text : List ℕ) →
+    IfErr read (λ error. Explains text error) → read ≡ Err InvalidDigit → ¬ (IsNumber text)
+no_digit read text why e (units, scale, spelled) =
+    let fault : IfErr {T = Decimal} {E = NumberError} (Err InvalidDigit)
+    (λ error. Explains text error) =
+    subst (λ (r : Result Decimal NumberError). IfErr r (λ error. Explains text error)) e why in
+    fault.1 units scale spelled
 
 -- what an iterator gives at a place, or the empty text
 pub entry_or : (r : Option (Bor (List ℕ))) (all : List (List ℕ)) (n : ℕ)

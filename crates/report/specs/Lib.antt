@@ -1,2 +1,3 @@
--- What the total of a column is.
+-- What the total of a column is, and how numbers are added.
+pub mod Places
 pub mod Totals

@@ -6,12 +6,14 @@
 //! total at its foot: exactly, with as many digits after the point as the entry that has the most.
 //! Quotes have no meaning, so no entry has a comma in it.
 //!
-//! All lines with another number of fields are reported, and of each column the first line at which
-//! the number or the sum is too large; then no table is written.
+//! All lines with another number of fields are reported, and of each column of numbers the first
+//! line whose number has more than 128 bits, its point left out; or else, at line 1, that the total
+//! has more. Then no table is written.
 #![tactic(auto)]
 
 mod faults;
 mod layout;
+mod places;
 mod totals;
 
 use faults::Faults;
@@ -20,7 +22,7 @@ use layout::{Column, table_of};
 use std::alloc::Global;
 use std::process::ExitCode;
 use std::{env, fs, io};
-use totals::{is_numeric, total_of};
+use totals::{NoTotal, is_numeric, total_of};
 
 const WRITTEN: u8 = 0;
 
@@ -75,6 +77,18 @@ fn check_lines(faults: &mut Faults<'_>, header: &str, lines: &[&str]) -> Result<
     Ok(())
 }
 
+/// Adds to the faults that an entry of a column is too large: that of the line after so many.
+fn tell_number(faults: &mut Faults<'_>, name: &str, before: usize) -> Result<(), Error> {
+    let why = format!(in faults.alloc; "the number of `{name}` has more than 128 bits")?;
+    faults.tell(before.saturating_add(2), why.as_str())
+}
+
+/// Adds to the faults that the total of a column is too large: at the line that names it.
+fn tell_sum(faults: &mut Faults<'_>, name: &str) -> Result<(), Error> {
+    let why = format!(in faults.alloc; "the total of `{name}` has more than 128 bits")?;
+    faults.tell(1, why.as_str())
+}
+
 /// The column with this name at this index. If it has no total since a number is too large, this is
 /// added to the faults.
 fn column_of(
@@ -87,16 +101,13 @@ fn column_of(
     if !is_numeric(lines, index) {
         return Ok(column);
     }
-    match total_of(lines, index) {
-        Ok(total) => Ok(column.with_total(total)),
-        Err(before) => {
-            let why = format!(in faults.alloc;
-                "the total of `{name}` has more than 128 bits from here on"
-            )?;
-            faults.tell(before.saturating_add(2), why.as_str())?;
-            Ok(column)
-        }
+    match total_of(faults.alloc, lines, index) {
+        Ok(total) => return Ok(column.with_total(total)),
+        Err(NoTotal::Number(before)) => tell_number(faults, name, before)?,
+        Err(NoTotal::Sum) => tell_sum(faults, name)?,
+        Err(NoTotal::NoMemory) => return Err(Error::NoMemory),
     }
+    Ok(column)
 }
 
 /// The columns that the first line names.

@@ -1,8 +1,20 @@
-use Rattle.report.proofs.TotalLemmas.{total_step}
+use Rattle.std.proofs.Common.{List, None, Option, refl, subst, sym}
+use Rattle.std.specs.Int.{w128}
+use Rattle.std.specs.Prelude.{FitsSigned, SomeIff}
+use Rattle.interpolator.specs.declared.decimal.Decimal.{Decimal}
+use Rattle.report.specs.Totals.{exact_sum}
 use Rattle.report.proofs.totals.total_of.Goals as goal
 
-pub loop-before-preserved : goal.loop-before-preserved
-loop-before-preserved c =
-    total_step c.args.index c.args.lines.now c.loop-before.before _ _ c.in-Some.ensures.0
-    c.in-Some.sum c.loop-before-test.true c.loop-before.invariant
-    (rw c.entry_at.ensures at c.in-Some.ensures.1) c.in-Some.ensures.2
+pub returns-in-Ok-None-clause-err : goal.returns-in-Ok-None-clause-err
+returns-in-Ok-None-clause-err c =
+    let numbers = c.in_ok-numbers.numbers.items in
+    let there = c.deref.result.now in
+    let none : SomeIff None (FitsSigned w128 (exact_sum there).units) (exact_sum there) =
+    subst (λ (sum : Option Decimal).
+    SomeIff sum (FitsSigned w128 (exact_sum there).units) (exact_sum there))
+    c.in-Ok-None.field-0-is c.in-Ok-None.ensures in (
+      exact_sum numbers,
+      (numbers, c.in_ok-numbers.ensures.ok, refl),
+      λ fits. none (subst (λ (ns : List Decimal). FitsSigned w128 (exact_sum ns).units)
+          (sym c.deref.ensures.value) fits),
+    )

@@ -1,6 +1,6 @@
 use Rattle.std.proofs.Common.{arith, length}
 use Rattle.interpolator.proofs.SeamLemmas.{pieces_append}
-use Rattle.interpolator_laws.proofs.parts.pieces_compose.Goals as goal
+use Rattle.interpolator.proofs.laws.parts.pieces_compose.Goals as goal
 
 pub returns : goal.returns
 returns c =

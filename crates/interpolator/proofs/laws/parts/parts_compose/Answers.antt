@@ -1,5 +1,5 @@
 use Rattle.interpolator.proofs.PartLemmas.{parts_are_one}
-use Rattle.interpolator_laws.proofs.parts.parts_compose.Goals as goal
+use Rattle.interpolator.proofs.laws.parts.parts_compose.Goals as goal
 
 pub returns : goal.returns
 returns g c =

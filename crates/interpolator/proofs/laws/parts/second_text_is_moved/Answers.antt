@@ -5,7 +5,7 @@ use Rattle.interpolator_eval.specs.Meaning.Meanings.{chain, means}
 use Rattle.interpolator_eval.proofs.MeaningLemmas.MovedLemmas.{means_from}
 use Rattle.interpolator.proofs.PartLemmas.{means_next, zero_and}
 use Rattle.interpolator_eval.proofs.MeaningLemmas.MeaningLemmas.{nothing_last}
-use Rattle.interpolator_laws.proofs.parts.second_text_is_moved.Goals as goal
+use Rattle.interpolator.proofs.laws.parts.second_text_is_moved.Goals as goal
 
 pub returns-clause-joined : goal.returns-clause-joined
 returns-clause-joined g c = λ e a b h seam.
