@@ -16,7 +16,7 @@ ghost use Rattle.interpolator_eval.specs.Meaning.Work.{text_work};
 ghost use Rattle.interpolator_pieces.specs.declared.cost.Limits.{Limits};
 ghost use Rattle.interpolator_syntax.specs.Nodes.{nodes};
 ghost use Rattle.interpolator_pieces.specs.Stored.{nodes_of};
-ghost use Rattle.interpolator_render.specs.Written.{as_writer};
+ghost use Rattle.interpolator_render.specs.Written.{as_writer, plain};
 
 use crate::checks::Check;
 use crate::parse::parse_pieces;
@@ -99,7 +99,7 @@ const MOST_MORE: usize = 256;
 #[tactic(auto, using(interpolator_syntax::proofs::CharacterLemmas::no_text))]
 pub fn buffer_for(alloc: Global, format: &str) -> Result<TextBuffer, AllocError>
     ensures empty { IfOk result
-        (λ buffer. as_writer buffer ≡ record { text = []; refused = false }) }
+        (λ buffer. as_writer buffer ≡ record { text = []; refused = false; origin = plain }) }
     ensures room { IfOk result (λ buffer. length format.now ≤ buffer.room) }
 {
     let len = format.len();

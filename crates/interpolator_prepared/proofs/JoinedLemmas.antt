@@ -160,6 +160,8 @@ placed_refused f xs old new (Fmt p) (inr (inl o)) =
       appended = rw (text_of-placed_by f o.front) o.appended;
       flag = o.flag;
       none_after_refusal = λ r. text_of-placed_by f o.front ∙ o.none_after_refusal r;
+      same_origin = o.same_origin;
+      over = o.over;
       told = ap (λ q. Some (moved_fault f (Fmt q))) here;
     }))
 placed_refused f xs old new (MissingTraitImpl t p) (inr (inr o)) = absurd (let e = o.told in cc)

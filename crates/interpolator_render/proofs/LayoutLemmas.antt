@@ -13,6 +13,8 @@ use Rattle.std.proofs.lemmas.Grind.{flat_map-append}
 use Rattle.interpolator_render.specs.declared.text_write.Refusal.{Refusal}
 use Rattle.interpolator_render.specs.Written.{Written, byte_count, Appends, AppendsBeginning}
 use Rattle.interpolator_render.specs.Written.{Refuses, RefusesLong, RefusesWhole, Puts, Writes}
+use Rattle.interpolator_render.specs.Written.{first_size}
+use Rattle.interpolator_render.proofs.WrittenLemmas.{may_refuse}
 
 -- nothing was written
 pub appends_none : (a : Written) → Appends a [] a
@@ -28,10 +30,15 @@ pub stops_in_second : (a b c : Written) (t u : List ℕ) → Appends a t b → A
     AppendsBeginning a (t ++ u) c
 stops_in_second a b c t u p q = grind (arith, append_assoc)
 
+-- a text that is not empty has the same first character with another after it
+pub first_size-append : (t u : List ℕ) → 0 < length t → first_size (t ++ u) ≡ first_size t
+first_size-append [] u l = absurd (omega arith)
+first_size-append (c ∷ cs) u l = refl
+
 -- the first of two texts was refused
 pub stops_in_first : (a b : Written) (t u : List ℕ) → AppendsBeginning a t b →
     AppendsBeginning a (t ++ u) b
-stops_in_first a b t u p = grind (arith, append_assoc, length-append)
+stops_in_first a b t u p = grind (arith, append_assoc, length-append, first_size-append)
 
 -- what a call returned, whatever its error says
 pub writes_from_puts : (a b : Written) (t : List ℕ) (r : Result (Unit {0}) Refusal) → Puts a t r b →
@@ -136,6 +143,8 @@ refused_whole a b t r l h = record {
     appended = rw h.1 (sym (append-nil a.text));
     flag_set = rw h.1 refl;
     none_after_refusal = λ _. refl;
+    same_origin = rw h.1 refl;
+    over = may_refuse a.origin.bound a.refused _ h.2;
   };
   counted = rw h.0 refl;
 }

@@ -1,6 +1,7 @@
 -- What a writer over a `String` took or refused.
 use Rattle.std.proofs.lemmas.Grind.{common_steps}
-use Rattle.std.proofs.Common.{◌≡◌, ℕ, ◌<◌, true, false, List, [], ◌∷◌, ◌++◌, length, refl}
+use Rattle.std.proofs.Common.{◌≡◌, ◌⊎◌, ℕ, ◌+◌, ◌<◌, Bool, true, false, List, [], ◌∷◌, ◌++◌}
+use Rattle.std.proofs.Common.{length, refl, None, Some}
 use Rattle.std.proofs.Common.{sym, ◌∙◌, ap, arith, append-nil, encode_utf8, encode_utf8_all}
 use Rattle.std.proofs.Common.{Result, MatchResult, Option}
 use Rattle.std.proofs.Common.{chars, IsUtf8}
@@ -9,7 +10,8 @@ use Rattle.std.specs.Char.{IsScalar}
 use Rattle.std.proofs.lemmas.Str.{chars-append, chars-nil, IsUtf8-encode, chars_past_char}
 use Rattle.std.proofs.lemmas.Str.{encodes-chars}
 use Rattle.interpolator_render.specs.Written.{Written, Appends, Refuses}
-use Rattle.interpolator_render.specs.Written.{AppendsWithin, StaysWithin}
+use Rattle.interpolator_render.specs.Written.{AppendsWithin, StaysWithin, GoesOver, byte_count}
+use Rattle.interpolator_render.specs.Written.{first_size}
 
 -- an empty text changes nothing
 pub appends_nothing : (w : Written) (bytes : List ℕ) → length bytes ≡ 0 → Appends w (chars bytes) w
@@ -19,9 +21,9 @@ pub ruleset empty_text = chars-nil
 
 -- a buffer whose bytes grew by the text's, with no refusal before
 pub buffer_appends : (now new : Written) (a b : List ℕ) → IsUtf8 a → now.text ≡ chars a →
-    now.refused ≡ false →
-    new.text ≡ chars (a ++ b) → new.refused ≡ false → Appends now (chars b) new
-buffer_appends now new a b u s f t g = grind (arith, chars-append)
+    now.refused ≡ false → new.text ≡ chars (a ++ b) → new.refused ≡ false →
+    new.origin ≡ now.origin → Appends now (chars b) new
+buffer_appends now new a b u s f t g o = grind (arith, chars-append)
 
 pub chars-encode : (c : ℕ) → IsScalar c → chars (encode_utf8 c) ≡ c ∷ []
 chars-encode c s =
@@ -47,10 +49,19 @@ pub stays_within : (limit after : Option ℕ) (now new : Written) →
     StaysWithin limit after now new → new ≡ now
 stays_within limit after now new p = grind arith
 
+-- a writer with no bound, or one that had refused before, may refuse anything
+pub may_refuse : (bound : Option ℕ) (refused : Bool) (bytes : ℕ)
+    → (bound ≡ None) ⊎ (refused ≡ true) → GoesOver bound refused bytes
+may_refuse None refused bytes p = tt
+may_refuse (Some most) true bytes p = tt
+may_refuse (Some most) false bytes p = grind arith
+
 -- nothing was taken of a text that is not empty
 pub refuses_all : (now new : Written) (text : List ℕ) → 0 < length text → new.text ≡ now.text →
-    new.refused ≡ true → Refuses now text 0 new
-refuses_all now new text ne e r = record {
+    new.refused ≡ true → new.origin ≡ now.origin →
+    GoesOver now.origin.bound now.refused (byte_count new.text + first_size text) →
+    Refuses now text 0 new
+refuses_all now new text ne e r o v = record {
   part = record {
     beginning = [];
     rest = text;
@@ -59,6 +70,8 @@ refuses_all now new text ne e r = record {
     appended = e ∙ sym (append-nil now.text);
     flag_set = r;
     none_after_refusal = λ _. refl;
+    same_origin = o;
+    over = v;
   };
   counted = refl;
 }

@@ -1,19 +1,29 @@
 -- What a bounded writer holds, what it takes of a text, and why it refuses the rest.
 use Rattle.std.specs.Prelude.{◌≡◌, ◌⊎◌, ℕ, ◌+◌, ◌<◌, ◌≤◌, ◌-◌, Bool, true, List, ◌++◌, ◌∷◌}
-use Rattle.std.specs.Prelude.{length, encode_utf8, if◌then◌else◌}
-use Rattle.interpolator_render.specs.Written.{Written, byte_count}
+use Rattle.std.specs.Prelude.{length, encode_utf8, if◌then◌else◌, None, Some}
+use Rattle.interpolator_render.specs.Written.{Written, Origin, byte_count}
 
--- a bounded writer: what is known of it as of any writer, how many bytes it takes in all, and how
--- many its `String` can hold without more memory
+-- a bounded writer: what is known of it as of any writer, how many bytes it takes in all, whether it
+-- took the memory for all of them at first, and how many its `String` can hold without more memory
 pub record BoundedText : Type 0 where
   pub text : List ℕ
   pub refused : Bool
   pub most : ℕ
+  pub ready : Bool
   pub room : ℕ
+
+-- the origin of a bounded writer: its bound is known if it has the memory for it
+abbrev pub bounded : ℕ → Bool → Origin
+bounded most ready = record { bound = if ready then Some most else None; below = None }
 
 -- a bounded writer as a writer
 abbrev pub bounded_writer : BoundedText → Written
-bounded_writer b = record { text = b.text; refused = b.refused }
+bounded_writer b =
+    record { text = b.text; refused = b.refused; origin = bounded b.most b.ready }
+
+-- of the memory that it took at first nothing is lost
+abbrev pub IsReady : Bool → ℕ → ℕ → Type 0
+IsReady ready most room = ready ≡ true → most ≤ room
 
 -- its text has at most the bytes of its bound
 abbrev pub IsWithinBound : BoundedText → Type 0

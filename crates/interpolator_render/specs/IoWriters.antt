@@ -3,13 +3,16 @@ use Rattle.std.specs.Prelude.{◌≡◌, ◌⊎◌, ℕ, ◌+◌, ◌<◌, false
 use Rattle.std.specs.Prelude.{string_bytes, string_capacity, encode_utf8_all, Option}
 use Rattle.std.specs.Io.KnownBytes.{Appends}
 use Rattle.std.specs.Str.{chars}
-use Rattle.interpolator_render.specs.Written.{Written}
+use Rattle.interpolator_render.specs.Written.{Written, plain}
 use Rattle.interpolator_render.specs.declared.io_writer.IoWriter.{IoWriter}
 
 -- it has taken what it passed on and what it holds
 abbrev pub io_written : {W : Type 0} → IoWriter W → Written
-io_written w =
-    record { text = w.passed_on.text ++ chars (string_bytes w.held); refused = w.refused }
+io_written w = record {
+  text = w.passed_on.text ++ chars (string_bytes w.held);
+  refused = w.refused;
+  origin = plain;
+}
 
 -- the known contents of a writer of bytes grow by these bytes; if they are not known, nothing is said
 abbrev pub Gets : Option (List ℕ) → Option (List ℕ) → List ℕ → Type 0

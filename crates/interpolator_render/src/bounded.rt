@@ -1,15 +1,16 @@
 //! A writer over a `String` with a limit on its bytes.
 ghost use Rattle.std.specs.Prelude.{◌≡◌, ℕ, ◌+◌, ◌<◌, ◌≤◌, ◌++◌, ◌∷◌, [], ◌⊎◌, true, false};
 ghost use Rattle.std.specs.Prelude.{length, min, take, string_bytes, string_capacity};
-ghost use Rattle.std.specs.Prelude.{MatchResult, OnErr, OnOk, Some};
+ghost use Rattle.std.specs.Prelude.{IfOk, MatchResult, OnErr, OnOk, Some};
 ghost use Rattle.std.specs.Str.{chars, IsCharBoundary};
 ghost use Rattle.interpolator_render.specs.Written.{Appends, Refuses, RefusesWhole, byte_count};
-ghost use Rattle.interpolator_render.specs.Bounds.{bounded_writer, bytes_left};
+ghost use Rattle.interpolator_render.specs.Written.{plain};
+ghost use Rattle.interpolator_render.specs.Bounds.{bounded, bounded_writer, bytes_left};
 ghost use Rattle.interpolator_render.specs.Bounds.{IsWithinBound, RefusesFor};
 
 use crate::appends::{append, append_char, make_room};
 use crate::text_write::{Refusal, TextWrite};
-use std::alloc::Global;
+use std::alloc::{AllocError, Global};
 use std::marker::Model;
 
 /// A writer over a `String` with a limit on its bytes, which its text never exceeds.
@@ -33,13 +34,15 @@ use std::marker::Model;
 pub struct Bounded {
     text: String,
     most: usize,
+    /// Whether the memory for all of `most` bytes was taken at first.
+    ready: bool,
     refused: bool,
 }
 
 impl Model for Bounded {
     ghost use Rattle.std.specs.Prelude.{◌≤◌, length, string_bytes, string_capacity};
     ghost use Rattle.std.specs.Str.{chars};
-    ghost use Rattle.interpolator_render.specs.Bounds.{BoundedText};
+    ghost use Rattle.interpolator_render.specs.Bounds.{BoundedText, IsReady};
 
     ghost Value = { BoundedText };
 
@@ -47,24 +50,50 @@ impl Model for Bounded {
       text = chars (string_bytes b.text);
       refused = b.refused;
       most = b.most;
+      ready = b.ready;
       room = string_capacity b.text;
     } };
 
-    ghost invariant = { λ b. length (string_bytes b.text) ≤ b.most };
+    ghost invariant = { λ b. (length (string_bytes b.text) ≤ b.most)
+        × IsReady b.ready b.most (string_capacity b.text) };
 }
 
 impl Bounded {
     /// An empty writer that takes at most `most` bytes, and grows in `alloc`'s memory.
     #[tactic(auto, using(crate::proofs::WrittenLemmas::empty_text))]
     pub fn new(alloc: Global, most: usize) -> Bounded
-        ensures written { bounded_writer result ≡ record { text = []; refused = false } }
+        ensures written { bounded_writer result
+            ≡ record { text = []; refused = false; origin = plain } }
         ensures most { result.most ≡ most }
     {
         Bounded {
             text: String::new(alloc),
             most,
+            ready: false,
             refused: false,
         }
+    }
+
+    /// An empty writer that takes at most `most` bytes, and takes the memory for all of them from
+    /// `alloc` at once. So it refuses only a text that goes over the limit, and each text that
+    /// comes after.
+    ///
+    /// # Errors
+    ///
+    /// `AllocError` if there is no memory for `most` bytes.
+    #[tactic(auto, using(crate::proofs::WrittenLemmas::empty_text))]
+    pub fn with_room(alloc: Global, most: usize) -> Result<Bounded, AllocError>
+        ensures written { IfOk result (λ b. bounded_writer b
+            ≡ record { text = []; refused = false; origin = bounded most true }) }
+        ensures most { IfOk result (λ b. b.most ≡ most) }
+    {
+        let text = String::with_capacity(alloc, most)?;
+        Ok(Bounded {
+            text,
+            most,
+            ready: true,
+            refused: false,
+        })
     }
 
     /// The text so far.
@@ -83,6 +112,7 @@ impl Bounded {
         let Bounded {
             text,
             most: _,
+            ready: _,
             refused: _,
         } = self;
         text

@@ -8,7 +8,7 @@ ghost use Rattle.std.specs.declared.io.ErrorKind.TheVariants.{Other};
 ghost use Rattle.std.specs.Str.{chars};
 ghost use Rattle.interpolator_render.specs.IoWriters.{FailsBelow, Gets, GotPrefix, HandsOn};
 ghost use Rattle.interpolator_render.specs.IoWriters.{io_written, IoRefusesFor, KeepsPrefix};
-ghost use Rattle.interpolator_render.specs.Written.{Appends, Refuses, RefusesWhole};
+ghost use Rattle.interpolator_render.specs.Written.{Appends, Refuses, RefusesWhole, plain};
 
 use crate::appends::{append, append_char};
 use crate::ghost_log::GhostLog;
@@ -53,7 +53,7 @@ pub struct IoWriter<W: Write + Drop> {
 impl<W: Write + Drop> IoWriter<W> {
     /// A writer over `inner` that has taken nothing. It gathers text in `alloc`'s memory.
     pub fn new(alloc: Global, inner: W) -> IoWriter<W>
-        ensures written { io_written result ≡ record { text = []; refused = false } }
+        ensures written { io_written result ≡ record { text = []; refused = false; origin = plain } }
         ensures held { string_bytes result.held ≡ [] }
         ensures inner { result.inner ≡ inner }
         ensures history { GotPrefix W.contents (W.contents inner) result }

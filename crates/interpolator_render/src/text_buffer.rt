@@ -4,7 +4,7 @@ ghost use Rattle.std.specs.Prelude.{encode_utf8, string_bytes, string_capacity};
 ghost use Rattle.std.specs.Prelude.{MatchResult, OnOk, OnErr, None};
 ghost use Rattle.std.specs.Str.{chars};
 ghost use Rattle.interpolator_render.specs.Written.{Appends, Refuses, RefusesWhole};
-ghost use Rattle.interpolator_render.specs.Written.{as_writer, byte_count, MayRefuse};
+ghost use Rattle.interpolator_render.specs.Written.{as_writer, byte_count, MayRefuse, plain};
 
 use crate::places::{make_ready, put_at};
 use crate::text_write::{Refusal, TextWrite};
@@ -62,7 +62,7 @@ impl TextBuffer {
     /// An empty buffer, which grows in `alloc`'s memory.
     #[tactic(auto, using(crate::proofs::WrittenLemmas::empty_text))]
     pub fn new(alloc: Global) -> TextBuffer
-        ensures { as_writer result ≡ record { text = []; refused = false } }
+        ensures { as_writer result ≡ record { text = []; refused = false; origin = plain } }
     {
         TextBuffer {
             bytes: Vec::new(alloc),

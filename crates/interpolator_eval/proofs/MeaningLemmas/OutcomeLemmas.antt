@@ -46,6 +46,8 @@ after_finished m k old mid new answer h (inr (inl o)) = rw (no_fault m old mid (
       appended = grind (arith, text_of-append, append_assoc);
       flag = o.flag;
       none_after_refusal = grind (arith, text_of-append);
+      same_origin = o.same_origin ∙ h.all.same_origin;
+      over = rw (h.all.same_origin, h.all.same_flag) at o.over;
       told = o.told;
     })))
 after_finished m k old mid new answer h (inr (inr o)) = rw (no_fault m old mid (inl h))

@@ -13,6 +13,7 @@ use Rattle.interpolator_render.specs.declared.view.Trait.TheVariants.{Display}
 use Rattle.interpolator_render.proofs.RenderingLemmas.{displayed_as_it_is}
 use Rattle.interpolator_syntax.specs.SpecTexts.{plain_spec}
 use Rattle.interpolator_render.specs.Written.{Written, Appends, AppendsBeginning, Refuses}
+use Rattle.interpolator_render.specs.Written.{GoesOver, byte_count, first_size}
 use Rattle.interpolator_syntax.specs.At.{Placed, text_of, placed_at, placed_from, size}
 use Rattle.interpolator_syntax.specs.Faults.{fault, fmt}
 use Rattle.interpolator_eval.specs.Meaning.Meanings.{text_alone, view_means}
@@ -40,9 +41,10 @@ module _ (placed : List ℕ → Placed) (own : (cs : List ℕ) → text_of (plac
     → (back : Placed) × (placed (front ++ (c ∷ rest)) ≡ placed front ++ ((c, end front) ∷ back)))
     (cs : List ℕ) (old new : Written) (h : AppendsBeginning old cs new) where
   refused_before : (rest : List ℕ) → cs ≡ h.beginning ++ rest → 0 < length rest
+      → GoesOver old.origin.bound old.refused (byte_count new.text + first_size rest)
       → Outcome (text_alone (placed cs)) old new (Some (fault (fmt (end h.beginning))))
-  refused_before [] e n = absurd (omega arith)
-  refused_before (c ∷ rest) e n =
+  refused_before [] e n o = absurd (omega arith)
+  refused_before (c ∷ rest) e n o =
       inr (inl (record {
         front = placed h.beginning;
         c = c;
@@ -52,11 +54,13 @@ module _ (placed : List ℕ → Placed) (own : (cs : List ℕ) → text_of (plac
         appended = rw (own h.beginning) h.appended;
         flag = h.flag_set;
         none_after_refusal = rw (own h.beginning) h.none_after_refusal;
+        same_origin = h.same_origin;
+        over = o;
         told = refl;
       }))
 
   refused : Outcome (text_alone (placed cs)) old new (Some (fault (fmt (end h.beginning))))
-  refused = refused_before h.rest h.parts h.not_whole
+  refused = refused_before h.rest h.parts h.not_whole h.over
 
 -- a text whose characters are all at one place was written whole, or refused
 pub wrote_at : (p : ℕ) (cs : List ℕ) (old new : Written) → Appends old cs new

@@ -1,10 +1,10 @@
 -- The three outcomes of writing what a format means.
 use Rattle.std.specs.Prelude.{◌≡◌, ℕ, [], ◌∷◌, ◌++◌, length, Contains, Option, None, ⊤}
 use Rattle.std.specs.Prelude.{Some, option_map, true, ◌⊎◌, Result, MatchResult}
-use Rattle.std.specs.Prelude.{string_bytes}
+use Rattle.std.specs.Prelude.{string_bytes, encode_utf8, ◌+◌}
 use Rattle.std.specs.Str.{chars}
 use Rattle.std.specs.declared.string.String.{String}
-use Rattle.interpolator_render.specs.Written.{Written, Appends}
+use Rattle.interpolator_render.specs.Written.{Written, Appends, GoesOver, byte_count}
 use Rattle.interpolator_syntax.specs.declared.error.Error.{Error}
 use Rattle.interpolator_syntax.specs.At.{Placed, text_of}
 use Rattle.interpolator_syntax.specs.Faults.{Answer, fault, no_memory, fmt, answer_of}
@@ -18,7 +18,8 @@ module _ (m : Meaning) (old new : Written) (answer : Option Answer) where
     pub told : answer ≡ option_map fault m.fault
 
   -- a proper beginning of the text is appended, or none of it if the writer had refused before;
-  -- `Fmt` is returned, at the place of the first character that was not appended
+  -- `Fmt` is returned, at the place of the first character that was not appended. Of a writer that
+  -- has a bound, this character goes over it
   pub record Refused : Type 0 where
     pub front : Placed
     pub c : ℕ
@@ -28,6 +29,9 @@ module _ (m : Meaning) (old new : Written) (answer : Option Answer) where
     pub appended : new.text ≡ old.text ++ text_of front
     pub flag : new.refused ≡ true
     pub none_after_refusal : old.refused ≡ true → text_of front ≡ []
+    pub same_origin : new.origin ≡ old.origin
+    pub over : GoesOver old.origin.bound old.refused
+        (byte_count new.text + length (encode_utf8 c))
     pub told : answer ≡ Some (fault (fmt place))
 
   -- memory ran out: exactly the characters before one of the memory points are appended

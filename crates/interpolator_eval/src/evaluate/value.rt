@@ -3,6 +3,7 @@ ghost use Rattle.std.specs.Prelude.{◌≡◌, ◌⊎◌, [], IfOk, MatchResult,
 ghost use Rattle.std.specs.Str.{chars};
 ghost use Rattle.std.specs.Option.{option_copied};
 ghost use Rattle.interpolator_render.specs.Bounds.{bounded_writer};
+ghost use Rattle.interpolator_render.specs.Written.{plain};
 ghost use Rattle.interpolator_render.specs.declared.view.Trait.TheVariants.{Display};
 ghost use Rattle.interpolator_syntax.specs.Faults.{result_answer, fault, missing_value, no_memory};
 ghost use Rattle.interpolator_syntax.specs.SpecTexts.{plain_spec};
@@ -168,7 +169,8 @@ pub fn list_buffer<'a, W: TextWrite, C: Context>(
     sink: &Sink<'_, W>,
     environment: &Environment<'a, C, C::Object>,
 ) -> Bounded
-    ensures empty { bounded_writer result ≡ record { text = []; refused = false } }
+    ensures empty { bounded_writer result
+        ≡ record { text = []; refused = false; origin = plain } }
     ensures most { HasRoom W.limit sink.now result.most }
 {
     Bounded::new(environment.alloc(), sink.room())

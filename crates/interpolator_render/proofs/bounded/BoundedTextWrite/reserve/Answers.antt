@@ -2,6 +2,9 @@ use Rattle.std.proofs.Common.{arith}
 use Rattle.std.proofs.lemmas.Str.{encodes-chars, IsUtf8-string_bytes}
 use Rattle.interpolator_render.proofs.bounded.BoundedTextWrite.reserve.Goals as goal
 
+pub returns-clause-written : goal.returns-clause-written
+returns-clause-written c = grind (arith, encodes-chars, IsUtf8-string_bytes)
+
 pub returns-clause-ready : goal.returns-clause-ready
 returns-clause-ready c = grind (arith, encodes-chars, IsUtf8-string_bytes)
 

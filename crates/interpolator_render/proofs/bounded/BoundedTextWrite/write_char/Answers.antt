@@ -1,5 +1,6 @@
-use Rattle.std.proofs.Common.{[], append-nil, arith, inl, inr, length-append, refl}
+use Rattle.std.proofs.Common.{[], ◌∷◌, append-nil, arith, inl, inr, length-append, refl}
 use Rattle.std.proofs.lemmas.Str.{chars-append, encodes-chars, IsUtf8-string_bytes}
+use Rattle.interpolator_render.proofs.BoundLemmas.{past_bound, within_memory}
 use Rattle.interpolator_render.proofs.WrittenLemmas.{chars-encode, refuses_all}
 use Rattle.interpolator_render.proofs.bounded.BoundedTextWrite.write_char.Goals as goal
 
@@ -20,7 +21,10 @@ returns-then-len_utf8-self-clause-within c =
     grind (arith, encodes-chars, IsUtf8-string_bytes, length-append)
 
 pub returns-clause-written : goal.returns-clause-written
-returns-clause-written c = grind (arith, refuses_all)
+returns-clause-written c = let b = c.self.inside in
+    rw (← c.self.view_is) (refuses_all _ _ (c.args.c ∷ []) (omega arith) refl refl refl
+    (past_bound b.ready b.refused b.most _
+    (inr (grind (arith, encodes-chars, IsUtf8-string_bytes)))))
 
 pub returns-clause-why : goal.returns-clause-why
 returns-clause-why c = inr (inl (record {
