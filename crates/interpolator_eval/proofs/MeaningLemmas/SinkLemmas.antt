@@ -1,13 +1,13 @@
 -- What is written to a sink, one after another.
 use Rattle.std.proofs.Common.{ap, length, length-append, rules, ◌≡◌, ℕ, [], ◌∷◌, Option, None, Some}
-use Rattle.std.proofs.Common.{option_map, false, inl, inr, arith}
+use Rattle.std.proofs.Common.{option_map, false, inl, inr, arith, refl}
 use Rattle.interpolator_render.specs.declared.view.Spec.{Spec}
 use Rattle.interpolator_render.proofs.LayoutLemmas.{appends_none}
 use Rattle.interpolator_render.specs.Written.{Written}
 use Rattle.interpolator_syntax.specs.At.{text_of}
 use Rattle.interpolator_syntax.specs.Faults.{Fault, Answer, fault, no_memory}
 use Rattle.interpolator_eval.specs.Meaning.Meanings.{Meaning, nothing, fault_alone, buffered_means}
-use Rattle.interpolator_eval.specs.Meaning.Meanings.{chain}
+use Rattle.interpolator_eval.specs.Meaning.Meanings.{chain, fault_wanting_memory}
 use Rattle.interpolator_eval.specs.Meaning.Outcomes.{Outcome}
 use Rattle.interpolator_eval.specs.Meaning.Sinks.{IsWriter, SameEnd, Writes, taken_by}
 use Rattle.interpolator_eval.specs.declared.evaluate.sink.Sink.{Sink}
@@ -70,4 +70,11 @@ module _ (spec : Spec) (q : ℕ) where
   pub whole_fault : (m : Meaning) (out empty now : Written) (f : Answer) → now.refused ≡ false
       → Outcome m empty now (Some f)
       → Outcome (buffered_means spec q m.fault (text_of m.text)) out out (Some f)
-  whole_fault m out empty now f kept o = grind (arith, appends_none)
+  whole_fault m out empty now f kept (inl o) = told m.fault o.told
+    where
+      told : (g : Option Fault) → Some f ≡ option_map fault g
+          → Outcome (buffered_means spec q g (text_of m.text)) out out (Some f)
+      told None e = absurd (let same = e in cc)
+      told (Some x) e = stops (fault_wanting_memory x) out (Some f) refl e
+  whole_fault m out empty now f kept (inr (inl o)) = absurd (let set = o.flag in cc)
+  whole_fault m out empty now f kept (inr (inr o)) = rw o.told (whole_refused m out)
