@@ -1,7 +1,7 @@
 -- What is told of a table.
 use Rattle.std.specs.{Borrow.Bor, Str.chars, Str.is_utf8, Str.IsUtf8}
 use Rattle.std.proofs.Common.{arith, ◌≡◌, ◌⊎◌, inl, inr, ◌∙◌, ap, List, ℕ, Some, true, Err, length}
-use Rattle.std.proofs.Common.{Option, option_map, subst}
+use Rattle.std.proofs.Common.{Option, option_map, refl, subst, sym}
 use Rattle.std.specs.Prelude.{IsSomeAnd}
 use Rattle.std.proofs.lemmas.Str.{encodes-chars}
 use Rattle.interpolator_syntax.specs.At.{outermost}
@@ -9,7 +9,8 @@ use Rattle.interpolator_syntax.specs.Faults.{Answer, Fault, fault, no_memory, an
 use Rattle.interpolator_eval.specs.{Contexts.found_by_pairs, declared.slots.Formattable.Formattable}
 use Rattle.interpolator.specs.Prepared.Rows.{PreparedFormat}
 use Rattle.interpolator.specs.Template.{Collecting.AnswersFirst, NodeSamples.faults_over}
-use Rattle.interpolator_border.specs.Answers.{Told, ToldBy, ToldFailure, ToldFault, text_answer}
+use Rattle.interpolator_border.specs.Answers.{Told, ToldAlone, ToldBy, ToldFailure, ToldFault}
+use Rattle.interpolator_border.specs.Answers.{text_answer}
 use Rattle.interpolator_border.specs.Tables.{ColumnFaults, FailsIn, Prepares, RowsAnswers, AllRows}
 use Rattle.interpolator_border.specs.Tables.{Faultless, Pairs, TellsNoRow, TellsRows, ToldAtRow}
 use Rattle.interpolator_border.specs.Tables.{column_names}
@@ -66,7 +67,17 @@ module _ (columns cells : List Field) (format : List ℕ) (ends_old ends_new old
   by_answer : (a : Answer) → is_utf8 format ≡ true
       → ColumnFaults columns format (λ fs. AnswersFirst fs (Some a)) → ToldBy a 0 old new answer
       → TellsNoRow columns cells format (length ends_old) old new answer
-  by_answer a utf8 faults told = grind (arith, utf8, faults, told)
+  by_answer (fault f) utf8 faults told =
+      inl (
+        utf8,
+        record {
+          pairs = faults.pairs;
+          are = faults.are;
+          holds = subst (λ found. IsSomeAnd found (ToldAlone old new answer)) (sym faults.holds) told;
+        },
+      )
+  by_answer no_memory utf8 faults told =
+      inr (inl (out_of_memory 0 old new answer no_memory refl told))
 
   -- why the format is not prepared is told
   pub columns_fail : (why : Failure)
