@@ -2,7 +2,7 @@
 use Rattle.std.proofs.Common.{◌≡◌, ◌⊎◌, inl, inr, ℕ, ◌+◌, ◌<◌, ◌≤◌, Bool, true, false}
 use Rattle.std.proofs.Common.{List, [], ◌∷◌, ◌++◌, length, take, drop, refl, sym, ◌∙◌, ap, arith, append-nil}
 use Rattle.std.proofs.Common.{length-append, length-drop, length-take-le, take-append-drop}
-use Rattle.std.proofs.Common.{lt_of_not-le, encode_utf8, encode_utf8_all}
+use Rattle.std.proofs.Common.{lt_of_not-le, encode_utf8_all}
 use Rattle.std.proofs.Common.{chars, IsUtf8, IsCharBoundary}
 use Rattle.std.proofs.lemmas.Str.{encodes-chars, chars-append, chars-nil, IsUtf8-append}
 use Rattle.std.proofs.lemmas.Str.{IsUtf8-take, IsUtf8-drop, IsCharBoundary-past_char}

@@ -1,57 +1,58 @@
 -- What a writer over a writer of bytes has taken, what it has passed on to that one, and why it refuses.
-use Rattle.std.specs.Prelude.{◌≡◌, ◌⊎◌, ℕ, ◌+◌, ◌<◌, false, true, List, ◌++◌, length, take}
-use Rattle.std.specs.Prelude.{string_bytes, string_capacity, encode_utf8_all, Option}
-use Rattle.std.specs.Io.KnownBytes.{Appends}
+use Rattle.std.specs.Prelude.{◌≡◌, ◌⊎◌, ℕ, ◌+◌, ◌<◌, ◌≤◌, max, Bool, false, true, ◌||◌, List, ◌++◌}
+use Rattle.std.specs.Prelude.{length, None, string_bytes, string_capacity, encode_utf8_all, Option}
 use Rattle.std.specs.Str.{chars}
-use Rattle.interpolator_render.specs.Written.{Written, plain}
+use Rattle.interpolator_render.specs.PassedOn.{Gets, GetsFront}
+use Rattle.interpolator_render.specs.Written.{Written, Origin}
 use Rattle.interpolator_render.specs.declared.io_writer.IoWriter.{IoWriter}
 
+-- the origin of a writer over a writer of bytes that contained this at first, if that is known
+abbrev pub over : Option (List ℕ) → Origin
+over start = record { bound = None; below = start }
+
+-- it refuses once a call of the writer below has failed, or there was no memory for a text
+abbrev pub refuses : {W : Type 0} {g : _} → IoWriter W g → Bool
+refuses w = w.below.failed || w.no_memory
+
 -- it has taken what it passed on and what it holds
-abbrev pub io_written : {W : Type 0} → IoWriter W → Written
+abbrev pub io_written : {W : Type 0} {g : _} → IoWriter W g → Written
 io_written w = record {
   text = w.passed_on.text ++ chars (string_bytes w.held);
-  refused = w.refused;
-  origin = plain;
+  refused = refuses w;
+  origin = over w.passed_on.start;
 }
 
--- the known contents of a writer of bytes grow by these bytes; if they are not known, nothing is said
-abbrev pub Gets : Option (List ℕ) → Option (List ℕ) → List ℕ → Type 0
-Gets old new bytes = Appends old new bytes
+-- the writer below contains what it did at first, and then the bytes of all the text taken
+abbrev pub HasAll : {W : Type 0} {g : _} → (W → Option (List ℕ)) → IoWriter W g → Type 0
+HasAll told w =
+    Gets (io_written w).origin.below (told w.below.inner) (encode_utf8_all (io_written w).text)
+
+-- or at least a front of them
+abbrev pub HasFront : {W : Type 0} {g : _} → (W → Option (List ℕ)) → IoWriter W g → Type 0
+HasFront told w =
+    GetsFront (io_written w).origin.below (told w.below.inner) (encode_utf8_all (io_written w).text)
 
 -- of what it held and of more bytes a front was passed on; it holds the rest, unless it refuses
-pub record HandsOn {W : Type 0} (told : W → Option (List ℕ)) (old new : IoWriter W) (more : List ℕ)
-    : Type 0 where
+pub record HandsOn {W : Type 0} {g : _} (told : W → Option (List ℕ)) (old new : IoWriter W g)
+    (more : List ℕ) : Type 0 where
   pub front : List ℕ
   pub rest : List ℕ
   pub parts : string_bytes old.held ++ more ≡ front ++ rest
-  pub got : Gets (told old.inner) (told new.inner) front
-  pub held : new.refused ≡ false → string_bytes new.held ≡ rest
+  pub got : Gets (told old.below.inner) (told new.below.inner) front
+  pub held : refuses new ≡ false → string_bytes new.held ≡ rest
 
--- the writer below, which first contained `start`, has got a prefix of the bytes of all the text
--- taken since then, each byte once; the rest is held, unless the writer has refused
-pub record GotPrefix {W : Type 0} (told : W → Option (List ℕ)) (start : Option (List ℕ))
-    (w : IoWriter W) : Type 0 where
-  pub front : List ℕ
-  pub rest : List ℕ
-  pub parts : encode_utf8_all (io_written w).text ≡ front ++ rest
-  pub got : Gets start (told w.inner) front
-  pub held : w.refused ≡ false → string_bytes w.held ≡ rest
+-- a call of the writer below failed
+abbrev pub FailsBelow : {W : Type 0} {g : _} → IoWriter W g → IoWriter W g → Type 0
+FailsBelow old new = (old.below.failed ≡ false) × (new.below.failed ≡ true)
 
--- what the writer below has got stays a prefix of the text, whatever the writer below contained first
-abbrev pub KeepsPrefix : {W : Type 0} → (W → Option (List ℕ)) → IoWriter W → IoWriter W → Type 0
-KeepsPrefix told old new =
-    (start : Option (List ℕ)) → GotPrefix told start old → GotPrefix told start new
-
--- a write below failed: at least one byte of what was held was not passed on
-pub record FailsBelow {W : Type 0} (told : W → Option (List ℕ)) (old new : IoWriter W) : Type 0 where
-  pub count : ℕ
-  pub not_all : count < length (string_bytes old.held)
-  pub got : Gets (told old.inner) (told new.inner) (take count (string_bytes old.held))
-
--- why bytes were refused: an earlier refusal, a failed write below, or no room for them in memory
--- beside what is still held
-abbrev pub IoRefusesFor : {W : Type 0} → (W → Option (List ℕ)) → IoWriter W → List ℕ → IoWriter W
-    → Type 0
-IoRefusesFor told old bytes new =
-    (old.refused ≡ true) ⊎ (FailsBelow told old new
+-- why bytes were refused: an earlier refusal, a failed call of the writer below, or no room for them
+-- in memory beside what is still held
+abbrev pub IoRefusesFor : {W : Type 0} {g : _} → IoWriter W g → List ℕ → IoWriter W g → Type 0
+IoRefusesFor old bytes new =
+    (refuses old ≡ true) ⊎ (FailsBelow old new
     ⊎ (string_capacity old.held < length (string_bytes new.held) + length bytes))
+
+-- how many bytes are held after a text: at most 8 KiB, or one longer text whole, or as many as before
+abbrev pub Gathers : {W : Type 0} {g : _} → IoWriter W g → ℕ → IoWriter W g → Type 0
+Gathers old bytes new =
+    length (string_bytes new.held) ≤ max (max 8192 bytes) (length (string_bytes old.held))

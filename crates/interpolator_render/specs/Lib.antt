@@ -1,6 +1,7 @@
 -- The definitions that the contracts cite.
 pub mod Written
 pub mod Bounds
+pub mod PassedOn
 pub mod IoWriters
 pub mod Views
 pub mod Characters

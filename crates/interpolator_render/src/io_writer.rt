@@ -1,16 +1,15 @@
 //! A writer over a writer of bytes.
-ghost use Rattle.std.specs.Prelude.{◌≡◌, ◌<◌, ◌≤◌, ◌++◌, ◌∷◌, [], true, false, length, take};
-ghost use Rattle.std.specs.Prelude.{string_bytes, string_capacity, encode_utf8};
-ghost use Rattle.std.specs.Prelude.{◌⊎◌, IfErr, IfOk, MatchResult, OnErr, OnOk};
-ghost use Rattle.std.specs.Io.KnownBytes.{Keeps};
+ghost use Rattle.std.specs.Prelude.{◌≡◌, ◌≤◌, ◌<◌, ◌+◌, ◌++◌, ◌∷◌, [], true, false, length, max};
+ghost use Rattle.std.specs.Prelude.{string_bytes, string_capacity, encode_utf8, encode_utf8_all};
+ghost use Rattle.std.specs.Prelude.{◌⊎◌, IfErr, MatchResult, OnErr, OnOk};
 ghost use Rattle.std.specs.IoError.{error_kind};
 ghost use Rattle.std.specs.declared.io.ErrorKind.TheVariants.{Other};
 ghost use Rattle.std.specs.Str.{chars};
-ghost use Rattle.interpolator_render.specs.IoWriters.{FailsBelow, Gets, GotPrefix, HandsOn};
-ghost use Rattle.interpolator_render.specs.IoWriters.{io_written, IoRefusesFor, KeepsPrefix};
-ghost use Rattle.interpolator_render.specs.Written.{Appends, Refuses, RefusesWhole, plain};
+ghost use Rattle.std.specs.Coded.{→_prop};
+ghost use Rattle.interpolator_render.specs.PassedOn.{Gets, Gets-prop, GetsFront, GetsFront-prop};
 
 use crate::appends::{append, append_char};
+use crate::below::Below;
 use crate::ghost_log::GhostLog;
 use crate::text_write::{Refusal, TextWrite};
 use std::alloc::Global;
@@ -19,9 +18,6 @@ use std::io::Write;
 
 /// How many bytes are gathered before they are passed on.
 const GATHERED: usize = 8192;
-
-/// How often a write that a signal interrupts is tried.
-const TRIES: usize = 64;
 
 /// A writer over a writer of bytes, such as a file or the standard output.
 ///
@@ -44,125 +40,133 @@ const TRIES: usize = 64;
 /// ```
 #[derive(Drop)]
 pub struct IoWriter<W: Write + Drop> {
-    inner: W,
+    below: Below<W>,
     held: String,
-    refused: bool,
+    /// Whether there was no memory for a text.
+    no_memory: bool,
     passed_on: GhostLog,
+    // the writer below has got what was passed on, each byte once, unless a call of it has failed
+    ghost whole: { below.failed ≡ false
+        → Gets passed_on.start (W.contents below.inner) (encode_utf8_all passed_on.text) } by { →_prop (Gets-prop passed_on.start (W.contents below.inner)
+            (encode_utf8_all passed_on.text)) },
+    // in any case it has got a front of all the text that was taken
+    ghost front: { GetsFront passed_on.start (W.contents below.inner)
+        (encode_utf8_all passed_on.text ++ string_bytes held) } by { GetsFront-prop passed_on.start (W.contents below.inner)
+            (encode_utf8_all passed_on.text ++ string_bytes held) },
 }
 
 impl<W: Write + Drop> IoWriter<W> {
+    ghost use Rattle.interpolator_render.specs.IoWriters.{FailsBelow, Gathers, HandsOn, HasAll};
+    ghost use Rattle.interpolator_render.specs.IoWriters.{HasFront, io_written, over, refuses};
+    ghost use Rattle.interpolator_render.specs.Written.{RefusesWhole};
+
     /// A writer over `inner` that has taken nothing. It gathers text in `alloc`'s memory.
     pub fn new(alloc: Global, inner: W) -> IoWriter<W>
-        ensures written { io_written result ≡ record { text = []; refused = false; origin = plain } }
+        ensures written { io_written result
+            ≡ record { text = []; refused = false; origin = over (W.contents inner) } }
         ensures held { string_bytes result.held ≡ [] }
-        ensures inner { result.inner ≡ inner }
-        ensures history { GotPrefix W.contents (W.contents inner) result }
+        ensures inner { result.below.inner ≡ inner }
     {
+        let passed_on = GhostLog::over(&inner);
         IoWriter {
-            inner,
+            below: Below::new(inner),
             held: String::new(alloc),
-            refused: false,
-            passed_on: GhostLog::new(),
+            no_memory: false,
+            passed_on,
         }
     }
 
     /// Passes on what is gathered, and flushes the writer below. After `Ok` nothing is gathered, and
-    /// all the text taken has been passed on. After `Err` the writer refuses every text but the empty
-    /// one, and passes nothing more on.
+    /// the writer below has got all the text taken. After `Err` the writer refuses every text but the
+    /// empty one, and passes nothing more on.
     ///
     /// # Errors
     ///
     /// The error of the write or of the flush below. If the writer had refused before,
     /// `ErrorKind::Other`, and nothing is done.
     pub fn flush(&mut self) -> io::Result<()>
-        ensures text { (io_written self.new).text ≡ (io_written self.old).text }
-        ensures ok { OnOk result ((self.new.refused ≡ false)
-            × Gets (W.contents self.old.inner) (W.contents self.new.inner)
-            (string_bytes self.old.held)) }
-        ensures all { OnOk result ((self.old.refused ≡ false) × (string_bytes self.new.held ≡ [])) }
-        ensures err { OnErr result (self.new.refused ≡ true) }
-        ensures kind { self.old.refused ≡ true
-            → IfErr result (λ e. error_kind e ≡ Other) }
-        ensures history { KeepsPrefix W.contents self.old self.new }
-        ensures quiet { self.old.refused ≡ true → self.new ≡ self.old }
+        ensures written { MatchResult result (λ _. io_written self.new ≡ io_written self.old)
+            (λ _. io_written self.new ≡ record (io_written self.old) { refused = true }) }
+        ensures all { OnOk result (HasAll W.contents self.new) }
+        ensures ok { OnOk result ((refuses self.old ≡ false) × (string_bytes self.new.held ≡ [])) }
+        ensures got { OnOk result (Gets (W.contents self.old.below.inner)
+            (W.contents self.new.below.inner) (string_bytes self.old.held)) }
+        ensures passed_on { HandsOn W.contents self.old self.new [] }
+        ensures why { OnErr result ((refuses self.old ≡ true) ⊎ FailsBelow self.old self.new) }
+        ensures memory { self.new.no_memory ≡ self.old.no_memory }
+        ensures kind { refuses self.old ≡ true → IfErr result (λ e. error_kind e ≡ Other) }
+        ensures quiet { refuses self.old ≡ true → self.new ≡ self.old }
     {
-        if self.refused {
+        if self.has_refused() {
             return Err(io::Error::from(io::ErrorKind::Other));
         }
         match self.hand_on() {
-            Ok(()) => self.flush_below(),
+            Ok(()) => self.below.flush(),
             Err(error) => Err(error),
         }
     }
 
-    /// The writer below. What is gathered and not passed on is lost: call [`IoWriter::flush`] first.
+    /// The writer below, which has got all the text taken, or a front of it. What is gathered and not
+    /// passed on is lost: call [`IoWriter::flush`] first.
     pub fn into_inner(self) -> W
-        ensures { result ≡ self.inner }
+        ensures inner { result ≡ self.below.inner }
+        ensures front { HasFront W.contents self }
     {
         let IoWriter {
-            inner,
+            below,
             held: _,
-            refused: _,
+            no_memory: _,
             passed_on: _,
         } = self;
-        inner
+        below.into_inner()
+    }
+
+    /// Whether it refuses.
+    fn has_refused(&self) -> bool
+        ensures { result ≡ refuses self.now }
+    {
+        self.below.failed() || self.no_memory
     }
 
     /// Passes on what is held, or refuses from now on.
     fn hand_on(&mut self) -> io::Result<()>
-        requires { self.old.refused ≡ false }
-        ensures text { (io_written self.new).text ≡ (io_written self.old).text }
-        ensures ok { OnOk result ((self.new.refused ≡ self.old.refused)
-            × ((string_bytes self.new.held ≡ [])
-            × Gets (W.contents self.old.inner) (W.contents self.new.inner)
-            (string_bytes self.old.held))) }
-        ensures err { OnErr result ((self.new.refused ≡ true)
-            × HandsOn W.contents self.old self.new []) }
-        ensures why { OnErr result (FailsBelow W.contents self.old self.new) }
+        requires { refuses self.old ≡ false }
+        ensures written { MatchResult result (λ _. io_written self.new ≡ io_written self.old)
+            (λ _. io_written self.new ≡ record (io_written self.old) { refused = true }) }
+        ensures ok { OnOk result ((string_bytes self.new.held ≡ [])
+            × Gets (W.contents self.old.below.inner) (W.contents self.new.below.inner)
+            (string_bytes self.old.held)) }
+        ensures passed_on { HandsOn W.contents self.old self.new [] }
+        ensures why { OnErr result (FailsBelow self.old self.new) }
+        ensures memory { self.new.no_memory ≡ self.old.no_memory }
         ensures room { string_capacity self.new.held ≡ string_capacity self.old.held }
     {
-        let (_, result) = write_out(self.held.as_str().as_bytes(), &mut self.inner);
+        let (_, result) = self.below.write(self.held.as_str().as_bytes());
         match result {
             Ok(()) => {
                 self.passed_on = self.passed_on.and(&self.held);
                 self.held.clear();
                 Ok(())
             }
-            Err(error) => {
-                self.refused = true;
-                Err(error)
-            }
+            Err(error) => Err(error),
         }
-    }
-
-    /// Flushes the writer below, or refuses from now on.
-    fn flush_below(&mut self) -> io::Result<()>
-        ensures passed_on { self.new.passed_on ≡ self.old.passed_on }
-        ensures held { self.new.held ≡ self.old.held }
-        ensures below { Keeps (W.contents self.old.inner) (W.contents self.new.inner) }
-        ensures ok { OnOk result (self.new.refused ≡ false) }
-        ensures err { OnErr result (self.new.refused ≡ true) }
-    {
-        let flushed = self.inner.flush();
-        self.refused = flushed.is_err();
-        flushed
     }
 
     /// Passes on what is held if this many more bytes would be too many. A writer that has refused
     /// refuses again.
     fn make_way(&mut self, bytes: usize) -> Result<(), Refusal>
         ensures ok { OnOk result ((io_written self.new ≡ io_written self.old)
-            × HandsOn W.contents self.old self.new []) }
+            × (refuses self.new ≡ false)) }
         ensures err { MatchResult result (λ _. Unit {0})
-            (λ refusal. RefusesWhole (io_written self.old) refusal.taken (io_written self.new)
-            × HandsOn W.contents self.old self.new []) }
-        ensures open { OnOk result (self.old.refused ≡ false) }
-        ensures why { OnErr result ((self.old.refused ≡ true)
-            ⊎ FailsBelow W.contents self.old self.new) }
-        ensures quiet { self.old.refused ≡ true → self.new ≡ self.old }
+            (λ refusal. RefusesWhole (io_written self.old) refusal.taken (io_written self.new)) }
+        ensures passed_on { HandsOn W.contents self.old self.new [] }
+        ensures gathered { OnOk result (length (string_bytes self.new.held) + bytes
+            ≤ max (max 8192 bytes) (length (string_bytes self.old.held))) }
+        ensures why { OnErr result ((refuses self.old ≡ true) ⊎ FailsBelow self.old self.new) }
+        ensures quiet { refuses self.old ≡ true → self.new ≡ self.old }
         ensures room { string_capacity self.new.held ≡ string_capacity self.old.held }
     {
-        if self.refused {
+        if self.has_refused() {
             return Err(Refusal { taken: 0 });
         }
         if bytes <= GATHERED.saturating_sub(self.held.len()) {
@@ -175,45 +179,11 @@ impl<W: Write + Drop> IoWriter<W> {
     }
 }
 
-/// Writes bytes until all are written or a write fails, and returns how many were written.
-fn write_out<W: Write>(bytes: &[u8], to: &mut W) -> (usize, io::Result<()>)
-    ensures bound { result.0 ≤ length bytes.now }
-    ensures all { OnOk result.1 (result.0 ≡ length bytes.now) }
-    ensures not_all { OnErr result.1 (result.0 < length bytes.now) }
-    ensures got { Gets (W.contents to.old) (W.contents to.new) (take result.0 bytes.now) }
-{
-    let mut done = 0usize;
-    while done < bytes.len() {
-        match write_some(to, &bytes[done..]) {
-            Ok(0) => return (done, Err(io::Error::from(io::ErrorKind::WriteZero))),
-            Ok(n) => done += n,
-            Err(error) => return (done, Err(error)),
-        }
-    }
-    (done, Ok(()))
-}
-
-/// One write, tried again each time that a signal interrupts it.
-fn write_some<W: Write>(to: &mut W, bytes: &[u8]) -> io::Result<usize>
-    ensures bound { IfOk result (λ n. n ≤ length bytes.now) }
-    ensures ok { IfOk result (λ n. Gets (W.contents to.old) (W.contents to.new)
-        (take n bytes.now)) }
-    ensures err { OnErr result (Keeps (W.contents to.old) (W.contents to.new)) }
-{
-    for _try in 0..TRIES {
-        match to.write(bytes) {
-            Ok(n) => return Ok(n),
-            Err(error) => {
-                if error.kind() != io::ErrorKind::Interrupted {
-                    return Err(error);
-                }
-            }
-        }
-    }
-    Err(io::Error::from(io::ErrorKind::Interrupted))
-}
-
 impl<W: Write + Drop> TextWrite for IoWriter<W> {
+    ghost use Rattle.interpolator_render.specs.IoWriters.{Gathers, HandsOn, io_written, IoRefusesFor};
+    ghost use Rattle.interpolator_render.specs.IoWriters.{refuses};
+    ghost use Rattle.interpolator_render.specs.Written.{Appends, Refuses};
+
     ghost written = { λ w. io_written w };
 
     fn write_str(&mut self, text: &str) -> Result<(), Refusal>
@@ -224,15 +194,15 @@ impl<W: Write + Drop> TextWrite for IoWriter<W> {
         ensures passed_on { MatchResult result
             (λ _. HandsOn W.contents self.old self.new text.now)
             (λ _. HandsOn W.contents self.old self.new []) }
-        ensures history { KeepsPrefix W.contents self.old self.new }
-        ensures why { OnErr result (IoRefusesFor W.contents self.old text.now self.new) }
-        ensures quiet { self.old.refused ≡ true → self.new ≡ self.old }
+        ensures gathered { OnOk result (Gathers self.old (length text.now) self.new) }
+        ensures why { OnErr result (IoRefusesFor self.old text.now self.new) }
+        ensures quiet { refuses self.old ≡ true → self.new ≡ self.old }
     {
         if text.is_empty() {
             return Ok(());
         }
         match self.make_way(text.len()) {
-            Ok(()) => append(&mut self.held, &mut self.refused, text),
+            Ok(()) => append(&mut self.held, &mut self.no_memory, text),
             Err(refusal) => Err(refusal),
         }
     }
@@ -245,17 +215,18 @@ impl<W: Write + Drop> TextWrite for IoWriter<W> {
         ensures passed_on { MatchResult result
             (λ _. HandsOn W.contents self.old self.new (encode_utf8 c))
             (λ _. HandsOn W.contents self.old self.new []) }
-        ensures history { KeepsPrefix W.contents self.old self.new }
-        ensures why { OnErr result (IoRefusesFor W.contents self.old (encode_utf8 c) self.new) }
-        ensures quiet { self.old.refused ≡ true → self.new ≡ self.old }
+        ensures gathered { OnOk result
+            (Gathers self.old (length (encode_utf8 c)) self.new) }
+        ensures why { OnErr result (IoRefusesFor self.old (encode_utf8 c) self.new) }
+        ensures quiet { refuses self.old ≡ true → self.new ≡ self.old }
     {
         match self.make_way(c.len_utf8()) {
-            Ok(()) => append_char(&mut self.held, &mut self.refused, c),
+            Ok(()) => append_char(&mut self.held, &mut self.no_memory, c),
             Err(refusal) => Err(refusal),
         }
     }
 
     fn refused(&self) -> bool {
-        self.refused
+        self.has_refused()
     }
 }

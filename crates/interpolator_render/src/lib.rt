@@ -21,6 +21,7 @@
 #![tactic(auto)]
 
 mod appends;
+mod below;
 mod bounded;
 mod characters;
 mod conversions;

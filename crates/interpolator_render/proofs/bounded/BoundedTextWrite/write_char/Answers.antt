@@ -1,6 +1,6 @@
 use Rattle.std.proofs.Common.{[], ◌∷◌, append-nil, arith, inl, inr, length-append, refl}
 use Rattle.std.proofs.lemmas.Str.{chars-append, encodes-chars, IsUtf8-string_bytes}
-use Rattle.interpolator_render.proofs.BoundLemmas.{past_bound, within_memory}
+use Rattle.interpolator_render.proofs.BoundLemmas.{past_bound}
 use Rattle.interpolator_render.proofs.WrittenLemmas.{chars-encode, refuses_all}
 use Rattle.interpolator_render.proofs.bounded.BoundedTextWrite.write_char.Goals as goal
 

@@ -1,4 +1,4 @@
--- `and` makes the empty struct, with the text that its clause names. Assumes `Logic`.
+-- `and` makes the empty struct, with what its clause names. Assumes `Logic`.
 use Rattle.std.proofs.Common.{List, [], ◌∷◌, ◌++◌, refl, string_bytes}
 use Rattle.std.specs.Str.{chars}
 use seplogic.Ra.Ura.{Ura}
@@ -66,7 +66,11 @@ module _ {M : Type 1} {𝓤 : Ura M} (𝓛 : Logic 𝓤) (at_mem : Memory → SP
         let a = z.0.3 in
         let vss = z.0.4 in
         let made : GhostLog.the_row.Denot =
-        record { of = record {}; text = a.0.now.text ++ chars (string_bytes a.1.0.now) } in
+        record {
+          of = record {};
+          text = a.0.now.text ++ chars (string_bytes a.1.0.now);
+          start = a.0.now.start;
+        } in
         qed 𝓛 ((raw toks ⊛ ‵ (owns (types_at F.ended.signature.params z.0.0) a vss)) ∷ raw ((held z.0.0 a).requires z.1) ∷ []) ∵
         keep ! (0 ∷ []) $ split ! $ move ! (1 ∷ []) $
         fsplit ! $ fsplit ! $ feq_l ! (λ is₀. drop ! $ fsplit ! $ fsplit ! $ feq_l ! (λ is₁. drop ! $ drop ! $
@@ -80,7 +84,7 @@ module _ {M : Type 1} {𝓤 : Ura M} (𝓛 : Logic 𝓤) (at_mem : Memory → SP
         nothing ! $ owned ! (Mark.the_row unit) (Is (Mark.the_row unit)) (makes (Mark.the_type unit) tt 𝓛) (record {}) (none ∷ []) (tt, (refl, tt)) $
         one_made ! (Mark.the_row unit) (record {}) none $ fjoin ! $
         returns ! (look_at ! 0 refl) $ free_all ! refl $
-        suffices ! _ (ends_at 𝓛 F.ended stayed held z (one none) made (tt, (tt, tt)) (tt, (tt, tt))) $ says ! refl $
+        suffices ! _ (ends_at 𝓛 F.ended stayed held z (one none) made (tt, (tt, tt)) (tt, (tt, tt))) $ says ! (refl, refl) $
         nothing ! $ nothing ! $ fjoin ! $ nothing ! $ fjoin ! $ move ! (2 ∷ 0 ∷ 1 ∷ []) $ done !)))
 
   meets : (𝓣 : Tables 𝓤 H) → Meets 𝓛 F.ended.signature (WpFn 𝓤 H 𝓣.C 𝓣.Λ code.function) (closing 𝓛 F.ended held)

@@ -1,10 +1,8 @@
-use Rattle.std.proofs.Common.{append-nil, arith}
-use Rattle.interpolator_render.proofs.IoWriterLemmas.{prefix_kept}
+use Rattle.std.proofs.Common.{arith}
+use Rattle.interpolator_render.proofs.IoWriterLemmas.{all_kept}
 use Rattle.interpolator_render.proofs.io_writer.IoWriter.flush.Goals as goal
 
-pub returns-in-Ok-clause-history : goal.returns-in-Ok-clause-history
-returns-in-Ok-clause-history g c =
-    prefix_kept g.W.Write.contents _ _ (grind arith) (grind arith) (grind (arith, append-nil))
-
-pub returns-in-Err-clause-history : goal.returns-in-Err-clause-history
-returns-in-Err-clause-history g c = grind (arith, prefix_kept)
+pub returns-in-Ok-clause-all : goal.returns-in-Ok-clause-all
+returns-in-Ok-clause-all g c = let mid = c.hand_on.new.self in
+    all_kept mid c.flush.new.self c.flush.result (grind arith)
+    c.in-Ok.ensures.ok.0 c.flush.ensures.kept

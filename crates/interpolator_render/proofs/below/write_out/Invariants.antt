@@ -1,6 +1,6 @@
 use Rattle.std.proofs.Common.{◌-◌, ◌≤◌, length, take}
-use Rattle.interpolator_render.specs.IoWriters.{Gets}
-use Rattle.interpolator_render.proofs.io_writer.write_out.Given as goal
+use Rattle.interpolator_render.specs.PassedOn.{Gets}
+use Rattle.interpolator_render.proofs.below.write_out.Given as goal
 
 abbrev pub invariant-loop-done : goal.invariant-loop-done
 invariant-loop-done g l = (l.done ≤ length l.bytes)
