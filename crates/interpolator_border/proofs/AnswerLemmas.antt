@@ -88,7 +88,7 @@ text_told fields items format old new bytes s answer made is utf8 put told =
 -- ---- a room that was written
 
 -- a new writer that has the memory for so many bytes, and takes no more
-abbrev fresh : ℕ → Written
+abbrev pub fresh : ℕ → Written
 fresh most = record { text = []; refused = false; origin = bounded most true }
 
 bound_by : (ready : Bool) (most bytes : ℕ) → (if ready then Some most else None) ≡ Some bytes
@@ -100,6 +100,12 @@ bound_by false most bytes is = grind arith
 pub bound_kept : (b : BoundedText) (bytes : ℕ) → (bounded_writer b).origin ≡ bounded bytes true
     → b.most ≡ bytes
 bound_kept b bytes same = bound_by b.ready b.most bytes (ap (λ origin. origin.bound) same)
+
+-- a new writer, by the bound that it has
+pub is_fresh : (b : BoundedText) (most bytes : ℕ)
+    → bounded_writer b ≡ record { text = []; refused = false; origin = bounded most true }
+    → b.most ≡ most → b.most ≡ bytes → bounded_writer b ≡ fresh bytes
+is_fresh b most bytes new is same = new ∙ ap fresh (sym is ∙ same)
 
 -- each outcome keeps the origin
 origin_kept : (m : Meaning) (old new : Written) (told : Option Answer) → Outcome m old new told
