@@ -35,7 +35,7 @@ typedef struct {
   size_t length;
 } interpolator_bytes;
 
-/* The traits under which a format writes a value; LIST stands for `{name:i}`. */
+/* The traits under which a format writes a value; ITER is that of a list. */
 enum {
   INTERPOLATOR_DISPLAY,   /* {x}   */
   INTERPOLATOR_DEBUG,     /* {x:?} */
@@ -104,7 +104,7 @@ enum {
 
 /* A value under a name, or an item of a list. Zero what is not used. */
 typedef struct {
-  interpolator_bytes name;       /* UTF-8, else no format finds it; of an item it is not read */
+  interpolator_bytes name;       /* UTF-8; a name that is none is not found. Of an item it is not read */
   interpolator_bytes text;       /* TEXT and PLAIN */
   const interpolator_lent *lent; /* LENT and LIST: texts, each for a request of its own; the first counts */
   size_t lent_count;
@@ -127,11 +127,11 @@ enum {
   INTERPOLATOR_PARSE,         /* the format is broken */
   INTERPOLATOR_MISSING_VALUE, /* no field has the name */
   INTERPOLATOR_UNSUPPORTED,   /* the format has the option `p` */
-  INTERPOLATOR_NO_MEMORY,     /* memory was refused; by interpolator_write also that a list under a
-                                 width has more bytes than the room */
+  INTERPOLATOR_NO_MEMORY,     /* memory was refused, be it for a sentence; by interpolator_write also
+                                 that a list under a width has more bytes than the room has left */
   INTERPOLATOR_NOT_UTF8,      /* the format, a column's name or a source is not UTF-8 */
   INTERPOLATOR_LISTS,         /* a list does not lie as it should: see "Lists" */
-  INTERPOLATOR_FULL,          /* the room is too small for what the format means */
+  INTERPOLATOR_FULL,          /* of interpolator_write alone: the room is too small for the text */
   INTERPOLATOR_TABLE          /* there are not as many cells as columns times rows */
 };
 
@@ -155,15 +155,43 @@ enum {
   INTERPOLATOR_TOO_SMALL = 4
 };
 
-/* What a call returns. */
+/* What a call returns: see "Answers". */
 typedef struct {
   uint32_t code;   /* of the enum above */
   uint32_t detail; /* of MISSING_TRAIT the trait; of PARSE how the format is broken; else 0 */
-  size_t place;    /* of the codes 1 to 5, and of FULL: the byte of the format at which it is */
-  size_t length;   /* bytes of the text; arguments; see each call */
+  size_t place;    /* of the codes 1 to 5, and of FULL: the byte of the format at which it is; else 0 */
+  size_t length;   /* of OK: bytes of the text, or how many there are; of interpolator_write: bytes in
+                      the room, whatever the code is; else 0 */
   size_t message;  /* bytes of the sentence that says what is wrong; 0 if there is none */
-  size_t row;      /* interpolator_rows: how many rows were written before a fault */
+  size_t row;      /* of interpolator_rows: how many rows come before the one that was not written;
+                      else 0 */
 } interpolator_answer;
+
+/* ---- Answers
+ *
+ * Of each code it is said what each field is, what each room holds, and that the rest is as it was.
+ *
+ * A text *lies in a room if it fits*: if the room has at least as many bytes, it begins with the text,
+ * and all bytes behind that are as they were. Else all of the room is as it was.
+ *
+ * OK: `detail`, `place`, `message` and `row` are 0. A second room is as it was.
+ * 1 to 5, a fault: `detail` and `place` say which. Its sentence (docs/DEFINITIONS.md) has `message`
+ * bytes, and lies in the room for sentences if it fits. If memory is refused for the sentence, the
+ * answer is NO_MEMORY instead.
+ * Each other code: `detail` is 0, and `place` is, but for FULL. The sentence has `message` bytes, and
+ * lies in the room for sentences if it fits. It is
+ *   NO_MEMORY: out of memory
+ *   NOT_UTF8: not UTF-8
+ *   LISTS: a list lies where it may not
+ *   FULL: the room is too small
+ *   TABLE: not as many cells as columns times rows
+ * `length` is 0 of each code but OK, except by interpolator_write; `row` is 0 except by
+ * interpolator_rows.
+ *
+ * The room for sentences is that for the text, but for interpolator_write, which has two.
+ * interpolator_faults, interpolator_arguments and interpolator_cost have none: of each code but OK,
+ * all other fields are 0, and an array is as it was.
+ */
 
 /* ---- Lists
  *
@@ -181,11 +209,10 @@ typedef struct {
 /* The text of a format over a row of fields: the whole text, or none. Of two equal names the last
  * counts.
  *
- * OK: `length` is that of the text. If it fits, it lies at the front of the room; else the room is as
- * it was, and a room of `length` bytes would do. (So a first call without a room measures it.)
- * 1 to 5: the format's fault, at `place`. The room holds its sentence of `message` bytes if it fits,
- * else it is as it was; `length` is 0.
- * NO_MEMORY, NOT_UTF8, LISTS: likewise, with `place` 0. */
+ * OK: `length` is that of the text, which lies in the room if it fits. A room of `length` bytes would
+ * do. (So a first call without a room measures it.)
+ * 1 to 5: the format's fault, at `place`.
+ * NO_MEMORY, NOT_UTF8, LISTS: as in "Answers". */
 interpolator_answer interpolator_format(
     const char *format, size_t format_length,
     const interpolator_field *fields, size_t field_count,
@@ -197,12 +224,13 @@ interpolator_answer interpolator_format(
  * OK: the room begins with the whole text, of `length` bytes.
  * 1 to 5: the format's fault, at `place`. The room begins with all of the text before the fault, of
  * `length` bytes.
- * FULL: the room begins with as many whole characters of the text as were written, of `length`
- * bytes; `place` is that of the first which was not.
- * NO_MEMORY: the room begins with the text before what found no memory.
- * NOT_UTF8, LISTS: nothing is written.
- * Nothing else in the room is changed. The second room holds the sentence of `message` bytes if it
- * fits, else it is as it was. */
+ * FULL: the text before the first fault has more bytes than the room. The room begins with the longest
+ * beginning of it that fits, in whole characters, of `length` bytes; `place` is that of the first
+ * character which is not there.
+ * NO_MEMORY: the room begins with the text before what found no memory, of `length` bytes.
+ * NOT_UTF8, LISTS: nothing is written, and `length` is 0.
+ * All bytes of the room behind the first `length` are as they were. The second room is the one for
+ * sentences. */
 interpolator_answer interpolator_write(
     const char *format, size_t format_length,
     const interpolator_field *fields, size_t field_count,
@@ -213,9 +241,16 @@ interpolator_answer interpolator_write(
 /* The first fault that a format has by itself or over a row of examples, at every depth of groups:
  * fields with an example value each, and lists with an item of each kind.
  *
- * OK: no row that resembles the examples makes a fault: one that has, under each name that the
- * format uses, values of the kinds that the example has there.
- * 1 to 5: the first fault, at `place`; the room holds its sentence as by interpolator_format. */
+ * OK: `length` is 0, and the room is as it was. No row that resembles the examples makes a fault: one
+ * that has, under each name that the format uses, a field that resembles the example. A field
+ * resembles an example of its kind if it fills all slots that the example fills, and has a text
+ * wherever the example has one:
+ * - a TEXT or PLAIN is UTF-8, a CHARACTER is the code of one, a SIGNED8 to SIGNED64 is in its range;
+ * - a LENT or LIST has a text in UTF-8 for each request for which the example has one;
+ * - each item of a LIST resembles some item of the example's (so only an empty list resembles an
+ *   empty one).
+ * 1 to 5: the first fault, at `place`.
+ * NO_MEMORY, NOT_UTF8, LISTS: as in "Answers". */
 interpolator_answer interpolator_check(
     const char *format, size_t format_length,
     const interpolator_field *fields, size_t field_count,
@@ -224,8 +259,9 @@ interpolator_answer interpolator_check(
 
 /* The first fault that a format has by itself, at every depth of groups, whatever the values are.
  *
- * OK: there is none. PARSE or UNSUPPORTED: it is at `place`; the room holds its sentence as by
- * interpolator_format. */
+ * OK: there is none; `length` is 0, and the room is as it was.
+ * PARSE or UNSUPPORTED: it is at `place`.
+ * NO_MEMORY, NOT_UTF8: as in "Answers". */
 interpolator_answer interpolator_check_alone(
     const char *format, size_t format_length,
     char *room, size_t room_length);
@@ -240,7 +276,9 @@ typedef struct {
 /* All faults that a format has by itself or over a row of examples, in order; interpolator_check finds
  * the first of them.
  *
- * OK: `length` is how many there are. The array begins with as many of them as it has places for. */
+ * OK: `length` is how many there are. The array begins with as many of them as it has places for; its
+ * other places are as they were.
+ * NO_MEMORY, NOT_UTF8, LISTS: all other fields are 0, and the array is as it was. */
 interpolator_answer interpolator_faults(
     const char *format, size_t format_length,
     const interpolator_field *fields, size_t field_count,
@@ -259,9 +297,10 @@ typedef struct {
  * column, what it is, and the line with its argument marked. `which` is its number; that of the first
  * is 0.
  *
- * OK: there are no more than `which` faults, and nothing is written.
- * 1 to 5: the fault, at `place`. The room holds the picture of `message` bytes, without a newline at
- * its end, if it fits. */
+ * OK: there are no more than `which` faults; `length` is 0, and the room is as it was.
+ * 1 to 5: the fault, at `place`. In place of the sentence there is the picture, of `message` bytes,
+ * without a newline at its end.
+ * NO_MEMORY, LISTS, and NOT_UTF8 of the format, or the name or text of the source: as in "Answers". */
 interpolator_answer interpolator_explain(
     const interpolator_source *source,
     const char *format, size_t format_length,
@@ -274,11 +313,14 @@ interpolator_answer interpolator_explain(
  * example (as by interpolator_check), and written over each row of cells, whose names are not read.
  * There are `row_count` times `column_count` cells, row by row. A list among them has no items.
  *
- * OK: the rows' texts one after the other are `length` bytes, and ends[i] is where row i ends. They
- * lie at the front of the room if they fit; else the room is as it was.
- * 1 to 5: the first fault, which is that of the format over the columns, or else of the first row
- * that has one; `row` rows come before it. The room holds its sentence, as by interpolator_format.
- * TABLE: `cell_count` is not `column_count` times `row_count`. */
+ * OK: the rows' texts one after the other are `length` bytes, and lie in the room if they fit; ends[i]
+ * is where row i ends.
+ * 1 to 5: the first fault, at `place`: that of the format over the columns, or else of the first row
+ * that has one. `row` rows come before it, and for each of them ends[i] is where row i ends.
+ * NO_MEMORY: likewise, with the number of rows before what found no memory.
+ * NOT_UTF8 of the format or a column's name, LISTS, TABLE (`cell_count` is not `column_count` times
+ * `row_count`): as in "Answers", with `row` 0.
+ * All other ends are as they were. */
 interpolator_answer interpolator_rows(
     const char *format, size_t format_length,
     const interpolator_field *columns, size_t column_count,
@@ -287,7 +329,8 @@ interpolator_answer interpolator_rows(
     char *room, size_t room_length);
 
 /* How much a format can write, over values whose texts have at most `text` characters and whose lists
- * have at most `items` items. Of each count SIZE_MAX stands for as many or more. */
+ * have at most `items` items. Of each count SIZE_MAX stands for as many or more. Of NO_MEMORY and
+ * NOT_UTF8, all other fields are 0. */
 typedef struct {
   uint32_t code;     /* OK, NO_MEMORY or NOT_UTF8 */
   uint32_t detail;   /* 0 */
@@ -310,7 +353,9 @@ typedef struct {
 /* The arguments of a format in order, and after a list those of its item format and of its join: how
  * a caller learns which texts it has to lend. A broken argument is not among them.
  *
- * OK: `length` is how many there are. The array begins with as many of them as it has places for. */
+ * OK: `length` is how many there are. The array begins with as many of them as it has places for; its
+ * other places are as they were.
+ * NO_MEMORY, NOT_UTF8: all other fields are 0, and the array is as it was. */
 interpolator_answer interpolator_arguments(
     const char *format, size_t format_length,
     interpolator_argument *arguments, size_t argument_count);

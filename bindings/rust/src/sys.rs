@@ -2,6 +2,11 @@
 //!
 //! A struct here borrows what it points to, and is made only from slices: so each pointer and length
 //! that a call gets are those of one slice that lives until the call returns.
+//!
+//! What a call wrote is read by what the header says of its answer. Its part "Answers" is what the
+//! contracts of `crates/interpolator_c` say for every code: `Told`, by which a text or a sentence lies
+//! in a room if it fits; `Put`, by which what `interpolator_write` counts fits; and `FillsFront`, by
+//! which an array begins with as many as it has places for. They are named where it is read.
 use std::marker::PhantomData;
 use std::ptr;
 
@@ -473,7 +478,8 @@ mod library {
 /// Sets the length of a room to what a call wrote at its front: nothing, if it did not fit.
 ///
 /// # Safety
-/// If `written` is at most the room's capacity, so many bytes of UTF-8 were written to its front.
+/// If `written` is at most the room's capacity, the room begins with so many bytes of UTF-8 that were
+/// written: a text of so many bytes lies in it if it fits ("Answers" of the header).
 unsafe fn settle(room: &mut String, written: usize) {
     let length = if written <= room.capacity() {
         written
@@ -484,7 +490,8 @@ unsafe fn settle(room: &mut String, written: usize) {
     unsafe { room.as_mut_vec().set_len(length) }
 }
 
-/// The text or sentence that a call put at the front of its room.
+/// How many bytes the text or the sentence has that a call put into its one room: by the header's
+/// "Answers", `length` of the code OK, and `message` of any other.
 fn written(answer: &Answer) -> usize {
     if answer.code == code::OK {
         answer.length
@@ -514,7 +521,8 @@ pub(crate) fn format(
             room.capacity(),
         )
     };
-    // SAFETY: the header says so of the text's length and of the sentence's.
+    // SAFETY: by `Told` in `FormatAnswers`, of every code: OK has a text of `length` bytes, which
+    // lies in the room if it fits; any other a sentence of `message` bytes, likewise ("Answers").
     unsafe { settle(room, written(&answer)) };
     answer
 }
@@ -541,7 +549,9 @@ pub(crate) fn write(
             0,
         )
     };
-    // SAFETY: the header says so of `length`, whatever the code is.
+    // SAFETY: by `Put` in `WriteAnswers`, of OK, the codes 1 to 5, NO_MEMORY and FULL the room
+    // begins with `length` bytes of whole characters, which are at most its own; of NOT_UTF8 and
+    // LISTS `length` is 0.
     unsafe { settle(room, answer.length) };
     answer
 }
@@ -589,8 +599,8 @@ pub(crate) fn faults(
             faults.capacity(),
         )
     };
-    // SAFETY: the header says that the array begins with so many of them, and `length` is 0 if the
-    // code is another.
+    // SAFETY: by `FaultsAnswers`: of OK the array begins with as many of `length` faults as it has
+    // places for (`FillsFront`), and of any other code `length` is 0 (`CodedAside`).
     unsafe { faults.set_len(answer.length.min(faults.capacity())) };
     answer
 }
@@ -620,7 +630,8 @@ pub(crate) fn explain(
             room.capacity(),
         )
     };
-    // SAFETY: the header says so of the picture's length, which is 0 without a fault.
+    // SAFETY: by `ExplainAnswers`: `message` is the length of the picture or of the sentence, which
+    // lies in the room if it fits (`Told`), and 0 of OK (`ToldNone`).
     unsafe { settle(room, answer.message) };
     answer
 }
@@ -649,7 +660,8 @@ pub(crate) fn rows(
             room.capacity(),
         )
     };
-    // SAFETY: the header says so of the texts' length and of the sentence's.
+    // SAFETY: by `Told` in `RowsAnswers`: as in `format`, with all rows for the text. All of `ends`
+    // has values, whatever the call wrote of it.
     unsafe { settle(room, written(&answer)) };
     answer
 }
@@ -677,7 +689,8 @@ pub(crate) fn arguments(format: &str) -> Option<Vec<Argument>> {
     if answer.code != code::OK || answer.length > arguments.capacity() {
         return None;
     }
-    // SAFETY: the header says that the array begins with so many of them, of which it has room for all.
+    // SAFETY: by `FillsFront` in `ArgumentAnswers`: of OK the array begins with as many of `length`
+    // arguments as it has places for, which is all of them.
     unsafe { arguments.set_len(answer.length) };
     Some(arguments)
 }

@@ -1,16 +1,21 @@
 -- What is told of what was written, and of a whole text.
-use Rattle.std.specs.Prelude.{IsSomeAnd, MatchOption, string_bytes, ◌++◌}
+use Rattle.std.specs.Prelude.{IsSomeAnd, MatchOption, string_bytes, ◌++◌, ◌+◌, if◌then◌else◌}
+use Rattle.std.specs.Prelude.{encode_utf8, encode_utf8_all, Ok, Err}
 use Rattle.std.specs.{Str.chars, Str.is_utf8, Str.IsUtf8, declared.string.String.String}
 use Rattle.std.proofs.Common.{arith, ◌≡◌, inl, inr, List, [], ℕ, Option, None, Some, option_map}
-use Rattle.std.proofs.Common.{Bool, true, false, map, Result, length, ◌≤◌}
+use Rattle.std.proofs.Common.{Bool, true, false, map, Result, length, ◌≤◌, ◌<◌, ap, sym, ◌∙◌}
+use Rattle.std.proofs.Common.{refl, subst}
 use Rattle.std.proofs.lemmas.Str.{encodes-chars}
 use Rattle.interpolator_syntax.specs.At.{text_of}
 use Rattle.interpolator_syntax.specs.Faults.{Answer, Fault, fault, no_memory, answer_of}
-use Rattle.interpolator_render.specs.Written.{Written}
-use Rattle.interpolator_eval.specs.{Meaning.Meanings.Meaning, Meaning.Outcomes.Outcome, Slots.Slots}
-use Rattle.interpolator_border.specs.Answers.{FormatAnswers, Means, ToldBy, WritesKnown, WritesRow}
-use Rattle.interpolator_border.specs.Answers.{FailsBy, ToldFailure, Told, TellsResult, WriteAnswers}
-use Rattle.interpolator_border.specs.Answers.{text_answer}
+use Rattle.interpolator_render.specs.Bounds.{BoundedText, bounded, bounded_writer}
+use Rattle.interpolator_render.specs.Written.{Written, byte_count}
+use Rattle.interpolator_eval.specs.{Meaning.Meanings.Meaning, Slots.Slots}
+use Rattle.interpolator_eval.specs.Meaning.Outcomes.{Finished, Outcome, Refused, WantsMemory}
+use Rattle.interpolator_border.specs.Answers.{FailsBy, FormatAnswers, Means, Put, TellsResult}
+use Rattle.interpolator_border.specs.Answers.{TellsWritten, Told, ToldBy, ToldFailure, ToldFault}
+use Rattle.interpolator_border.specs.Answers.{WriteAnswers, WritesKnown, WritesRow, Wrote}
+use Rattle.interpolator_border.specs.Answers.{WroteAll, WroteFull, WroteSome, text_answer}
 use Rattle.interpolator_border.specs.Fields.{field_slots, lists_lie}
 use Rattle.interpolator_border.specs.declared.field.Field.{Field}
 use Rattle.interpolator_border.specs.declared.answer.{Answer.Answer as Told_answer, Failure.Failure}
@@ -29,11 +34,6 @@ pub written_known : (lie : Bool) (fields items : List Field) (format : List ℕ)
     → WritesRow lie fields items format old new result
 written_known lie fields items format old new trees result are wrote = grind (arith, are, wrote)
 
--- ---- a writer that was empty
-
-abbrev blank : Written
-blank = record { text = []; refused = false }
-
 -- without a fault all is written
 pub appended : (m : Meaning) (old new : Written) → Outcome m old new None
     → (m.fault ≡ None) × (new.text ≡ old.text ++ text_of m.text)
@@ -43,8 +43,10 @@ appended m old new outcome = grind (arith, outcome)
 
 -- memory was wanted is told
 pub out_of_memory : (written : ℕ) (old new : List ℕ) (answer : Told_answer) (a : Answer)
-    → a ≡ no_memory → ToldBy a written old new answer → answer.code ≡ 6
-out_of_memory written old new answer a wants told = grind arith
+    → a ≡ no_memory → ToldBy a written old new answer → ToldFault no_memory written old new answer
+out_of_memory written old new answer a wants (inl told) = told
+out_of_memory written old new answer a wants (inr told) =
+    subst (λ b. ToldFault b written old new answer) wants told
 
 -- what holds of an answer that is that of a fault, holds of the fault
 pub some_fault : (P : Answer → Type 0) (found : Option Fault) (a : Answer)
@@ -73,12 +75,6 @@ module _ (fields items : List Field) (format old new : List ℕ) (answer : Told_
 
 -- ---- a new text
 
-from_blank : (fields items : List Field) (format text : List ℕ) (old new : Written) → text ≡ format
-    → is_utf8 format ≡ true → old ≡ blank → (result : Result (Unit {0}) Failure)
-    → WritesRow (lists_lie fields items) fields items text old new result
-    → WritesRow (lists_lie fields items) fields items format blank new result
-from_blank fields items format text old new same utf8 empty result wrote = grind arith
-
 -- the text is told, and put into the room
 pub text_told : {Z : Type 0} (fields items : List Field) (format old new bytes : List ℕ) (s : String Z)
     (answer : Told_answer)
@@ -89,19 +85,163 @@ pub text_told : {Z : Type 0} (fields items : List Field) (format old new bytes :
 text_told fields items format old new bytes s answer made is utf8 put told =
     grind (arith, inl, means_more, encodes-chars)
 
--- what was made by a bounded writer is told, and put into the room
-pub writes : (fields items : List Field) (format text : List ℕ) (start new_text : Written)
-    (made old new sentence_old sentence_new : List ℕ) (answer : Told_answer) (refused : Bool)
-    (written : Result (Unit {0}) Failure) → text ≡ format → is_utf8 format ≡ true → start ≡ blank
-    → chars made ≡ new_text.text → IsUtf8 made → refused ≡ new_text.refused
-    → length made ≤ length old → Told made old new
-    → WritesRow (lists_lie fields items) fields items text start new_text written
-    → TellsResult refused (length made) written sentence_old sentence_new answer
-    → WriteAnswers fields items format old new sentence_old sentence_new answer
-writes fields items format text start new_text made old new sentence_old sentence_new answer refused
-    written same utf8 empty is made_utf8 flag fits put wrote tells =
-    grind (
-      arith,
-      encodes-chars made made_utf8,
-      from_blank fields items format text start new_text same utf8 empty written wrote,
-    )
+-- ---- a room that was written
+
+-- a new writer that has the memory for so many bytes, and takes no more
+abbrev pub fresh : ℕ → Written
+fresh most = record { text = []; refused = false; origin = bounded most true }
+
+bound_by : (ready : Bool) (most bytes : ℕ) → (if ready then Some most else None) ≡ Some bytes
+    → most ≡ bytes
+bound_by true most bytes is = grind arith
+bound_by false most bytes is = grind arith
+
+-- a writer that began as this one has the same bound
+pub bound_kept : (b : BoundedText) (bytes : ℕ) → (bounded_writer b).origin ≡ bounded bytes true
+    → b.most ≡ bytes
+bound_kept b bytes same = bound_by b.ready b.most bytes (ap (λ origin. origin.bound) same)
+
+-- a new writer, by the bound that it has
+pub is_fresh : (b : BoundedText) (most bytes : ℕ)
+    → bounded_writer b ≡ record { text = []; refused = false; origin = bounded most true }
+    → b.most ≡ most → b.most ≡ bytes → bounded_writer b ≡ fresh bytes
+is_fresh b most bytes new is same = new ∙ ap fresh (sym is ∙ same)
+
+-- each outcome keeps the origin
+origin_kept : (m : Meaning) (old new : Written) (told : Option Answer) → Outcome m old new told
+    → new.origin ≡ old.origin
+origin_kept m old new told (inl finished) = finished.all.same_origin
+origin_kept m old new told (inr (inl refused)) = refused.same_origin
+origin_kept m old new told (inr (inr wants)) = wants.begun.same_origin
+
+-- so does a row that was written
+pub row_keeps_origin : (lie : Bool) (fields items : List Field) (format : List ℕ) (old new : Written)
+    (result : Result (Unit {0}) Failure) → WritesRow lie fields items format old new result
+    → new.origin ≡ old.origin
+row_keeps_origin lie fields items format old new (Ok _) wrote =
+    origin_kept _ old new None wrote.holds
+row_keeps_origin lie fields items format old new (Err failure.NotUtf8) wrote = absurd wrote
+row_keeps_origin lie fields items format old new (Err failure.Table) wrote = absurd wrote
+row_keeps_origin lie fields items format old new (Err failure.Lists) wrote =
+    ap (λ w. w.origin) wrote.1
+row_keeps_origin lie fields items format old new (Err (failure.Fault e)) (inl none) =
+    ap (λ w. w.origin) none.1
+row_keeps_origin lie fields items format old new (Err (failure.Fault e)) (inr wrote) =
+    origin_kept _ old new (Some (answer_of e)) wrote.holds
+
+-- what is told of all that a format means
+all_told : (bytes : ℕ) (found : Option Fault) (told : Option Answer) (old new : List ℕ)
+    (answer : Told_answer) → told ≡ option_map fault found
+    → TellsWritten false bytes told old new answer
+    → MatchOption found ((answer ≡ text_answer bytes) × (new ≡ old))
+    (λ f. ToldBy (fault f) bytes old new answer)
+all_told bytes None told old new answer is tells =
+    subst (λ t. TellsWritten false bytes t old new answer) is tells
+all_told bytes (Some f) told old new answer is tells =
+    subst (λ t. TellsWritten false bytes t old new answer) is tells
+
+module _ (new : Written) (made old room sentence_old sentence_new : List ℕ) (answer : Told_answer)
+    (is : chars made ≡ new.text) (utf8 : IsUtf8 made) (fits : length made ≤ length old)
+    (put : Told made old room) where
+  made_is : (text : List ℕ) → new.text ≡ text → made ≡ encode_utf8_all text
+  made_is text same = sym (encodes-chars made utf8) ∙ ap encode_utf8_all (is ∙ same)
+
+  -- the text lies in the room
+  put_text : (text : List ℕ) → new.text ≡ text → Put text old room
+  put_text text same =
+      subst (λ bytes. (length bytes ≤ length old) × Told bytes old room) (made_is text same)
+      (fits, put)
+
+  -- what is told counts its bytes
+  told_text : (text : List ℕ) (refused : Bool) (told : Option Answer) → new.text ≡ text
+      → new.refused ≡ refused
+      → TellsWritten new.refused (length made) told sentence_old sentence_new answer
+      → TellsWritten refused (byte_count text) told sentence_old sentence_new answer
+  told_text text refused told same flag tells =
+      subst (λ r. TellsWritten r (byte_count text) told sentence_old sentence_new answer) flag
+      (subst (λ bytes. TellsWritten new.refused (length bytes) told sentence_old sentence_new answer)
+      (made_is text same) tells)
+
+  wrote_all : (m : Meaning) (told : Option Answer) → Finished m (fresh (length old)) new told
+      → TellsWritten new.refused (length made) told sentence_old sentence_new answer
+      → WroteAll m old room sentence_old sentence_new answer
+  wrote_all m told finished tells =
+      let text = text_of m.text in record {
+        put = put_text text finished.all.appended;
+        tells = all_told (byte_count text) m.fault told sentence_old sentence_new answer
+            finished.told
+            (told_text text false told finished.all.appended finished.all.same_flag tells);
+      }
+
+  wrote_full : (m : Meaning) (told : Option Answer) → Refused m (fresh (length old)) new told
+      → TellsWritten new.refused (length made) told sentence_old sentence_new answer
+      → WroteFull m old room sentence_old sentence_new answer
+  wrote_full m told refused tells =
+      let text = text_of refused.front in
+      let full = subst (λ t. TellsWritten true (byte_count text) t sentence_old sentence_new answer)
+          refused.told (told_text text true told refused.appended refused.flag tells) in record {
+        front = refused.front;
+        c = refused.c;
+        place = refused.place;
+        back = refused.back;
+        split = refused.split;
+        put = put_text text refused.appended;
+        over = subst
+            (λ t. length old < byte_count t + length (encode_utf8 refused.c))
+            refused.appended refused.over;
+        told = full.0;
+        sentence = full.1;
+      }
+
+  wrote_some : (m : Meaning) (told : Option Answer) → WantsMemory m (fresh (length old)) new told
+      → TellsWritten new.refused (length made) told sentence_old sentence_new answer
+      → WroteSome m old room sentence_old sentence_new answer
+  wrote_some m told wants tells =
+      let text = text_of wants.front in
+      let some = subst (λ t. TellsWritten false (byte_count text) t sentence_old sentence_new answer)
+          wants.told
+          (told_text text false told wants.begun.appended wants.begun.same_flag tells) in record {
+        front = wants.front;
+        back = wants.back;
+        split = wants.split;
+        point = wants.point;
+        put = put_text text wants.begun.appended;
+        told = out_of_memory (byte_count text) sentence_old sentence_new answer no_memory refl some;
+      }
+
+  -- what a row means lies in the room, up to what was told
+  wrote : (told : Option Answer)
+      → TellsWritten new.refused (length made) told sentence_old sentence_new answer
+      → (m : Meaning) → Outcome m (fresh (length old)) new told
+      → Wrote m old room sentence_old sentence_new answer
+  wrote told tells m (inl finished) = inl (wrote_all m told finished tells)
+  wrote told tells m (inr (inl refused)) = inr (inl (wrote_full m told refused tells))
+  wrote told tells m (inr (inr wants)) = inr (inr (wrote_some m told wants tells))
+
+  -- nothing lies in the room
+  wrote_nothing : new ≡ fresh (length old) → room ≡ old
+  wrote_nothing same =
+      (subst (λ bytes. Told bytes old room) (made_is [] (ap (λ w. w.text) same)) put).1
+
+  -- a row that was written into the room is told
+  pub writes : (fields items : List Field) (format : List ℕ) (written : Result (Unit {0}) Failure)
+      → is_utf8 format ≡ true
+      → WritesRow (lists_lie fields items) fields items format (fresh (length old)) new written
+      → TellsResult new.refused (length made) written sentence_old sentence_new answer
+      → WriteAnswers fields items format old room sentence_old sentence_new answer
+  writes fields items format (Ok ok) is_text row tells =
+      inl (is_text, means_more (wrote None tells) row)
+  writes fields items format (Err failure.NotUtf8) is_text row tells = absurd row
+  writes fields items format (Err failure.Table) is_text row tells = absurd row
+  writes fields items format (Err failure.Lists) is_text row tells =
+      inr (inr (inr (tells, row.0)), wrote_nothing row.1)
+  writes fields items format (Err (failure.Fault e)) is_text (inl none) tells =
+      let same = ap (λ w. w.text) none.1 in
+      let flag = ap (λ w. w.refused) none.1 in
+      let told = told_text [] false (Some (answer_of e)) same flag tells in
+      inr (
+        inl (out_of_memory 0 sentence_old sentence_new answer (answer_of e) none.0 told),
+        wrote_nothing none.1,
+      )
+  writes fields items format (Err (failure.Fault e)) is_text (inr row) tells =
+      inl (is_text, means_more (wrote (Some (answer_of e)) tells) row)

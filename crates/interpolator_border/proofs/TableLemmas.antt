@@ -1,15 +1,19 @@
 -- What is told of a table.
 use Rattle.std.specs.{Borrow.Bor, Str.chars, Str.is_utf8, Str.IsUtf8}
 use Rattle.std.proofs.Common.{arith, ◌≡◌, ◌⊎◌, inl, inr, ◌∙◌, ap, List, ℕ, Some, true, Err, length}
+use Rattle.std.proofs.Common.{Option, option_map, refl, subst, sym}
+use Rattle.std.specs.Prelude.{IsSomeAnd}
 use Rattle.std.proofs.lemmas.Str.{encodes-chars}
 use Rattle.interpolator_syntax.specs.At.{outermost}
-use Rattle.interpolator_syntax.specs.Faults.{Answer, no_memory, answer_of}
+use Rattle.interpolator_syntax.specs.Faults.{Answer, Fault, fault, no_memory, answer_of}
 use Rattle.interpolator_eval.specs.{Contexts.found_by_pairs, declared.slots.Formattable.Formattable}
 use Rattle.interpolator.specs.Prepared.Rows.{PreparedFormat}
 use Rattle.interpolator.specs.Template.{Collecting.AnswersFirst, NodeSamples.faults_over}
-use Rattle.interpolator_border.specs.Answers.{Told, ToldBy, ToldFailure, text_answer}
+use Rattle.interpolator_border.specs.Answers.{Told, ToldAlone, ToldBy, ToldFailure, ToldFault}
+use Rattle.interpolator_border.specs.Answers.{text_answer}
 use Rattle.interpolator_border.specs.Tables.{ColumnFaults, FailsIn, Prepares, RowsAnswers, AllRows}
-use Rattle.interpolator_border.specs.Tables.{Faultless, Pairs, TellsRows, ToldInRow, column_names}
+use Rattle.interpolator_border.specs.Tables.{Faultless, Pairs, TellsNoRow, TellsRows, ToldAtRow}
+use Rattle.interpolator_border.specs.Tables.{column_names}
 use Rattle.interpolator_border.specs.Tables.{rows_ends, rows_text}
 use Rattle.interpolator_border.specs.declared.answer.Answer.{Answer as Told_answer}
 use Rattle.interpolator_border.specs.{Fields.field_shows, declared.answer.Failure.Failure}
@@ -17,48 +21,75 @@ use Rattle.interpolator_border.specs.{declared.field.Field.Field, declared.table
 use Rattle.interpolator_border.proofs.AnswerLemmas.{out_of_memory, some_fault}
 use Rattle.interpolator_border.specs.declared.answer.Failure.TheVariants as failure
 
+-- an answer is told with the row
+at_row : (a : Answer) (row : ℕ) (old new : List ℕ) (told answer : Told_answer)
+    → answer ≡ record told { row = row } → ToldFault a 0 old new told
+    → ToldAtRow a row old new answer
+at_row a row old new told answer is fails =
+    (
+      is ∙ ap {A = Told_answer} {B = Told_answer} (λ t. record t { row = row }) fails.0,
+      fails.1,
+    )
+
+-- why a row was not appended is told: memory was wanted, or its fault
+in_row : (a : Answer) (found : Option Fault) (row : ℕ) (old new : List ℕ) (told answer : Told_answer)
+    → answer ≡ record told { row = row }
+    → (a ≡ no_memory) ⊎ (Some a ≡ option_map fault found) → ToldBy a 0 old new told
+    → ToldAtRow no_memory row old new answer
+    ⊎ IsSomeAnd found (λ f. ToldAtRow (fault f) row old new answer)
+in_row a found row old new told answer is why (inl none) =
+    inl (at_row no_memory row old new told answer is none)
+in_row a found row old new told answer is (inl wants) (inr fails) =
+    inl (subst (λ b. ToldAtRow b row old new answer) wants
+    (at_row a row old new told answer is fails))
+in_row a found row old new told answer is (inr same) (inr fails) =
+    inr (some_fault (λ b. ToldAtRow b row old new answer) found a same
+    (at_row a row old new told answer is fails))
+
 module _ (names : List (List ℕ)) (format : List ℕ) (width : ℕ) (cells : List Field) where
-  -- a fault of a row is told
+  -- that a row was not appended is told
   pub row_fails : (wrong : RowFault) (ends_old ends_new : List ℕ) (old new : List ℕ)
-      (told answer : Told_answer) → FailsIn names format width cells wrong
+      (told answer : Told_answer) → FailsIn names format width cells ends_old ends_new wrong
       → ToldBy (answer_of wrong.error) 0 old new told → answer ≡ record told { row = wrong.row }
       → TellsRows names format width cells ends_old ends_new old new answer
-  row_fails wrong ends_old ends_new old new told answer (inl wants) tells is =
-      inr (inr (ap (λ t. t.code) is
-      ∙ out_of_memory 0 old new told (answer_of wrong.error) wants tells))
-  row_fails wrong ends_old ends_new old new told answer (inr fails) tells is =
-      inr (inl (record {
+  row_fails wrong ends_old ends_new old new told answer fails tells is =
+      inr (record {
         row = wrong.row;
-        before = fails.0;
-        fails = some_fault (λ a. ToldInRow a wrong.row old new answer) _ (answer_of wrong.error)
-            fails.1 (in_row (answer_of wrong.error) tells);
-      }))
-    where
-      in_row : (a : Answer) → ToldBy a 0 old new told → ToldInRow a wrong.row old new answer
-      in_row a (inl none) = inl (ap (λ t. t.code) is ∙ none.0)
-      in_row a (inr told) =
-          inr (
-            is ∙ ap {A = Told_answer} {B = Told_answer} (λ t. record t { row = wrong.row }) told.0,
-            told.1,
-          )
+        within = fails.within;
+        before = fails.before;
+        ends_before = fails.ends_before;
+        ends_after = fails.ends_after;
+        told = in_row (answer_of wrong.error) _ wrong.row old new told answer is fails.why tells;
+      })
 
 module _ (columns cells : List Field) (format : List ℕ) (ends_old ends_new old new : List ℕ)
-    (answer : Told_answer) where
+    (answer : Told_answer) (same : ends_new ≡ ends_old) where
   by_answer : (a : Answer) → is_utf8 format ≡ true
       → ColumnFaults columns format (λ fs. AnswersFirst fs (Some a)) → ToldBy a 0 old new answer
-      → RowsAnswers columns cells format ends_old ends_new old new answer
-  by_answer a utf8 faults told = grind (arith, utf8, faults, told)
+      → TellsNoRow columns cells format (length ends_old) old new answer
+  by_answer (fault f) utf8 faults told =
+      inl (
+        utf8,
+        record {
+          pairs = faults.pairs;
+          are = faults.are;
+          holds = subst (λ found. IsSomeAnd found (ToldAlone old new answer)) (sym faults.holds) told;
+        },
+      )
+  by_answer no_memory utf8 faults told =
+      inr (inl (out_of_memory 0 old new answer no_memory refl told))
 
   -- why the format is not prepared is told
   pub columns_fail : (why : Failure)
       → Prepares columns format (Err why) → ToldFailure why old new answer
       → RowsAnswers columns cells format ends_old ends_new old new answer
-  columns_fail failure.NotUtf8 fails told = inr (inr (inr (inl (told, fails))))
+  columns_fail failure.NotUtf8 fails told = inr (inr (inr (inl (told, fails))), same)
   columns_fail failure.Lists fails told = absurd fails
   columns_fail failure.Table fails told = absurd fails
   columns_fail (failure.Fault e) (inl wants) told =
-      inr (inr (inl (out_of_memory 0 old new answer (answer_of e) wants told)))
-  columns_fail (failure.Fault e) (inr fails) told = by_answer (answer_of e) fails.0 fails.1 told
+      inr (inr (inl (out_of_memory 0 old new answer (answer_of e) wants told)), same)
+  columns_fail (failure.Fault e) (inr fails) told =
+      inr (by_answer (answer_of e) fails.0 fails.1 told, same)
 
 -- the first fault over the columns, by the pairs that were made of them
 pub column_faults : (columns : List Field) (format text template : List ℕ)

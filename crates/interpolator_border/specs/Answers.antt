@@ -1,7 +1,8 @@
 -- What a caller that is not Rattle is told.
 use Rattle.std.specs.Prelude.{◌≡◌, ◌≤◌, ◌⊎◌, ◌<◌, ◌+◌, ◌++◌, ℕ, List, None, Some, Option, length, take, drop}
-use Rattle.std.specs.Prelude.{Bool, Result, Ok, Err, MatchOption, MatchResult, string_bytes, true, false, option_map, []}
-use Rattle.std.specs.Prelude.{encode_utf8_all, unwrap_or, codes, if◌then◌else◌}
+use Rattle.std.specs.Prelude.{Bool, Result, Ok, Err, MatchOption, MatchResult, string_bytes, true, false, option_map}
+use Rattle.std.specs.Prelude.{encode_utf8, encode_utf8_all, unwrap_or, codes, if◌then◌else◌, ◌∷◌}
+use Rattle.std.specs.Prelude.{Contains}
 use Rattle.std.specs.Str.{bytes_eq, chars, is_utf8}
 use Rattle.std.specs.declared.string.String.{String}
 use Rattle.interpolator_syntax.specs.Faults.{Answer, Fault, fault, no_memory, answer_of, answer_place}
@@ -11,8 +12,8 @@ use Rattle.interpolator_syntax.specs.Faults.{invalid_width, invalid_precision, f
 use Rattle.interpolator_syntax.specs.declared.error.NumberError.{NumberError}
 use Rattle.interpolator_syntax.specs.declared.error.NumberError.TheVariants as numbers
 use Rattle.interpolator_syntax.specs.FaultTexts.{answer_text}
-use Rattle.interpolator_syntax.specs.At.{outermost, text_of}
-use Rattle.interpolator_render.specs.Written.{Written}
+use Rattle.interpolator_syntax.specs.At.{Placed, outermost, text_of}
+use Rattle.interpolator_render.specs.Written.{Written, byte_count}
 use Rattle.interpolator_eval.specs.Slots.{Slots}
 use Rattle.interpolator_eval.specs.Meaning.Environments.{environment}
 use Rattle.interpolator_eval.specs.Meaning.Meanings.{Meaning, means}
@@ -96,6 +97,34 @@ abbrev pub text_answer : ℕ → Told_answer
 text_answer written =
     record { code = 0; detail = 0; place = 0; length = written; message = 0; row = 0 }
 
+-- what is told by a code and its sentence alone
+abbrev pub coded_answer : ℕ → List ℕ → Told_answer
+coded_answer code sentence =
+    record { code = code; detail = 0; place = 0; length = 0; message = length sentence; row = 0 }
+
+-- what is told by a code alone, where there is no room for a sentence
+abbrev pub bare_answer : ℕ → Told_answer
+bare_answer code = record (text_answer 0) { code = code }
+
+-- the sentences of the codes that are no fault's; that of memory is a fault's text
+abbrev pub not_utf8_sentence : List ℕ
+not_utf8_sentence = codes "not UTF-8"
+
+abbrev pub lists_sentence : List ℕ
+lists_sentence = codes "a list lies where it may not"
+
+abbrev pub full_sentence : List ℕ
+full_sentence = codes "the room is too small"
+
+abbrev pub table_sentence : List ℕ
+table_sentence = codes "not as many cells as columns times rows"
+
+-- what is told of a room that is too small: the place of the first character that is not in it, and
+-- how many bytes are
+abbrev pub full_answer : (place written : ℕ) → Told_answer
+full_answer place written =
+    record (coded_answer 9 full_sentence) { place = place; length = written }
+
 -- ---- rooms and places
 
 -- as many as there are places for, and no other place is changed
@@ -109,16 +138,40 @@ Told text old new =
     × (drop (length text) new ≡ drop (length text) old)
     × (length old < length text → new ≡ old)
 
--- a fault, with the bytes before it, and its sentence in the room if it fits there; or that memory
--- was wanted for the sentence
-abbrev pub ToldBy : Answer → ℕ → List ℕ → List ℕ → Told_answer → Type 0
+-- a fault, with the bytes before it, and its sentence in the room if it fits there
+abbrev pub ToldFault : Answer → (written : ℕ) → (old new : List ℕ) → Told_answer → Type 0
+ToldFault a written old new answer =
+    (answer ≡ fault_answer a written) × Told (answer_text a) old new
+
+-- the same; or memory was wanted for the sentence, and that is told with the bytes before the fault
+abbrev pub ToldBy : Answer → (written : ℕ) → (old new : List ℕ) → Told_answer → Type 0
 ToldBy a written old new answer =
-    ((answer.code ≡ 6) × (answer.length ≡ written))
-    ⊎ ((answer ≡ fault_answer a written) × Told (answer_text a) old new)
+    ToldFault no_memory written old new answer ⊎ ToldFault a written old new answer
 
 -- a fault alone, and its sentence in the room if it fits there
 abbrev pub ToldAlone : (old new : List ℕ) → Told_answer → Fault → Type 0
 ToldAlone old new answer f = ToldBy (fault f) 0 old new answer
+
+-- a code alone, and its sentence in the room if it fits there
+abbrev pub ToldCode : ℕ → List ℕ → (old new : List ℕ) → Told_answer → Type 0
+ToldCode code sentence old new answer =
+    (answer ≡ coded_answer code sentence) × Told sentence old new
+
+-- memory was wanted
+abbrev pub ToldNoMemory : (old new : List ℕ) → Told_answer → Type 0
+ToldNoMemory old new answer = ToldFault no_memory 0 old new answer
+
+-- something is not UTF-8
+abbrev pub ToldNotUtf8 : (old new : List ℕ) → Told_answer → Type 0
+ToldNotUtf8 old new answer = ToldCode 7 not_utf8_sentence old new answer
+
+-- a list lies where it may not
+abbrev pub ToldLists : (old new : List ℕ) → Told_answer → Type 0
+ToldLists old new answer = ToldCode 8 lists_sentence old new answer
+
+-- there are not as many cells as there should be
+abbrev pub ToldTable : (old new : List ℕ) → Told_answer → Type 0
+ToldTable old new answer = ToldCode 10 table_sentence old new answer
 
 -- the code of why there is no text
 abbrev pub failure_code : Failure → ℕ
@@ -128,10 +181,10 @@ failure_code failure.Table = 10
 failure_code (failure.Fault e) = code_of_answer (answer_of e)
 
 -- why there is no text
-abbrev pub ToldFailure : Failure → List ℕ → List ℕ → Told_answer → Type 0
-ToldFailure failure.NotUtf8 old new answer = answer.code ≡ 7
-ToldFailure failure.Lists old new answer = answer.code ≡ 8
-ToldFailure failure.Table old new answer = answer.code ≡ 10
+abbrev pub ToldFailure : Failure → (old new : List ℕ) → Told_answer → Type 0
+ToldFailure failure.NotUtf8 old new answer = ToldNotUtf8 old new answer
+ToldFailure failure.Lists old new answer = ToldLists old new answer
+ToldFailure failure.Table old new answer = ToldTable old new answer
 ToldFailure (failure.Fault e) old new answer = ToldBy (answer_of e) 0 old new answer
 
 -- ---- a format over a row
@@ -147,12 +200,21 @@ pub record Means (fields items : List Field) (format : List ℕ) (P : Meaning �
   pub are : AreTrees items trees
   pub holds : P (row_means fields trees format)
 
--- the code says that memory was wanted, that the format is not UTF-8, or that a list lies where it
--- may not
-abbrev pub ToldAside : (fields items : List Field) → List ℕ → Told_answer → Type 0
-ToldAside fields items format answer =
-    (answer.code ≡ 6) ⊎ ((answer.code ≡ 7) × (is_utf8 format ≡ false))
-    ⊎ ((answer.code ≡ 8) × (lists_lie fields items ≡ false))
+-- memory was wanted, the format is not UTF-8, or a list lies where it may not: the sentence is in the
+-- room if it fits there
+abbrev pub ToldAside : (fields items : List Field) → List ℕ → (old new : List ℕ) → Told_answer
+    → Type 0
+ToldAside fields items format old new answer =
+    ToldNoMemory old new answer
+    ⊎ ((ToldNotUtf8 old new answer × (is_utf8 format ≡ false))
+    ⊎ (ToldLists old new answer × (lists_lie fields items ≡ false)))
+
+-- the same by a code alone
+abbrev pub CodedAside : (fields items : List Field) → List ℕ → Told_answer → Type 0
+CodedAside fields items format answer =
+    (answer ≡ bare_answer 6)
+    ⊎ (((answer ≡ bare_answer 7) × (is_utf8 format ≡ false))
+    ⊎ ((answer ≡ bare_answer 8) × (lists_lie fields items ≡ false)))
 
 -- ---- what was written
 
@@ -183,33 +245,63 @@ WritesRow lie fields items format old new (Err (failure.Fault e)) =
 abbrev pub TellsFault : (refused : Bool) → (written : ℕ) → Answer → (old new : List ℕ)
     → Told_answer → Type 0
 TellsFault true written a old new answer =
-    (answer.code ≡ 9) × (answer.place ≡ unwrap_or (answer_place a) 0) × (answer.length ≡ written)
+    (answer ≡ full_answer (unwrap_or (answer_place a) 0) written) × Told full_sentence old new
 TellsFault false written a old new answer = ToldBy a written old new answer
 
 -- what is told beside a text of so many bytes that was written
 abbrev pub TellsWritten : (refused : Bool) → (written : ℕ) → Option Answer → (old new : List ℕ)
     → Told_answer → Type 0
-TellsWritten refused written None old new answer = answer ≡ text_answer written
+TellsWritten refused written None old new answer = (answer ≡ text_answer written) × (new ≡ old)
 TellsWritten refused written (Some a) old new answer = TellsFault refused written a old new answer
 
 -- the same by what a call returned
 abbrev pub TellsResult : (refused : Bool) → (written : ℕ) → Result (Unit {0}) Failure
     → (old new : List ℕ) → Told_answer → Type 0
-TellsResult refused written (Ok _) old new answer = answer ≡ text_answer written
+TellsResult refused written (Ok _) old new answer =
+    TellsWritten refused written None old new answer
 TellsResult refused written (Err (failure.Fault e)) old new answer =
-    TellsFault refused written (answer_of e) old new answer
+    TellsWritten refused written (Some (answer_of e)) old new answer
 TellsResult refused written (Err why) old new answer = ToldFailure why old new answer
 
--- a writer that is bounded by the room took a text, which now lies in the room; and what was told
-pub record Wrote (m : Meaning) (old new : List ℕ) (sentence_old sentence_new : List ℕ)
-    (answer : Told_answer) : Type 0 where
-  pub written : Written
-  pub told : Option Answer
-  pub outcome : Outcome m (record { text = []; refused = false }) written told
-  pub fits : length (encode_utf8_all written.text) ≤ length old
-  pub put : Told (encode_utf8_all written.text) old new
-  pub tells : TellsWritten written.refused (length (encode_utf8_all written.text)) told sentence_old
-      sentence_new answer
+-- a text fits into the room, and lies at its front; nothing else in the room is changed
+abbrev pub Put : List ℕ → (old new : List ℕ) → Type 0
+Put text old new = (byte_count text ≤ length old) × Told (encode_utf8_all text) old new
+
+module _ (m : Meaning) (old new : List ℕ) (sentence_old sentence_new : List ℕ)
+    (answer : Told_answer) where
+  -- all of the text before the first fault lies in the room; the fault is told, with its sentence in
+  -- the other room, or that there is none
+  pub record WroteAll : Type 0 where
+    pub put : Put (text_of m.text) old new
+    pub tells : MatchOption m.fault
+        ((answer ≡ text_answer (byte_count (text_of m.text))) × (sentence_new ≡ sentence_old))
+        (λ f. ToldBy (fault f) (byte_count (text_of m.text)) sentence_old sentence_new answer)
+
+  -- the room is too small for the text before the first fault: it has the longest beginning that fits,
+  -- and the place of the character after that is told
+  pub record WroteFull : Type 0 where
+    pub front : Placed
+    pub c : ℕ
+    pub place : ℕ
+    pub back : Placed
+    pub split : m.text ≡ front ++ ((c, place) ∷ back)
+    pub put : Put (text_of front) old new
+    pub over : length old < byte_count (text_of front) + length (encode_utf8 c)
+    pub told : answer ≡ full_answer place (byte_count (text_of front))
+    pub sentence : Told full_sentence sentence_old sentence_new
+
+  -- memory was wanted: the room has exactly the text before one of the memory points
+  pub record WroteSome : Type 0 where
+    pub front : Placed
+    pub back : Placed
+    pub split : m.text ≡ front ++ back
+    pub point : Contains m.memory_points (length front)
+    pub put : Put (text_of front) old new
+    pub told : ToldFault no_memory (byte_count (text_of front)) sentence_old sentence_new answer
+
+  -- what lies in the room, and what is told
+  abbrev pub Wrote : Type 0
+  Wrote = WroteAll ⊎ (WroteFull ⊎ WroteSome)
 
 -- a format was written over a row, up to what was told; or why nothing was
 abbrev pub WriteAnswers : (fields items : List Field) → List ℕ → (old new : List ℕ)
@@ -217,7 +309,7 @@ abbrev pub WriteAnswers : (fields items : List Field) → List ℕ → (old new 
 WriteAnswers fields items format old new sentence_old sentence_new answer =
     ((is_utf8 format ≡ true)
     × Means fields items format (λ m. Wrote m old new sentence_old sentence_new answer))
-    ⊎ (ToldAside fields items format answer × (new ≡ old))
+    ⊎ (ToldAside fields items format sentence_old sentence_new answer × (new ≡ old))
 
 -- ---- a whole text
 
@@ -249,4 +341,4 @@ FormatAnswers fields items format old new answer =
     ((is_utf8 format ≡ true)
     × Means fields items format (λ m. MatchOption m.fault
     (ToldText (encode_utf8_all (text_of m.text)) old new answer) (ToldAlone old new answer)))
-    ⊎ ToldAside fields items format answer
+    ⊎ ToldAside fields items format old new answer

@@ -11,7 +11,7 @@ use Rattle.interpolator_syntax.specs.At.{outermost}
 use Rattle.interpolator_syntax.specs.Groups.{Group}
 use Rattle.interpolator_syntax.specs.SpecTexts.{Kind, of_value, of_list}
 use Rattle.interpolator.specs.Template.AllArguments.{arguments_of}
-use Rattle.interpolator_border.specs.Answers.{FillsFront, text_answer}
+use Rattle.interpolator_border.specs.Answers.{FillsFront, bare_answer, text_answer}
 use Rattle.interpolator_border.specs.Requests.{request_of}
 use Rattle.interpolator_border.specs.declared.answer.Answer.{Answer as Told_answer}
 use Rattle.interpolator_border.specs.declared.argument.Argument.{Argument as Told_argument}
@@ -60,4 +60,5 @@ abbrev pub ArgumentAnswers : List ℕ → (old new : List Told_argument) → Tol
 ArgumentAnswers format old new answer =
     ((is_utf8 format ≡ true) × (answer ≡ text_answer (length (told_arguments format)))
     × FillsFront (told_arguments format) old new)
-    ⊎ (((answer.code ≡ 6) ⊎ ((answer.code ≡ 7) × (is_utf8 format ≡ false))) × (new ≡ old))
+    ⊎ (((answer ≡ bare_answer 6) ⊎ ((answer ≡ bare_answer 7) × (is_utf8 format ≡ false)))
+    × (new ≡ old))

@@ -15,7 +15,8 @@ use Rattle.interpolator.specs.Explained.{explanation_of}
 use Rattle.interpolator.specs.declared.explaining.Source.{Source}
 use Rattle.interpolator.specs.Template.NodeChecks.{first_fault, text_faults}
 use Rattle.interpolator.specs.Template.NodeSamples.{faults_over}
-use Rattle.interpolator_border.specs.Answers.{FillsFront, Told, ToldAlone, ToldAside, fault_answer}
+use Rattle.interpolator_border.specs.Answers.{CodedAside, FillsFront, Told, ToldAlone, ToldAside}
+use Rattle.interpolator_border.specs.Answers.{ToldNoMemory, ToldNotUtf8, fault_answer}
 use Rattle.interpolator_border.specs.Answers.{fault_numbers, row_means, text_answer}
 use Rattle.interpolator_border.specs.Fields.{AreTrees, field_shows, found_in, lists_lie}
 use Rattle.interpolator_border.specs.declared.answer.Answer.{Answer as Told_answer}
@@ -87,7 +88,7 @@ abbrev pub CheckAnswers : (fields items : List Field) → List ℕ → List ℕ 
 CheckAnswers fields items format old new answer =
     ((is_utf8 format ≡ true)
     × Faults fields items format (λ fs. TellsFound (first_fault fs) old new answer))
-    ⊎ ToldAside fields items format answer
+    ⊎ ToldAside fields items format old new answer
 
 -- a format makes no fault over any row that resembles these examples, where each item stands for what
 -- its field says
@@ -108,7 +109,7 @@ FaultsAnswers fields items format old new answer =
     ((is_utf8 format ≡ true) × Faults fields items format (λ fs.
     (answer ≡ text_answer (length fs))
     × FillsFront (map fault_numbers (map fault fs)) old new))
-    ⊎ (ToldAside fields items format answer × (new ≡ old))
+    ⊎ (CodedAside fields items format answer × (new ≡ old))
 
 -- ---- a format by itself
 
@@ -129,7 +130,7 @@ CheckedAlone format (Err _) = ⊥
 abbrev pub AloneAnswers : List ℕ → (old new : List ℕ) → Told_answer → Type 0
 AloneAnswers format old new answer =
     ((is_utf8 format ≡ true) × TellsFound (alone_fault format) old new answer)
-    ⊎ (answer.code ≡ 6) ⊎ ((answer.code ≡ 7) × (is_utf8 format ≡ false))
+    ⊎ (ToldNoMemory old new answer ⊎ (ToldNotUtf8 old new answer × (is_utf8 format ≡ false)))
 
 -- ---- a fault as a compiler shows it
 
@@ -169,7 +170,8 @@ abbrev pub TellsPicture : Told_source → List ℕ → Answer → (old new : Lis
     → Type 0
 TellsPicture of format a old new answer =
     ToldPicture of format old new answer a
-    ⊎ ((answer.code ≡ 6) ⊎ ((answer.code ≡ 7) × (NoTexts of ⊎ (is_utf8 format ≡ false))))
+    ⊎ (ToldNoMemory old new answer
+    ⊎ (ToldNotUtf8 old new answer × (NoTexts of ⊎ (is_utf8 format ≡ false))))
 
 -- there is no fault of that number, counted from 0, or it is told with its picture; or why that is not
 -- known
@@ -179,4 +181,4 @@ ExplainAnswers of fields items which format old new answer =
     ((is_utf8 format ≡ true) × Faults fields items format (λ fs.
     MatchOption (slice_get fs which) (ToldNone old new answer)
     (λ f. ToldPicture of format old new answer (fault f))))
-    ⊎ (ToldAside fields items format answer ⊎ ((answer.code ≡ 7) × NoTexts of))
+    ⊎ (ToldAside fields items format old new answer ⊎ (ToldNotUtf8 old new answer × NoTexts of))

@@ -16,9 +16,13 @@ cost_answer cost = record {
   buffered = cost.buffered;
 }
 
+-- a code alone, and no cost
+abbrev pub no_cost : ℕ → CostAnswer
+no_cost code = record { code = code; detail = 0; characters = 0; pieces = 0; buffered = 0 }
+
 -- the cost of a format within limits; or memory was wanted, or the format is not UTF-8
 abbrev pub CostAnswers : (text items : ℕ) → List ℕ → CostAnswer → Type 0
 CostAnswers text items format answer =
     ((is_utf8 format ≡ true) × (answer ≡ cost_answer (usize_cost (text_cost
     (record { text = text; items = items }) (outermost (chars format))))))
-    ⊎ (answer.code ≡ 6) ⊎ ((answer.code ≡ 7) × (is_utf8 format ≡ false))
+    ⊎ ((answer ≡ no_cost 6) ⊎ ((answer ≡ no_cost 7) × (is_utf8 format ≡ false)))

@@ -4,5 +4,6 @@ pub mod Arguments
 pub mod Checks
 pub mod Costs
 pub mod Fields
+pub mod Layouts
 pub mod Requests
 pub mod Tables

@@ -1,5 +1,5 @@
 -- A table: a format over each of its rows.
-use Rattle.std.specs.Prelude.{◌≡◌, ◌≢◌, ◌⊎◌, ⊤, ℕ, zero, suc, ◌*◌, List, [], ◌∷◌, ◌++◌}
+use Rattle.std.specs.Prelude.{◌≡◌, ◌≢◌, ◌<◌, ◌⊎◌, ⊤, ℕ, zero, suc, ◌*◌, List, [], ◌∷◌, ◌++◌}
 use Rattle.std.specs.Prelude.{map, length, take, drop, slice_get, None, Some, true, false, option_map, Option}
 use Rattle.std.specs.Prelude.{Bool, Result, MatchResult, IsSomeAnd, Ok, Err, encode_utf8_all}
 use Rattle.std.specs.List.{list_all}
@@ -20,7 +20,8 @@ use Rattle.interpolator.specs.Prepared.Rows.{PreparedFormat, found_by_row, pair_
 use Rattle.interpolator.specs.Template.NodeChecks.{first_fault}
 use Rattle.interpolator.specs.Template.NodeSamples.{faults_over}
 use Rattle.interpolator.specs.Template.Collecting.{AnswersFirst}
-use Rattle.interpolator_border.specs.Answers.{Told, ToldAlone, fault_answer, text_answer}
+use Rattle.interpolator_border.specs.Answers.{Told, ToldAlone, ToldLists, ToldNoMemory, ToldNotUtf8}
+use Rattle.interpolator_border.specs.Answers.{ToldTable, fault_answer, text_answer}
 use Rattle.interpolator_border.specs.Fields.{all_within, field_shows, field_slots}
 use Rattle.interpolator_border.specs.declared.answer.Answer.{Answer as Told_answer}
 use Rattle.interpolator_border.specs.declared.answer.Failure.{Failure}
@@ -108,24 +109,26 @@ module _ (names : List (List ℕ)) (format : List ℕ) (width : ℕ) (cells : Li
   Faultless zero = ⊤
   Faultless (suc row) = Faultless row × ((row_means row).fault ≡ None)
 
-  -- the first fault of a row, before which are none
-  abbrev pub FailsIn : RowFault → Type 0
-  FailsIn wrong =
-      (answer_of wrong.error ≡ no_memory) ⊎ (Faultless wrong.row
-      × (Some (answer_of wrong.error) ≡ option_map fault (row_means wrong.row).fault))
+  -- a row was not appended, before which none has a fault; the ends of those before it were noted
+  pub record FailsIn (ends_old ends_new : List ℕ) (wrong : RowFault) : Type 0 where
+    pub within : wrong.row < length ends_old
+    pub before : Faultless wrong.row
+    pub ends_before : take wrong.row ends_new ≡ rows_ends wrong.row
+    pub ends_after : drop wrong.row ends_new ≡ drop wrong.row ends_old
+    pub why : (answer_of wrong.error ≡ no_memory)
+        ⊎ (Some (answer_of wrong.error) ≡ option_map fault (row_means wrong.row).fault)
 
-  -- so many rows were appended, and it is told where each ends; or the first fault of one
-  abbrev pub MadeRows : (count : ℕ) → Buffered → (ends : List ℕ) → Result (Unit {0}) RowFault
+  -- as many rows were appended as there are ends, and it is told where each ends; or one was not
+  abbrev pub MadeRows : (ends_old ends_new : List ℕ) → Buffered → Result (Unit {0}) RowFault
       → Type 0
-  MadeRows count new ends result = MatchResult result
-      (λ _. Faultless count × (new.text ≡ rows_text count) × (ends ≡ rows_ends count)) FailsIn
+  MadeRows ends_old ends_new new result = MatchResult result
+      (λ _. Faultless (length ends_old) × (new.text ≡ rows_text (length ends_old))
+      × (ends_new ≡ rows_ends (length ends_old))) (FailsIn ends_old ends_new)
 
--- a fault after so many rows, and its sentence in the room if it fits there; or that memory was wanted
--- for the sentence
-abbrev pub ToldInRow : Answer → (row : ℕ) → (old new : List ℕ) → Told_answer → Type 0
-ToldInRow a row old new answer =
-    (answer.code ≡ 6)
-    ⊎ ((answer ≡ record (fault_answer a 0) { row = row }) × Told (answer_text a) old new)
+-- a fault after so many rows, and its sentence in the room if it fits there
+abbrev pub ToldAtRow : Answer → (row : ℕ) → (old new : List ℕ) → Told_answer → Type 0
+ToldAtRow a row old new answer =
+    (answer ≡ record (fault_answer a 0) { row = row }) × Told (answer_text a) old new
 
 module _ (names : List (List ℕ)) (format : List ℕ) (width : ℕ) (cells : List Field) where
   -- all rows are written: their texts one after the other, and where each ends
@@ -135,33 +138,48 @@ module _ (names : List (List ℕ)) (format : List ℕ) (width : ℕ) (cells : Li
     pub told : answer ≡ text_answer (byte_count (rows_text names format width cells count))
     pub put : Told (encode_utf8_all (rows_text names format width cells count)) old new
 
-  -- a fault of a row, before which are none, is told with its sentence
-  pub record OneRowFails (old new : List ℕ) (answer : Told_answer) : Type 0 where
+  -- a row is not written, before which none has a fault: its fault is told, or that memory was wanted,
+  -- and where each row before it ends; no other end is changed
+  pub record StopsInRow (ends_old ends_new old new : List ℕ) (answer : Told_answer) : Type 0 where
     pub row : ℕ
+    pub within : row < length ends_old
     pub before : Faultless names format width cells row
-    pub fails : IsSomeAnd (row_means names format width cells row).fault
-        (λ f. ToldInRow (fault f) row old new answer)
+    pub ends_before : take row ends_new ≡ rows_ends names format width cells row
+    pub ends_after : drop row ends_new ≡ drop row ends_old
+    pub told : ToldAtRow no_memory row old new answer
+        ⊎ IsSomeAnd (row_means names format width cells row).fault
+        (λ f. ToldAtRow (fault f) row old new answer)
 
-  -- all rows are written, or a fault of one is told, or memory was wanted
+  -- all rows are written, or one is not
   abbrev pub TellsRows : (ends_old ends_new : List ℕ) → (old new : List ℕ) → Told_answer → Type 0
   TellsRows ends_old ends_new old new answer =
       AllRows (length ends_old) ends_new old new answer
-      ⊎ (OneRowFails old new answer ⊎ (answer.code ≡ 6))
+      ⊎ StopsInRow ends_old ends_new old new answer
 
--- why no row is written
-abbrev pub RowsAside : (columns cells : List Field) → List ℕ → (count : ℕ) → Told_answer → Type 0
-RowsAside columns cells format count answer =
-    (answer.code ≡ 6)
-    ⊎ ((answer.code ≡ 7) × ((is_utf8 format ≡ false) ⊎ (list_all has_text_name columns ≡ false)))
-    ⊎ ((answer.code ≡ 8) × ((all_within 0 columns ≡ false) ⊎ (all_within 0 cells ≡ false)))
-    ⊎ ((answer.code ≡ 10) × (length cells ≢ count * length columns))
+-- why no row is written: memory was wanted, the format or a name is not UTF-8, a list lies where it
+-- may not, or there are not as many cells as there should be
+abbrev pub RowsAside : (columns cells : List Field) → List ℕ → (count : ℕ) → (old new : List ℕ)
+    → Told_answer → Type 0
+RowsAside columns cells format count old new answer =
+    ToldNoMemory old new answer
+    ⊎ ((ToldNotUtf8 old new answer
+    × ((is_utf8 format ≡ false) ⊎ (list_all has_text_name columns ≡ false)))
+    ⊎ ((ToldLists old new answer × ((all_within 0 columns ≡ false) ⊎ (all_within 0 cells ≡ false)))
+    ⊎ (ToldTable old new answer × (length cells ≢ count * length columns))))
 
--- all rows, or a fault of one; or a fault over the columns, or why no row is written
+-- no row is written, and no end is changed: the first fault of the format over the columns is told,
+-- or why that is not known
+abbrev pub TellsNoRow : (columns cells : List Field) → List ℕ → (count : ℕ) → (old new : List ℕ)
+    → Told_answer → Type 0
+TellsNoRow columns cells format count old new answer =
+    ((is_utf8 format ≡ true)
+    × ColumnFaults columns format (λ fs. IsSomeAnd (first_fault fs) (ToldAlone old new answer)))
+    ⊎ RowsAside columns cells format count old new answer
+
+-- all rows are told, or up to one that is not written; or why none is
 abbrev pub RowsAnswers : (columns cells : List Field) → List ℕ → (ends_old ends_new : List ℕ)
     → (old new : List ℕ) → Told_answer → Type 0
 RowsAnswers columns cells format ends_old ends_new old new answer =
     ((is_utf8 format ≡ true)
     × TellsRows (column_names columns) format (length columns) cells ends_old ends_new old new answer)
-    ⊎ (((is_utf8 format ≡ true) × ColumnFaults columns format (λ fs.
-    IsSomeAnd (first_fault fs) (ToldAlone old new answer)))
-    ⊎ RowsAside columns cells format (length ends_old) answer)
+    ⊎ (TellsNoRow columns cells format (length ends_old) old new answer × (ends_new ≡ ends_old))

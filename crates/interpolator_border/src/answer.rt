@@ -1,7 +1,8 @@
 //! What a call returns.
 ghost use Rattle.std.specs.Prelude.{◌≡◌, ◌<◌, length};
-ghost use Rattle.interpolator_border.specs.Answers.{FillsFront, Told, ToldBy, ToldFailure};
-ghost use Rattle.interpolator_border.specs.Answers.{failure_code, fault_answer, text_answer};
+ghost use Rattle.interpolator_border.specs.Answers.{FillsFront, Told, ToldBy, ToldCode, ToldFailure};
+ghost use Rattle.interpolator_border.specs.Answers.{bare_answer, failure_code, fault_answer};
+ghost use Rattle.interpolator_border.specs.Answers.{full_answer, full_sentence, text_answer};
 ghost use Rattle.interpolator_syntax.specs.Faults.{answer_of};
 
 use crate::fault::{NO_MEMORY, code_of, fault_numbers};
@@ -87,22 +88,14 @@ pub(crate) fn well(length: usize) -> Answer
 
 /// A code alone.
 pub(crate) fn bare(code: u32) -> Answer
-    ensures { result ≡ record (text_answer 0) { code = code } }
+    ensures { result ≡ bare_answer code }
 {
     Answer { code, ..well(0) }
 }
 
 /// A code, with its sentence.
 fn coded(code: u32, sentence: &str, room: &mut [u8]) -> Answer
-    ensures room { Told sentence.now room.old room.new }
-    ensures answer { result ≡ record {
-      code = code;
-      detail = 0;
-      place = 0;
-      length = 0;
-      message = length sentence.now;
-      row = 0;
-    } }
+    ensures { ToldCode code sentence.now room.old room.new result }
 {
     put(room, sentence.as_bytes());
     Answer {
@@ -173,9 +166,8 @@ pub(crate) fn failure_code(failure: &Failure) -> u32
 
 /// The room is too small from a place of the format on, after `length` bytes of the text.
 pub(crate) fn told_full(place: usize, length: usize, sentence: &mut [u8]) -> Answer
-    ensures code { result.code ≡ 9 }
-    ensures place { result.place ≡ place }
-    ensures length { result.length ≡ length }
+    ensures answer { result ≡ full_answer place length }
+    ensures room { Told full_sentence sentence.old sentence.new }
 {
     let told = coded(FULL, "the room is too small", sentence);
     Answer {

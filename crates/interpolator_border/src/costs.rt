@@ -1,6 +1,6 @@
 //! How much a format can write.
 ghost use Rattle.std.specs.Prelude.{◌≡◌};
-ghost use Rattle.interpolator_border.specs.Costs.{CostAnswers};
+ghost use Rattle.interpolator_border.specs.Costs.{CostAnswers, no_cost};
 
 use crate::answer::NOT_UTF8;
 use crate::bytes::text_of;
@@ -26,8 +26,7 @@ pub struct CostAnswer {
 
 /// No cost, and a code.
 fn uncounted(code: u32) -> CostAnswer
-    ensures { result
-        ≡ record { code = code; detail = 0; characters = 0; pieces = 0; buffered = 0 } }
+    ensures { result ≡ no_cost code }
 {
     CostAnswer {
         code,

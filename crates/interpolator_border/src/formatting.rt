@@ -46,15 +46,15 @@ fn format_row<'a>(alloc: Global, format: &[u8], row: FieldRow<'a>) -> Result<Str
 }
 
 /// The text of a format with a row, or the fault's sentence, at the front of the room, if it fits.
-#[tactic(auto, using(crate::proofs::AnswerLemmas::text_told, crate::proofs::AnswerLemmas::format_fails,))]
 pub fn format<'a>(alloc: Global, format: &[u8], row: FieldRow<'a>, room: &mut [u8]) -> Answer
     ensures { FormatAnswers row.entry.fields.now row.entry.items.now format.now room.old room.new
         result }
 {
     match format_row(alloc, format, row) {
         Ok(text) => {
-            put(room, text.as_str().as_bytes());
-            well(text.len())
+            let bytes = text.as_str().as_bytes();
+            put(room, bytes);
+            well(bytes.len())
         }
         Err(failure) => told_failure(alloc, &failure, room),
     }

@@ -1,4 +1,6 @@
 //! How the structs lie in memory.
+ghost use Rattle.std.specs.Prelude.{◌≡◌};
+ghost use Rattle.interpolator_border.specs.Layouts.{layout_of_c};
 
 use crate::answer::Answer;
 use crate::argument::Argument;
@@ -53,7 +55,9 @@ pub struct Sizes {
 }
 
 /// How the structs lie in memory: their members in order, as in C.
-pub fn layout() -> Sizes {
+pub fn layout() -> Sizes
+    ensures { result ≡ layout_of_c }
+{
     Sizes {
         request: size_of::<Request>(),
         lent: size_of::<Lent<'static>>(),

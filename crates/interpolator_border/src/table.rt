@@ -118,7 +118,7 @@ fn put_rows<'a>(
     requires empty { out.old.text ≡ [] }
     requires table { length table.cells.now ≡ length ends.old * length table.columns.now }
     ensures { MadeRows line.now.names line.now.text (length table.entry.columns.now)
-        table.entry.cells.now (length ends.old) out.new ends.new result }
+        table.entry.cells.now ends.old ends.new out.new result }
 {
     let width = table.columns.len();
     for row in 0..ends.len() {

@@ -1,6 +1,5 @@
 //! A row written into a room.
-ghost use Rattle.std.specs.Prelude.{◌≡◌, drop, map, MatchOption, MatchResult, Ok, Err, [], false};
-ghost use Rattle.interpolator_render.specs.Bounds.{bounded_writer};
+ghost use Rattle.std.specs.Prelude.{◌≡◌, drop, map, MatchResult, Ok, Err};
 ghost use Rattle.interpolator_border.specs.declared.answer.Failure.TheVariants.{Fault};
 ghost use Rattle.interpolator_eval.specs.Slots.{slots_of};
 ghost use Rattle.interpolator_border.specs.Answers.{TellsFault, TellsResult, WriteAnswers};
@@ -113,18 +112,6 @@ pub(crate) fn write_row<'a, W: TextWrite>(
     write_levels(alloc, out, format, row, none)
 }
 
-/// An empty writer that takes at most `most` bytes, for which it has memory.
-fn bounded(alloc: Global, most: usize) -> Option<Bounded>
-    ensures { MatchOption result (Unit {0})
-        (λ out. bounded_writer out ≡ record { text = []; refused = false }) }
-{
-    let mut out = Bounded::new(alloc, most);
-    match out.reserve(most) {
-        Ok(()) => Some(out),
-        Err(_) => None,
-    }
-}
-
 /// The answer for a fault after the bytes of the text that were written.
 fn told_beside(
     alloc: Global,
@@ -169,14 +156,11 @@ fn write_text<'a>(
     ensures { WriteAnswers row.entry.fields.now row.entry.items.now text.now room.old room.new sentence.old
         sentence.new result }
 {
-    let Some(mut out) = bounded(alloc, room.len()) else {
+    let Ok(mut out) = Bounded::with_room(alloc, room.len()) else {
         return told_failure(alloc, &Failure::Fault(Error::NoMemory), sentence);
     };
     let written = write_row(alloc, &mut out, text, row);
     let made = out.as_str();
-    if room.len() < made.len() {
-        return told_failure(alloc, &Failure::Fault(Error::NoMemory), sentence);
-    }
     put(room, made.as_bytes());
     told_written(alloc, &written, out.refused(), made.len(), sentence)
 }

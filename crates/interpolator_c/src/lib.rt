@@ -7,6 +7,7 @@ ghost use Rattle.interpolator_border.specs.Arguments.{ArgumentAnswers};
 ghost use Rattle.interpolator_border.specs.Checks.{AloneAnswers, CheckAnswers, ExplainAnswers};
 ghost use Rattle.interpolator_border.specs.Checks.{FaultsAnswers, NeverFails};
 ghost use Rattle.interpolator_border.specs.Costs.{CostAnswers};
+ghost use Rattle.interpolator_border.specs.Layouts.{layout_of_c};
 ghost use Rattle.interpolator_border.specs.Tables.{RowsAnswers};
 
 use interpolator_border::{
@@ -145,12 +146,16 @@ pub extern "C" fn interpolator_arguments(
 
 /// The sizes and offsets of the structs.
 #[unsafe(no_mangle)]
-pub extern "C" fn interpolator_layout() -> Sizes {
+pub extern "C" fn interpolator_layout() -> Sizes
+    ensures { result ≡ layout_of_c }
+{
     interpolator_border::layout()
 }
 
 /// The version of the structs and calls.
 #[unsafe(no_mangle)]
-pub extern "C" fn interpolator_version() -> u32 {
+pub extern "C" fn interpolator_version() -> u32
+    ensures { result ≡ 1 }
+{
     interpolator_border::VERSION
 }

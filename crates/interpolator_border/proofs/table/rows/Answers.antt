@@ -1,3 +1,4 @@
+use Rattle.std.proofs.Common.{refl}
 use Rattle.interpolator_border.proofs.TableLemmas.{columns_fail, rows_told}
 use Rattle.interpolator_border.proofs.table.rows.Goals as goal
 
@@ -10,5 +11,6 @@ returns-in-Ok c =
 pub returns-in-Err : goal.returns-in-Err
 returns-in-Err c =
     columns_fail c.args.table.columns.now c.args.table.cells.now c.args.format.now c.args.ends.now _
-    c.args.room.now c.told_failure-in-Err.new.room c.told_failure-in-Err.result c.in-Err.failure c.in-Err.ensures
+    c.args.room.now c.told_failure-in-Err.new.room c.told_failure-in-Err.result refl c.in-Err.failure
+    c.in-Err.ensures
     c.told_failure-in-Err.ensures.failure
