@@ -7,6 +7,7 @@ mod explained;
 mod fallback;
 mod files;
 mod log;
+mod log_file;
 mod macros;
 mod named;
 mod order;
@@ -210,6 +211,7 @@ pub fn show(page: &mut Page) -> Result<(), Error> {
     amounts::show(page);
     explained::show(page);
     files::show(page);
+    log_file::show(page)?;
     order::show(page);
     own_error::show(page)?;
     prepared::show(page)?;

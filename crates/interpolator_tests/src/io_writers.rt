@@ -6,14 +6,16 @@ use interpolator::{Error, IoWriter, TextWrite};
 use std::alloc::Global;
 use std::io;
 
-/// A writer of bytes that keeps what it gets, and fails once.
+/// A writer of bytes that keeps what it gets, and fails once, or in some writes one after the other.
 #[derive(Drop)]
 struct Spy {
     got: Vec<u8>,
     /// How many bytes it takes in each call up to the one that fails. Later it takes everything.
     most: usize,
-    /// The write that fails, counted from one, and the flush that fails; 0 if none does.
+    /// The first write that fails, counted from one, and the flush that fails; 0 if none does.
     failing: (usize, usize),
+    /// How many writes fail, if one does.
+    times: usize,
     kind: io::ErrorKind,
     writes: usize,
     flushes: usize,
@@ -25,6 +27,7 @@ impl Spy {
             got: Vec::new(alloc),
             most,
             failing,
+            times: 1,
             kind,
             writes: 0,
             flushes: 0,
@@ -35,7 +38,8 @@ impl Spy {
 impl io::Write for Spy {
     fn write(&mut self, buf: &[u8]) -> io::Result<usize> {
         self.writes = self.writes.saturating_add(1);
-        if self.writes == self.failing.0 {
+        let since = self.writes.saturating_sub(self.failing.0);
+        if 0 < self.failing.0 && self.failing.0 <= self.writes && since < self.times {
             self.most = usize::MAX;
             return Err(io::Error::from(self.kind));
         }
@@ -78,27 +82,30 @@ fn long_text(report: &mut Report) -> Result<(), Error> {
     Ok(())
 }
 
-/// What the writer below does, how the first flush and the second then fail, and how many writes,
-/// flushes and bytes it got in the end.
+/// What the writer below does, how often its write fails, how the first flush and the second then
+/// fail, and how many writes, flushes and bytes it got in the end.
 struct Case {
     what: &'static str,
     most: usize,
     failing: (usize, usize),
+    times: usize,
     kind: io::ErrorKind,
     fails: Option<(io::ErrorKind, io::ErrorKind)>,
     got: (usize, usize, usize),
 }
 
 /// Worked by hand: `text` is gathered, and the first flush passes it on; `more` and `c` come next,
-/// and another flush. A write that a signal interrupts is tried again, and no other; after a failure
-/// nothing is passed on any more.
+/// and another flush. A write that a signal interrupts is tried 64 times in all, and no other is
+/// tried again; after a failure nothing is passed on any more.
 #[rattlefmt::skip]
-const CASES: [Case; 5] = [
-    Case { what: "flushed twice", most: 9, failing: (0, 0), kind: io::ErrorKind::Other, fails: None, got: (2, 2, 9) },
-    Case { what: "interrupted", most: 2, failing: (2, 0), kind: io::ErrorKind::Interrupted, fails: None, got: (4, 2, 9) },
-    Case { what: "failed flush", most: 9, failing: (0, 1), kind: io::ErrorKind::StorageFull, fails: Some((io::ErrorKind::StorageFull, io::ErrorKind::Other)), got: (1, 1, 4) },
-    Case { what: "failed write", most: 9, failing: (1, 0), kind: io::ErrorKind::StorageFull, fails: Some((io::ErrorKind::StorageFull, io::ErrorKind::Other)), got: (1, 0, 0) },
-    Case { what: "nothing taken", most: 0, failing: (0, 0), kind: io::ErrorKind::Other, fails: Some((io::ErrorKind::WriteZero, io::ErrorKind::Other)), got: (1, 0, 0) },
+const CASES: [Case; 7] = [
+    Case { what: "flushed twice", most: 9, failing: (0, 0), times: 1, kind: io::ErrorKind::Other, fails: None, got: (2, 2, 9) },
+    Case { what: "interrupted", most: 2, failing: (2, 0), times: 1, kind: io::ErrorKind::Interrupted, fails: None, got: (4, 2, 9) },
+    Case { what: "interrupted 63 times", most: 9, failing: (1, 0), times: 63, kind: io::ErrorKind::Interrupted, fails: None, got: (65, 2, 9) },
+    Case { what: "interrupted 64 times", most: 9, failing: (1, 0), times: 64, kind: io::ErrorKind::Interrupted, fails: Some((io::ErrorKind::Interrupted, io::ErrorKind::Other)), got: (64, 0, 0) },
+    Case { what: "failed flush", most: 9, failing: (0, 1), times: 1, kind: io::ErrorKind::StorageFull, fails: Some((io::ErrorKind::StorageFull, io::ErrorKind::Other)), got: (1, 1, 4) },
+    Case { what: "failed write", most: 9, failing: (1, 0), times: 1, kind: io::ErrorKind::StorageFull, fails: Some((io::ErrorKind::StorageFull, io::ErrorKind::Other)), got: (1, 0, 0) },
+    Case { what: "nothing taken", most: 0, failing: (0, 0), times: 1, kind: io::ErrorKind::Other, fails: Some((io::ErrorKind::WriteZero, io::ErrorKind::Other)), got: (1, 0, 0) },
 ];
 
 /// Whether a call failed with an error of this kind, or not at all if none is given.
@@ -112,7 +119,8 @@ fn ends_as(flushed: io::Result<()>, wanted: Option<io::ErrorKind>) -> bool {
 
 fn is_flushed(report: &mut Report, case: &Case) {
     let what = case.what;
-    let spy = Spy::new(report.alloc, case.most, case.failing, case.kind);
+    let mut spy = Spy::new(report.alloc, case.most, case.failing, case.kind);
+    spy.times = case.times;
     let mut out = IoWriter::new(report.alloc, spy);
     let (first, second) = match case.fails {
         Some((first, second)) => (Some(first), Some(second)),

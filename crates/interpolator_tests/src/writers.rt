@@ -79,6 +79,18 @@ fn bounded(report: &mut Report) {
     report.text("its text", "abï", out.into_string().as_str());
 }
 
+/// A bounded writer that takes its memory at once. `naï` has four bytes.
+fn bounded_with_room(report: &mut Report) -> Result<(), Error> {
+    let mut out = Bounded::with_room(report.alloc, 4)?;
+    report.holds("all of it is reserved", out.reserve(4).is_ok());
+    report.holds("naï is taken with room", out.write_str("naï").is_ok());
+    report.holds("v does not fit the room", is_refused(out.write_str("v")));
+    report.text("the text in the room", "naï", out.as_str());
+    let great = Bounded::with_room(report.alloc, usize::MAX);
+    report.holds("no room is so great", great.is_err());
+    Ok(())
+}
+
 /// There is no memory for this many spaces, whatever the system says of its memory.
 fn great_widths(report: &mut Report) {
     let alloc = report.alloc;
@@ -142,6 +154,7 @@ fn is_written_by(report: &mut Report, format: &str, text: &str, most: usize) -> 
 pub fn run(report: &mut Report) -> Result<(), Error> {
     report.begin("writers");
     bounded(report);
+    bounded_with_room(report)?;
     great_widths(report);
     asked_room(report)?;
     for (format, parts, most) in BY_CALLS {
