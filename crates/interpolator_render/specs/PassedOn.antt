@@ -26,3 +26,5 @@ pub GetsFront-prop : (old new : Option (List ℕ)) (bytes : List ℕ)
 GetsFront-prop None now bytes = Unit-prop
 GetsFront-prop (Some start) None bytes = λ p q. absurd p
 GetsFront-prop (Some start) (Some now) bytes = Coded-set (coded_list coded_ℕ) now _
+
+pub ruleset got = (Gets-prop, GetsFront-prop)

@@ -16,8 +16,9 @@ use std::marker::Model;
 /// A writer over a `String` with a limit on its bytes, which its text never exceeds.
 ///
 /// Of a text that would exceed the limit it takes the longest prefix of whole characters that still
-/// fits, and refuses the rest. A text for which there is no memory it refuses whole. After a
-/// refusal it takes only the empty text, and refuses even a text that would fit.
+/// fits, and refuses the rest. A text for which there is no memory it refuses whole, which does not
+/// happen if it was made by [`Bounded::with_room`]. After a refusal it takes only the empty text,
+/// and refuses even a text that would fit.
 ///
 /// Its `reserve` takes memory for the bytes named or for those that are left, whichever are fewer,
 /// and refuses only if there is no memory for these. Its `room` is what is left.

@@ -5,8 +5,7 @@ ghost use Rattle.std.specs.Prelude.{◌⊎◌, IfErr, MatchResult, OnErr, OnOk};
 ghost use Rattle.std.specs.IoError.{error_kind};
 ghost use Rattle.std.specs.declared.io.ErrorKind.TheVariants.{Other};
 ghost use Rattle.std.specs.Str.{chars};
-ghost use Rattle.std.specs.Coded.{→_prop};
-ghost use Rattle.interpolator_render.specs.PassedOn.{Gets, Gets-prop, GetsFront, GetsFront-prop};
+ghost use Rattle.interpolator_render.specs.PassedOn.{Gets, GetsFront, got};
 
 use crate::appends::{append, append_char};
 use crate::below::Below;
@@ -22,11 +21,11 @@ const GATHERED: usize = 8192;
 /// A writer over a writer of bytes, such as a file or the standard output.
 ///
 /// It gathers up to 8 KiB of text in memory, and then passes it on. A longer text is gathered whole.
-/// What the writer below has got is at any time a prefix of the text taken, with nothing left out and
-/// nothing twice.
+/// What the writer below contains is at any time what it did at first, and then a front of the bytes
+/// of all the text taken, with nothing left out and nothing twice.
 ///
-/// It refuses a text only if a write below fails or there is no memory for the text, and from then on
-/// every text but the empty one. Once it has refused, it passes nothing on.
+/// It refuses a text only if a write or a flush below failed, or there is no memory for the text, and
+/// from then on every text but the empty one. Once it has refused, it passes nothing on.
 ///
 /// Dropping it passes nothing on either, so end with [`IoWriter::flush`]: after `Ok`, all the text
 /// taken has been passed on.
@@ -46,13 +45,11 @@ pub struct IoWriter<W: Write + Drop> {
     no_memory: bool,
     passed_on: GhostLog,
     // the writer below has got what was passed on, each byte once, unless a call of it has failed
-    ghost whole: { below.failed ≡ false
-        → Gets passed_on.start (W.contents below.inner) (encode_utf8_all passed_on.text) } by { →_prop (Gets-prop passed_on.start (W.contents below.inner)
-            (encode_utf8_all passed_on.text)) },
+    ghost whole: { below.failed ≡ false → Gets passed_on.start (W.contents below.inner)
+        (encode_utf8_all passed_on.text) } by { Prim.hlevel got },
     // in any case it has got a front of all the text that was taken
     ghost front: { GetsFront passed_on.start (W.contents below.inner)
-        (encode_utf8_all passed_on.text ++ string_bytes held) } by { GetsFront-prop passed_on.start (W.contents below.inner)
-            (encode_utf8_all passed_on.text ++ string_bytes held) },
+        (encode_utf8_all passed_on.text ++ string_bytes held) } by { Prim.hlevel got },
 }
 
 impl<W: Write + Drop> IoWriter<W> {

@@ -27,6 +27,10 @@ pub(crate) fn refused(answer: Result<(), Refusal>) -> Result<(), RenderFault>
 /// `taken` bytes of it and has set the writer's flag, `refused`. While the flag is set, the writer
 /// takes only the empty text, and no write clears the flag. An empty text is never refused.
 ///
+/// For proofs, what is `written` also has the writer's `origin`, which no call changes: `plain` for
+/// most writers. One that has a bound in it has the memory for so many bytes, and refuses only a
+/// character that goes over them, until it has refused once.
+///
 /// ```text
 /// let mut out = TextBuffer::new(alloc);
 /// out.write_str("né")?;
@@ -37,7 +41,7 @@ pub(crate) fn refused(answer: Result<(), Refusal>) -> Result<(), RenderFault>
 /// out.room()         // None: it is not bounded
 /// ```
 pub trait TextWrite {
-    // the characters taken so far, and whether a text was refused
+    // the characters taken so far, whether a text was refused, and the writer's origin
     ghost written: { Self → Written };
 
     // how many bytes it takes at most from now on, if it is limited
@@ -64,7 +68,7 @@ pub trait TextWrite {
 
     /// Makes room in memory for this many bytes of the text that comes next, or refuses that
     /// text whole. A writer that cannot reserve memory returns `Ok`, and refuses the text itself
-    /// if it has to.
+    /// if it has to. One that has a bound refuses nothing here, if it had not refused before.
     ///
     /// It is called before each run of more than 64 copies of a character, such as a wide
     /// padding, with the bytes of the run. So a run for which there is no memory is refused

@@ -20,6 +20,7 @@ pub record Taken (old : Written) (text rest : List ℕ) (taken : ℕ) (now : Wri
   pub appended : now.text ≡ old.text ++ chars after
   pub same_flag : now.refused ≡ old.refused
   pub only_empty : old.refused ≡ true → after ≡ []
+  pub same_origin : now.origin ≡ old.origin
 
 pub taken_none : (old : Written) (text : List ℕ) → IsUtf8 text → Taken old text text 0 old
 taken_none old text u = record {
@@ -31,6 +32,7 @@ taken_none old text u = record {
   appended = rw chars-nil (sym (append-nil old.text));
   same_flag = refl;
   only_empty = λ _. refl;
+  same_origin = refl;
 }
 
 -- one more character was taken
@@ -56,6 +58,7 @@ taken_more old now new text rest after taken c size z e k a =
           ∙ ap (λ (x : List ℕ). old.text ++ x) (sym more)));
       same_flag = a.same_flag ∙ k.same_flag;
       only_empty = λ h. let n = ap length (a.only_empty (k.same_flag ∙ h)) in absurd (omega arith);
+      same_origin = a.same_origin ∙ k.same_origin;
     }
 
 -- how far the text goes after the part that was taken
@@ -76,6 +79,7 @@ taken_whole old now text rest taken e k =
       appended = rw all k.appended;
       same_flag = k.same_flag;
       only_empty = λ h. ap chars (all ∙ k.only_empty h) ∙ chars-nil;
+      same_origin = k.same_origin;
     }
 
 -- a proper beginning of one character is empty
@@ -91,6 +95,7 @@ pub taken_part : (old now new : Written) (text rest after : List ℕ) (taken c k
     → Refuses old (chars text) taken new
 taken_part old now new text rest after taken c n e k r =
     let none = none_of_one c r.part.beginning r.part.rest r.part.parts r.part.not_whole in
+    let only : r.part.rest ≡ c ∷ [] = sym (rw none at r.part.parts) in
     record {
       part = record {
         beginning = chars k.after;
@@ -101,6 +106,9 @@ taken_part old now new text rest after taken c n e k r =
             ∙ (append-nil now.text ∙ k.appended));
         flag_set = r.part.flag_set;
         none_after_refusal = λ h. ap chars (k.only_empty h) ∙ chars-nil;
+        same_origin = r.part.same_origin ∙ k.same_origin;
+        over = rw (← k.same_origin, ← k.same_flag, chars_past_char rest after c k.rest_valid e)
+            (rw only at r.part.over);
       };
       counted = k.counted ∙ sym (byte_count-chars k.after k.after_valid);
     }

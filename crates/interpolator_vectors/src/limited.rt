@@ -18,13 +18,14 @@ pub struct Limited {
 impl Model for Limited {
     ghost use Rattle.std.specs.Prelude.{string_bytes};
     ghost use Rattle.std.specs.Str.{chars};
-    ghost use Rattle.interpolator_render.specs.Written.{Written};
+    ghost use Rattle.interpolator_render.specs.Written.{Written, plain};
 
     ghost Value = { Written };
 
     ghost view = { λ writer. record {
       text = chars (string_bytes writer.text);
       refused = writer.refused;
+      origin = plain;
     } };
 }
 
