@@ -436,7 +436,7 @@ static void rooms(void) {
   } all[] = {
       {FORMAT, "12{{45", 0, INTERPOLATOR_OK, 0, 5, "12{45"},
       {FORMAT, "{x}", 0, INTERPOLATOR_MISSING_VALUE, 1, 0, value},
-      {FORMAT, "{x:p}", 0, INTERPOLATOR_MISSING_VALUE, 1, 0, value},
+      {FORMAT, "{x:p}", 0, INTERPOLATOR_UNSUPPORTED, 3, 0, option},
       {FORMAT, "\xff", 0, INTERPOLATOR_NOT_UTF8, 0, 0, "not UTF-8"},
       {FORMAT, "", 1, INTERPOLATOR_LISTS, 0, 0, "a list lies where it may not"},
       {CHECK, "12{{45", 0, INTERPOLATOR_OK, 0, 0, ""},

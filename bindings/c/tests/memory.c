@@ -126,7 +126,7 @@ static int explain(int refused) {
   return refused ? lacks(got, 0, 0, room, sizeof room)
                  : told(got, INTERPOLATOR_MISSING_VALUE, 8,
                         "f:1:9: specified value not in context `nobody` at 8\n"
-                        "  |\n1 | {name} {nobody}\n  |        ~^~~~~~");
+                        "  |\n1 | {name} {nobody}\n  |        ~^~~~~~~");
 }
 static int check_alone(int refused) {
   interpolator_answer got = interpolator_check_alone("{name:p}", 8, room, sizeof room);
