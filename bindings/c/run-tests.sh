@@ -134,7 +134,7 @@ hostile_catalogue() {
 # The library as a program finds it that is not in this folder; the tools of the proofs are not needed.
 installed_copy() {
     root=$scratch/installed
-    PATH=/usr/local/bin:/usr/bin:/bin make --quiet install PREFIX="$root" &&
+    PATH=/usr/bin:/bin make --quiet install PREFIX="$root" &&
         export PKG_CONFIG_PATH=$root/lib/pkgconfig &&
         cc -std=c99 example/catalogue.c $(pkg-config --cflags --libs interpolator) \
             -Wl,-rpath,"$root/lib" -o "$scratch/catalogue_installed" &&
