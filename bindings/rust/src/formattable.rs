@@ -297,12 +297,6 @@ impl<'a> Formattable<'a> {
     }
 }
 
-impl<'a, T: Debug + Display> From<&'a T> for Formattable<'a> {
-    fn from(value: &'a T) -> Self {
-        Self::debug_display(value)
-    }
-}
-
 /// The names of the slots that are filled.
 impl Debug for Formattable<'_> {
     fn fmt(&self, f: &mut fmt::Formatter<'_>) -> fmt::Result {

@@ -294,8 +294,9 @@ macro_rules! inner_name {
 #[doc(hidden)]
 #[macro_export]
 macro_rules! either_list {
-    ([$($tokens:tt)*] $($one:ident),* $(: $($two:ident)? $(?)?)*
-        $(:: $($three:ident)? $(?)? $(: $($four:ident)? $(?)?)*)* ; $($values:tt)*) => {
+    ([$($tokens:tt)*] $($one:ident),* $(: $($two:ident)? $(?)? $(, $three:ident)*)*
+        $(:: $($four:ident)? $(?)? $(, $five:ident)*
+            $(: $($six:ident)? $(?)? $(, $seven:ident)*)*)* ; $($values:tt)*) => {
         $crate::inner_list!([] $($tokens)*)
     };
     ($tokens:tt $($value:expr),* $(,)?) => {
@@ -330,6 +331,9 @@ macro_rules! inner_list {
     };
     ([$($slot:tt)*] : $more:ident $($rest:tt)*) => {
         $crate::inner_list!([$($slot)* $more] $($rest)*)
+    };
+    ([$($slot:tt)+] , $more:ident $($rest:tt)*) => {
+        $crate::inner_list!([$($slot)+ $more] $($rest)*)
     };
     ([] ; $($values:tt)*) => {
         $crate::inner_list!([display] ; $($values)*)

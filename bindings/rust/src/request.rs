@@ -179,9 +179,9 @@ fn write_padded(
         (Padding::Spaces, 1) => aligned!("<" []),
         (Padding::Spaces, 2) => aligned!("^" []),
         (Padding::Spaces, _) => aligned!(">" []),
-        (Padding::Marks, 1) => aligned!("\u{10ffff}<" [width]),
-        (Padding::Marks, 2) => aligned!("\u{10ffff}^" [width]),
-        (Padding::Marks, _) => aligned!("\u{10ffff}>" [width]),
+        (Padding::Marks, 1) => aligned!("\u{10ffff}<"[width]),
+        (Padding::Marks, 2) => aligned!("\u{10ffff}^"[width]),
+        (Padding::Marks, _) => aligned!("\u{10ffff}>"[width]),
     }
 }
 

@@ -65,8 +65,8 @@ fn a_float_beside_values_of_other_types() {
     );
 }
 
-/// Compares the texts of a value with std's, under widths and precisions up to the greatest that std
-/// takes, and under greater ones.
+/// Compares the texts of a value with std's, under widths and precisions up to the greatest that
+/// std takes, and under greater ones.
 macro_rules! compare_at_the_border {
     ($name:literal, $value:ident in $context:ident: $($letter:literal)*) => {$(
         for count in 65_533..=65_537usize {
@@ -88,7 +88,11 @@ fn compare(format_text: &str, context: &impl interpolator::Context, by_std: Opti
     let fault = Error::Fmt(fmt::Error, format_text.len() - 1);
     let wanted = by_std.ok_or(fault);
     assert!(format(format_text, context) == wanted, "{format_text}");
-    assert_eq!(check(format_text, context), wanted.map(|_| ()), "{format_text}");
+    assert_eq!(
+        check(format_text, context),
+        wanted.map(|_| ()),
+        "{format_text}"
+    );
 }
 
 #[test]
@@ -106,7 +110,10 @@ fn the_greatest_widths_and_precisions() {
     for letter in ["", "?", "b", "o", "x", "X", "e", "E", "x?", "X?"] {
         for count in 65_533..=65_537 {
             let format_text = format!("{{k:{count}{letter}}}");
-            assert_eq!(format(&format_text, &context).map(|text| text.len()), Ok(count));
+            assert_eq!(
+                format(&format_text, &context).map(|text| text.len()),
+                Ok(count)
+            );
             let format_text = format!("{{k:.{count}{letter}}}");
             assert!(format(&format_text, &context).is_ok(), "{format_text}");
         }

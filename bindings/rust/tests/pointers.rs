@@ -1,4 +1,4 @@
-//! The feature `pointer`: a program that names it compiles, and a format that has a `p` has a fault.
+//! The feature `pointer`: a program that names it compiles; a format that has a `p` has a fault.
 #![cfg(feature = "pointer")]
 use interpolator::{check, context, explain, format, iformat, Error, Formattable, Trait};
 
@@ -11,8 +11,14 @@ fn values_under_pointer() {
     let both = Formattable::pointer(&number).and_iter(&[]);
     assert_eq!(format!("{both:?}"), "Formattable(pointer, iter)");
     let context = context! { number: p, text: pointer = number, text = "t", number: :x = 6 };
-    assert_eq!(format("{number} {number:x} {text}", &context).as_deref(), Ok("6 6 t"));
-    assert_eq!(format!("{:?}", context["text"]), "Formattable(display, pointer)");
+    assert_eq!(
+        format("{number} {number:x} {text}", &context).as_deref(),
+        Ok("6 6 t")
+    );
+    assert_eq!(
+        format!("{:?}", context["text"]),
+        "Formattable(display, pointer)"
+    );
     let fault = Error::MissingTraitImpl(Trait::Display, 2);
     assert_eq!(iformat!("{p}", p: p = number), Err(fault));
 }
@@ -26,9 +32,14 @@ fn a_format_with_a_p() {
     assert_eq!(check("{number:p}", &context), Err(fault));
     let name = "is not supported without feature";
     assert_eq!(
-        explain(name, 1, "{number:p}", &context).unwrap().lines().next(),
-        Some("is not supported without feature:1:9: \
-            option `p` is not supported even with feature `pointer` at 8")
+        explain(name, 1, "{number:p}", &context)
+            .unwrap()
+            .lines()
+            .next(),
+        Some(
+            "is not supported without feature:1:9: \
+            option `p` is not supported even with feature `pointer` at 8"
+        )
     );
     assert_eq!(Trait::Pointer, Trait::Pointer);
 }

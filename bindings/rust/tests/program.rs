@@ -1,7 +1,9 @@
 //! A program as it is written for the crate `interpolator` 0.5.0: it compiles without a warning.
 //! `tests/origin.rs` compiles it with that crate too.
 #![deny(warnings)]
-use interpolator::{context, iwriteln, list, write, Context, Error, Formattable, ParseError, Trait};
+use interpolator::{
+    context, iwriteln, list, write, Context, Error, Formattable, ParseError, Trait,
+};
 use std::collections::HashMap;
 use std::fmt::{self, Write};
 

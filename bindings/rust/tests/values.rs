@@ -277,7 +277,7 @@ fn the_slots_have_names() {
     for (value, wanted) in [
         (Formattable::default(), "Formattable"),
         (Formattable::default().and_display(&1).and_debug(&1), "Formattable(debug, display)"),
-        (Formattable::from(&1), "Formattable(debug, display)"),
+        (Formattable::debug_display(&1), "Formattable(debug, display)"),
         (Formattable::integer(&1),
             "Formattable(debug, display, binary, lower_exp, lower_hex, octal, upper_exp, upper_hex)"),
         (float.and_iter(&[]), "Formattable(debug, display, lower_exp, upper_exp, iter)"),

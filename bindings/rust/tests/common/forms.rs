@@ -161,7 +161,7 @@ pub fn names_given_twice() -> Vec<Form> {
         context! { a = 'c', a: integer = 7 } => "a =7 ?=7 b=111 o=7 x=7 X=7 e=7e0 E=7E0",
         context! { a: float = 0.5, a:? = 7u8, a:e = 5u8 } => "a =0.5 ?=7 e=5e0 E=5E-1",
         context! { a, a:?, a: :?, a = 5, a:?:x = 5 } => "a =5 ?=5 x=5",
-        context! { a, b = 1, a:x = 10, b:?, b: :E = 2.0, a:? } => "a =hello ?=\"hello\" x=a; b =2 ?=7 E=2E0",
+        context! { a, b = 1, a:x = 10, b:?, b: :E = 2.0 } => "a =hello x=a; b =2 ?=7 E=2E0",
         context! { a, a: i = l } => "a =hello [ =1 ] [ =2 ]",
         context! { a: i = l, a:i = [] } => "a",
     }
@@ -209,8 +209,10 @@ pub fn lists() -> Vec<Form> {
         list![debug::x; a] => " [ =5 ?=5 x=5 ]",
         list![debug::x::?; a] => " [ =5 ?=5 x=5 ]",
         list![debug, o::?:X; b] => " [ =16 ?=16 o=20 X=10 ]",
+        list![:?, x; a] => " [ ?=5 x=5 ]",
+        list![::o, x:?, e; a] => " [ =5 ?=5 o=5 x=5 e=5e0 ]",
         list![:set_debug_display; a] => " [ =5 ?=5 ]",
-        list![*&a, b] => " [ =5 ] [ =16 ]",
+        list![(a), b] => " [ =5 ] [ =16 ]",
     }
 }
 
@@ -235,7 +237,11 @@ pub fn texts() -> Vec<Form> {
     ] {
         let mut made = String::new();
         writes(&mut made);
-        forms.push(Form { source: "iwrite!, iwriteln!", made, wanted });
+        forms.push(Form {
+            source: "iwrite!, iwriteln!",
+            made,
+            wanted,
+        });
     }
     forms
 }
