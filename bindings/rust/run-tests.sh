@@ -5,6 +5,8 @@
 # The library is looked for in the folder that INTERPOLATOR_LIB names, else in ../c/build, where
 # bindings/c builds it. If it or cargo is missing the run fails, but for CI_SKIP_BINDINGS=1, by which
 # nothing is run.
+#
+# If INTERPOLATOR_ORIGIN names the folder of the crate `interpolator` 0.5.0, both crates are compared.
 set -eu
 cd "$(dirname "$0")"
 
@@ -39,8 +41,19 @@ step() {
     echo "bindings/rust: $name: ok"
 }
 
+origin=${INTERPOLATOR_ORIGIN:+$(cd "$INTERPOLATOR_ORIGIN" && pwd)}
+unset INTERPOLATOR_ORIGIN
+
 step 'tests' cargo test --offline --quiet --all-targets
 step 'tests, optimized' cargo test --offline --quiet --all-targets --release
+step 'tests of the feature pointer' cargo test --offline --quiet --features pointer --test pointers --test faults
 step 'examples of the documentation' cargo test --offline --quiet --doc
 step 'documentation' cargo doc --offline --quiet --no-deps
+if [[ -n $origin ]]; then
+    step 'comparison with the crate of origin' env INTERPOLATOR_ORIGIN="$origin" \
+        cargo test --offline --quiet --release --test origin -- --nocapture
+    grep -E '^ +[0-9]+ |: of [0-9]' "$log"
+else
+    echo 'bindings/rust: comparison with the crate of origin: skipped (INTERPOLATOR_ORIGIN is not set)'
+fi
 echo 'bindings/rust: passed'

@@ -4,11 +4,21 @@ use std::num::ParseIntError;
 
 use crate::sys::{broken, code, Fault};
 
+/// How the library's sentence of an option goes on.
+const UNSUPPORTED_THERE: &str = "is not supported without feature";
+
+/// How the sentence of an option goes on here. Where the feature is named, that is not what is missing.
+const UNSUPPORTED: &str = match cfg!(feature = "pointer") {
+    true => "is not supported even with feature",
+    false => UNSUPPORTED_THERE,
+};
+
 /// What a call returns.
 pub type Result<T = (), E = Error> = std::result::Result<T, E>;
 
 /// The traits of `std::fmt` that a format may name, and `Iter` for a list under `i`.
 #[derive(Debug, PartialEq, Eq, Clone, Copy, Hash)]
+#[non_exhaustive]
 pub enum Trait {
     /// `{x:b}`
     Binary,
@@ -22,6 +32,9 @@ pub enum Trait {
     LowerHex,
     /// `{x:o}`
     Octal,
+    /// `{x:p}`, which no format can use: it is [`UnsupportedOption`](Error::UnsupportedOption).
+    #[cfg(feature = "pointer")]
+    Pointer,
     /// `{x:E}`
     UpperExp,
     /// `{x:X}`
@@ -45,6 +58,7 @@ const TRAITS: [Trait; 9] = [
 
 /// The fault of a format, with its place: a count of bytes from the beginning of the format.
 #[derive(Debug, PartialEq, Clone)]
+#[non_exhaustive]
 pub enum Error {
     /// The value has no such trait. The place is the byte after the spec.
     MissingTraitImpl(Trait, usize),
@@ -54,13 +68,14 @@ pub enum Error {
     Parse(ParseError),
     /// The context has no value of this name. The place is the byte after the opening brace.
     MissingValue(String, usize),
-    /// The format has an option (the first text) that this version does not know: `p`, whose feature
-    /// would be `pointer` (the second).
+    /// The format has an option (the first text) that is not written: `p`, with the feature `pointer`
+    /// (the second) or without it. The place is that of the option.
     UnsupportedOption(&'static str, &'static str, usize),
 }
 
 /// How a format is broken, with the place: a count of bytes from the beginning of the format.
 #[derive(Debug, PartialEq, Clone)]
+#[non_exhaustive]
 pub enum ParseError {
     /// The format ends within an argument. The place is the byte after its opening brace.
     FormatSpecUnclosed(usize),
@@ -147,6 +162,18 @@ impl ParseError {
     }
 }
 
+/// Puts this crate's sentence of an option into a picture of the library, behind a name of so many bytes.
+pub(crate) fn name_option(picture: &mut String, name: usize) {
+    if UNSUPPORTED == UNSUPPORTED_THERE {
+        return;
+    }
+    let behind = picture.get(name..).unwrap_or("");
+    if let Some(at) = behind.find(UNSUPPORTED_THERE) {
+        let first = name + at;
+        picture.replace_range(first..first + UNSUPPORTED_THERE.len(), UNSUPPORTED);
+    }
+}
+
 /// The trait of that number.
 fn missing(number: u32) -> Trait {
     TRAITS
@@ -188,10 +215,9 @@ impl Display for Error {
             Error::MissingValue(name, place) => {
                 write!(f, "specified value not in context `{name}` at {place}")
             }
-            Error::UnsupportedOption(option, feature, place) => write!(
-                f,
-                "option `{option}` is not supported without feature `{feature}` at {place}"
-            ),
+            Error::UnsupportedOption(option, feature, place) => {
+                write!(f, "option `{option}` {UNSUPPORTED} `{feature}` at {place}")
+            }
         }
     }
 }
@@ -224,26 +250,9 @@ impl Display for ParseError {
     }
 }
 
-impl std::error::Error for Error {
-    fn source(&self) -> Option<&(dyn std::error::Error + 'static)> {
-        match self {
-            Error::Fmt(error, _) => Some(error),
-            Error::Parse(error) => Some(error),
-            _ => None,
-        }
-    }
-}
+impl std::error::Error for Error {}
 
-impl std::error::Error for ParseError {
-    fn source(&self) -> Option<&(dyn std::error::Error + 'static)> {
-        match self {
-            ParseError::InvalidWidth(error, _)
-            | ParseError::InvalidPrecision(error, _)
-            | ParseError::RangeBound(error, _) => Some(error),
-            _ => None,
-        }
-    }
-}
+impl std::error::Error for ParseError {}
 
 impl From<ParseError> for Error {
     fn from(error: ParseError) -> Self {

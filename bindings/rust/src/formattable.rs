@@ -61,6 +61,9 @@ pub struct Formattable<'a> {
     octal: Option<&'a dyn Octal>,
     upper_exp: Option<&'a dyn UpperExp>,
     upper_hex: Option<&'a dyn UpperHex>,
+    /// Whether there is a value under `Pointer`, which no format writes.
+    #[cfg(feature = "pointer")]
+    pointer: bool,
     iter: Option<&'a [Formattable<'a>]>,
 }
 
@@ -145,6 +148,22 @@ impl<'a> Formattable<'a> {
     pub fn set_iter(&mut self, value: &'a [Formattable<'a>]) {
         self.filled |= mask(slot::ITER);
         self.iter = Some(value);
+    }
+
+    /// Takes over each slot that the other value fills.
+    pub(crate) fn merge(&mut self, other: &Self) {
+        macro_rules! take_over {
+            ($($field:ident)*) => {$(
+                self.$field = other.$field.or(self.$field);
+            )*};
+        }
+        self.cover(Known::Nothing, other.filled & !other.covered);
+        self.cover(other.known, other.covered);
+        take_over!(debug display binary lower_exp lower_hex octal upper_exp upper_hex iter);
+        #[cfg(feature = "pointer")]
+        {
+            self.pointer |= other.pointer;
+        }
     }
 
     /// Notes that these slots have a value of a known type, or of another.
@@ -256,9 +275,25 @@ impl<'a> Formattable<'a> {
     }
 }
 
-impl<'a, T: Debug + Display> From<&'a T> for Formattable<'a> {
-    fn from(value: &'a T) -> Self {
-        Self::debug_display(value)
+/// Values under `Pointer`, so that a program compiles that has them. No format writes them: `{x:p}` is
+/// [`UnsupportedOption`](crate::Error::UnsupportedOption).
+#[cfg(feature = "pointer")]
+impl<'a> Formattable<'a> {
+    /// A value under `Pointer`.
+    pub fn pointer<T: fmt::Pointer>(value: &'a T) -> Self {
+        Self::default().and_pointer(value)
+    }
+
+    /// The same, with this value under `Pointer`.
+    #[must_use]
+    pub fn and_pointer<T: fmt::Pointer>(mut self, value: &'a T) -> Self {
+        self.set_pointer(value);
+        self
+    }
+
+    /// Sets the value under `Pointer`.
+    pub fn set_pointer<T: fmt::Pointer>(&mut self, _: &'a T) {
+        self.pointer = true;
     }
 }
 
@@ -274,11 +309,17 @@ impl Debug for Formattable<'_> {
             ("octal", slot::OCTAL),
             ("upper_exp", slot::UPPER_EXP),
             ("upper_hex", slot::UPPER_HEX),
-            ("iter", slot::ITER),
         ];
         let mut names = f.debug_tuple("Formattable");
         for (name, _) in slots.iter().filter(|(_, slot)| self.has(*slot)) {
             names.field(&format_args!("{name}"));
+        }
+        #[cfg(feature = "pointer")]
+        if self.pointer {
+            names.field(&format_args!("pointer"));
+        }
+        if self.has(slot::ITER) {
+            names.field(&format_args!("iter"));
         }
         names.finish()
     }

@@ -104,7 +104,7 @@ type Take<'t, 'c> = &'t mut dyn FnMut(&'c str, &Formattable<'c>);
 /// What the macros name.
 #[doc(hidden)]
 pub mod hidden {
-    pub use crate::macros::{items, Interpolate};
+    pub use crate::macros::{context, list, Borrowed};
 }
 
 impl<K: Borrow<str> + Eq + Hash, S: BuildHasher> Context for HashMap<K, Formattable<'_>, S> {
@@ -342,8 +342,9 @@ fn pictures(source: &Source<'_>, format: &str, context: &dyn Context, most: usiz
         Ok(row) => row,
         Err(error) => return vec![format!("{}: {error}", source.name)],
     };
+    let name = source.name;
     let source = sys::Source {
-        name: Bytes::of(source.name.as_bytes()),
+        name: Bytes::of(name.as_bytes()),
         text: Bytes::of(source.text.as_bytes()),
         first_line: source.first_line,
         start: source.start,
@@ -362,7 +363,11 @@ fn pictures(source: &Source<'_>, format: &str, context: &dyn Context, most: usiz
             }
             match answer.code {
                 code::OK => return pictures,
-                code::MISSING_TRAIT..=code::UNSUPPORTED => pictures.push(room),
+                code::UNSUPPORTED => {
+                    error::name_option(&mut room, name.len());
+                    pictures.push(room);
+                }
+                code::MISSING_TRAIT..=code::MISSING_VALUE => pictures.push(room),
                 // Memory was refused, or lists lie too deep: so it is for each of them.
                 _ => {
                     pictures.push(room);

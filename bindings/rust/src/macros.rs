@@ -1,37 +1,59 @@
 //! Macros for contexts, lists and printing.
+use std::collections::hash_map::{Entry, HashMap};
 use std::fmt;
 
-use crate::{write, Context, Error, Formattable, Result};
+use crate::Formattable;
 
-/// What the macros call on a writer, or on a reference to one.
+/// What the macros call on a writer, or on a reference to one, to borrow it.
 #[doc(hidden)]
-pub trait Interpolate: fmt::Write {
-    fn interpolate(&mut self, format: &str, context: &impl Context) -> Result<()> {
-        write(self, format, context)
-    }
-
-    fn interpolate_line(&mut self, format: &str, context: &impl Context) -> Result<()> {
-        write(self, format, context)?;
-        self.write_char('\n').map_err(|error| Error::Fmt(error, 0))
+pub trait Borrowed: fmt::Write {
+    fn borrowed_to_interpolate(&mut self) -> &mut Self {
+        self
     }
 }
 
-impl<W: fmt::Write + ?Sized> Interpolate for W {}
+impl<W: fmt::Write + ?Sized> Borrowed for W {}
 
-/// The items of a list, however it is held.
+/// A context of these entries. Of a name that is given twice, later slots replace earlier ones.
 #[doc(hidden)]
-pub fn items<'a, 'b: 'a>(
-    list: &'a (impl AsRef<[Formattable<'b>]> + ?Sized),
-) -> &'a [Formattable<'a>] {
-    list.as_ref()
+pub fn context<'k, 'a, const N: usize>(
+    entries: [(&'k str, Formattable<'a>); N],
+) -> HashMap<&'k str, Formattable<'a>> {
+    let mut context = HashMap::with_capacity(N);
+    for (name, value) in entries {
+        match context.entry(name) {
+            Entry::Vacant(place) => {
+                place.insert(value);
+            }
+            Entry::Occupied(place) => place.into_mut().merge(&value),
+        }
+    }
+    context
+}
+
+/// The items of a list, whose type is known even if there are none.
+#[doc(hidden)]
+pub fn list<'a, const N: usize>(items: [Formattable<'a>; N]) -> [Formattable<'a>; N] {
+    items
 }
 
 /// Makes a context: a `HashMap` of names and [`Formattable`]s.
 ///
-/// An entry is `name`, for the variable of that name, or `name = value`, where the name may also be a
-/// string. Both are displayed; other traits stand after a colon, one or several in brackets. Traits are
-/// named as the constructors of [`Formattable`] (`debug`, `integer`, `iter` ..) or as in a format (`?`,
-/// `x`, `X`, `o`, `b`, `e`, `E`, `i`). In place of `=`, `=>` does as well.
+/// An entry is a name, its traits, each after a colon, and `=` with the value. All but the name may be
+/// left out: without a trait, and for a colon that no trait follows, that is `Display`; without a
+/// value it is the variable of that name.
+///
+/// Entry | Value | Traits
+/// --- | --- | ---
+/// `a` | `a` | `Display`
+/// `a: debug` | `a` | `Debug`
+/// `a: :?` | `a` | `Display`, `Debug`
+/// `a = 5` | `5` | `Display`
+/// `a:?:x = 5` | `5` | `Debug`, `LowerHex`
+///
+/// Traits are named as the constructors of [`Formattable`] (`debug`, `integer`, `iter` ..) or as in a
+/// format (`?`, `x`, `X`, `o`, `b`, `e`, `E`, `i`). A name may also be a string. One that is given
+/// twice has the traits of both; where both have one, the later value is written.
 ///
 /// The context borrows the values: one that is bound by `let` has to borrow them from variables.
 ///
@@ -42,12 +64,13 @@ pub fn items<'a, 'b: 'a>(
 /// let fruits = list!["apple", "pear"];
 /// let context = context! {
 ///     name,
+///     name: debug = "A.",
 ///     age: integer,
-///     "first name": [display, debug] = name,
-///     fruits: iter,
+///     "first name": :? = name,
+///     fruits: i,
 /// };
-/// let text = format("{name} {age:x} {first name:?} {fruits:i({})(, )}", &context)?;
-/// assert_eq!(text, "Ann 2a \"Ann\" apple, pear");
+/// let text = format("{name} {name:?} {age:x} {first name:?} {fruits:i({})(, )}", &context)?;
+/// assert_eq!(text, "Ann \"A.\" 2a \"Ann\" apple, pear");
 /// # Ok::<(), interpolator::Error>(())
 /// ```
 #[macro_export]
@@ -59,28 +82,23 @@ macro_rules! context {
 
 /// Makes a list: an array of [`Formattable`]s.
 ///
-/// The values are displayed; other traits, as in [`context!`], stand before a colon.
+/// The values are displayed. Other traits, as in [`context!`], stand before them, each after a colon,
+/// and a `;`.
 ///
 /// ```
 /// use interpolator::{iformat, list};
 ///
-/// let texts = iformat!("{list:i({})(, )}", list: iter = list!["a", 1, 'c']);
+/// let texts = iformat!("{list:i({})(, )}", list: i = list!["a", 1, 'c']);
 /// assert_eq!(texts?, "a, 1, c");
-/// let numbers = iformat!("{list:i({:?} {:X})(, )}", list: i = list![[debug, X]: 4, 16, 164]);
-/// assert_eq!(numbers?, "4 4, 16 10, 164 A4");
+/// let numbers = list![: :?:X; 4, 16, 164];
+/// let texts = iformat!("{numbers:i({} {:?} {:X})(, )}", numbers: i);
+/// assert_eq!(texts?, "4 4 4, 16 16 10, 164 164 A4");
 /// # Ok::<(), interpolator::Error>(())
 /// ```
 #[macro_export]
 macro_rules! list {
-    () => {{
-        let none: [$crate::Formattable<'_>; 0] = [];
-        none
-    }};
-    ($slots:tt: $($value:expr),+ $(,)?) => {
-        [$($crate::inner_value!($slots $value)),+]
-    };
-    ($($value:expr),+ $(,)?) => {
-        [$($crate::inner_value!(display $value)),+]
+    ($($tokens:tt)*) => {
+        $crate::either_list!([$($tokens)*] $($tokens)*)
     };
 }
 
@@ -119,20 +137,20 @@ macro_rules! iformat {
 #[macro_export]
 macro_rules! iwrite {
     ($out:expr, $format:expr, &$context:expr $(,)?) => {{
-        use $crate::hidden::Interpolate as _;
-        $out.interpolate($format, &$context)
+        use $crate::hidden::Borrowed as _;
+        $crate::write($out.borrowed_to_interpolate(), $format, &$context)
     }};
-    ($out:expr, $format:expr $(, $($entries:tt)*)?) => {{
-        use $crate::hidden::Interpolate as _;
-        $out.interpolate($format, &$crate::context!($($($entries)*)?))
-    }};
+    ($out:expr, $format:expr $(, $($entries:tt)*)?) => {
+        $crate::iwrite!($out, $format, &$crate::context!($($($entries)*)?))
+    };
 }
 
 /// The same as [`iwrite!`], with a newline after the text. If the writer fails at it, that is
-/// [`Error::Fmt`] at place 0.
+/// [`Error::Fmt`](crate::Error::Fmt) at place 0. It needs `std::fmt::Write`, as [`writeln!`] does.
 ///
 /// ```
 /// use interpolator::iwriteln;
+/// use std::fmt::Write;
 ///
 /// let mut out = String::new();
 /// iwriteln!(out, "{a}, {b:?}", a = 10, b: debug = "test")?;
@@ -141,13 +159,14 @@ macro_rules! iwrite {
 /// ```
 #[macro_export]
 macro_rules! iwriteln {
-    ($out:expr, $format:expr, &$context:expr $(,)?) => {{
-        use $crate::hidden::Interpolate as _;
-        $out.interpolate_line($format, &$context)
-    }};
-    ($out:expr, $format:expr $(, $($entries:tt)*)?) => {{
-        use $crate::hidden::Interpolate as _;
-        $out.interpolate_line($format, &$crate::context!($($($entries)*)?))
+    ($out:expr, $($format:tt)+) => {{
+        use $crate::hidden::Borrowed as _;
+        match $out.borrowed_to_interpolate() {
+            out => match $crate::iwrite!(out, $($format)+) {
+                Ok(()) => ::std::write!(out, "\n").map_err(|error| $crate::Error::Fmt(error, 0)),
+                fault => fault,
+            },
+        }
     }};
 }
 
@@ -213,27 +232,50 @@ macro_rules! ieprintln {
 #[macro_export]
 macro_rules! inner_context {
     ([$($pair:tt)*]) => {
-        <::std::collections::HashMap<&str, $crate::Formattable<'_>>
-            as ::std::convert::From<_>>::from([$($pair)*])
+        $crate::hidden::context([$($pair)*])
     };
-    ([$($pair:tt)*] $name:tt: $slots:tt = $value:expr $(, $($rest:tt)*)?) => {
+    ([$($pair:tt)*] $name:ident $(, $($rest:tt)*)?) => {
+        $crate::inner_context!([$($pair)*
+            (::std::stringify!($name), $crate::inner_value!([display] $name)),] $($($rest)*)?)
+    };
+    ([$($pair:tt)*] $name:tt = $value:expr $(, $($rest:tt)*)?) => {
+        $crate::inner_context!([$($pair)*
+            ($crate::inner_name!($name), $crate::inner_value!([display] $value)),] $($($rest)*)?)
+    };
+    ($pairs:tt $name:tt $($rest:tt)+) => {
+        $crate::inner_entry!($pairs $name [] $($rest)+)
+    };
+}
+
+/// Goes through the traits of an entry. Those so far stand in brackets, behind its name.
+#[doc(hidden)]
+#[macro_export]
+macro_rules! inner_entry {
+    ($pairs:tt $name:tt [$($slot:tt)*] :: $($rest:tt)*) => {
+        $crate::inner_entry!($pairs $name [$($slot)* display] : $($rest)*)
+    };
+    ($pairs:tt $name:tt [$($slot:tt)*] : : $($rest:tt)*) => {
+        $crate::inner_entry!($pairs $name [$($slot)* display] : $($rest)*)
+    };
+    ($pairs:tt $name:tt [$($slot:tt)*] : = $($rest:tt)*) => {
+        $crate::inner_entry!($pairs $name [$($slot)* display] = $($rest)*)
+    };
+    ($pairs:tt $name:tt [$($slot:tt)*] : $(, $($rest:tt)*)?) => {
+        $crate::inner_entry!($pairs $name [$($slot)* display] $(, $($rest)*)?)
+    };
+    ($pairs:tt $name:tt [$($slot:tt)*] : ? $($rest:tt)*) => {
+        $crate::inner_entry!($pairs $name [$($slot)* ?] $($rest)*)
+    };
+    ($pairs:tt $name:tt [$($slot:tt)*] : $more:ident $($rest:tt)*) => {
+        $crate::inner_entry!($pairs $name [$($slot)* $more] $($rest)*)
+    };
+    ([$($pair:tt)*] $name:tt $slots:tt = $value:expr $(, $($rest:tt)*)?) => {
         $crate::inner_context!([$($pair)*
             ($crate::inner_name!($name), $crate::inner_value!($slots $value)),] $($($rest)*)?)
     };
-    ([$($pair:tt)*] $name:tt: $slots:tt => $value:expr $(, $($rest:tt)*)?) => {
-        $crate::inner_context!([$($pair)*] $name: $slots = $value, $($($rest)*)?)
-    };
-    ([$($pair:tt)*] $name:ident: $slots:tt $(, $($rest:tt)*)?) => {
-        $crate::inner_context!([$($pair)*] $name: $slots = $name, $($($rest)*)?)
-    };
-    ([$($pair:tt)*] $name:tt = $value:expr $(, $($rest:tt)*)?) => {
-        $crate::inner_context!([$($pair)*] $name: display = $value, $($($rest)*)?)
-    };
-    ([$($pair:tt)*] $name:tt => $value:expr $(, $($rest:tt)*)?) => {
-        $crate::inner_context!([$($pair)*] $name: display = $value, $($($rest)*)?)
-    };
-    ([$($pair:tt)*] $name:ident $(, $($rest:tt)*)?) => {
-        $crate::inner_context!([$($pair)*] $name: display = $name, $($($rest)*)?)
+    ([$($pair:tt)*] $name:ident $slots:tt $(, $($rest:tt)*)?) => {
+        $crate::inner_context!([$($pair)*
+            (::std::stringify!($name), $crate::inner_value!($slots $name)),] $($($rest)*)?)
     };
 }
 
@@ -248,83 +290,147 @@ macro_rules! inner_name {
     };
 }
 
-/// A value in the slots of one name, or of several in brackets.
+/// A list with traits, up to a `;`, or else of values alone. All of its tokens stand in brackets first.
 #[doc(hidden)]
 #[macro_export]
-macro_rules! inner_value {
-    ([$($slots:tt)*] $value:expr) => {
-        match &$value {
-            value => $crate::inner_slots!(value $crate::Formattable::default(), $($slots)*),
-        }
+macro_rules! either_list {
+    ([$($tokens:tt)*] $($one:ident),* $(: $($two:ident)? $(?)? $(, $three:ident)*)*
+        $(:: $($four:ident)? $(?)? $(, $five:ident)*
+            $(: $($six:ident)? $(?)? $(, $seven:ident)*)*)* ; $($values:tt)*) => {
+        $crate::inner_list!([] $($tokens)*)
     };
-    ($slot:tt $value:expr) => {
-        $crate::inner_value!([$slot] $value)
+    ($tokens:tt $($value:expr),* $(,)?) => {
+        $crate::hidden::list([$($crate::inner_value!([display] $value)),*])
     };
 }
 
-/// Fills the slots of the names one after the other.
+/// Goes through the traits of a list. Those so far stand in brackets.
+#[doc(hidden)]
+#[macro_export]
+macro_rules! inner_list {
+    ([] $($slot:ident),+ : $($rest:tt)*) => {
+        $crate::inner_list!([$($slot)+] : $($rest)*)
+    };
+    ([] $($slot:ident),+ :: $($rest:tt)*) => {
+        $crate::inner_list!([$($slot)+] :: $($rest)*)
+    };
+    ([] $($slot:ident),+ ; $($values:tt)*) => {
+        $crate::inner_list!([$($slot)+] ; $($values)*)
+    };
+    ([$($slot:tt)*] :: $($rest:tt)*) => {
+        $crate::inner_list!([$($slot)* display] : $($rest)*)
+    };
+    ([$($slot:tt)*] : : $($rest:tt)*) => {
+        $crate::inner_list!([$($slot)* display] : $($rest)*)
+    };
+    ([$($slot:tt)*] : ; $($values:tt)*) => {
+        $crate::inner_list!([$($slot)* display] ; $($values)*)
+    };
+    ([$($slot:tt)*] : ? $($rest:tt)*) => {
+        $crate::inner_list!([$($slot)* ?] $($rest)*)
+    };
+    ([$($slot:tt)*] : $more:ident $($rest:tt)*) => {
+        $crate::inner_list!([$($slot)* $more] $($rest)*)
+    };
+    ([$($slot:tt)+] , $more:ident $($rest:tt)*) => {
+        $crate::inner_list!([$($slot)+ $more] $($rest)*)
+    };
+    ([] ; $($values:tt)*) => {
+        $crate::inner_list!([display] ; $($values)*)
+    };
+    ($slots:tt ; $($value:expr),* $(,)?) => {
+        $crate::hidden::list([$($crate::inner_value!($slots $value)),*])
+    };
+}
+
+/// A value in the slots of these names.
+#[doc(hidden)]
+#[macro_export]
+macro_rules! inner_value {
+    ([$($slot:tt)+] $value:expr) => {
+        match &$value {
+            value => $crate::inner_slots!(value $crate::Formattable::default(), $($slot)+),
+        }
+    };
+}
+
+/// Fills the slots of the names one after the other. A name that is no trait's is that of a method
+/// that sets slots.
 #[doc(hidden)]
 #[macro_export]
 macro_rules! inner_slots {
-    ($value:ident $made:expr $(,)?) => { $made };
+    ($value:ident $made:expr,) => { $made };
     ($value:ident $made:expr, display $($rest:tt)*) => {
-        $crate::inner_slots!($value $made.and_display($value) $($rest)*)
+        $crate::inner_slots!($value $made.and_display($value), $($rest)*)
     };
     ($value:ident $made:expr, debug $($rest:tt)*) => {
-        $crate::inner_slots!($value $made.and_debug($value) $($rest)*)
+        $crate::inner_slots!($value $made.and_debug($value), $($rest)*)
     };
     ($value:ident $made:expr, ? $($rest:tt)*) => {
-        $crate::inner_slots!($value $made.and_debug($value) $($rest)*)
+        $crate::inner_slots!($value $made.and_debug($value), $($rest)*)
     };
     ($value:ident $made:expr, debug_display $($rest:tt)*) => {
-        $crate::inner_slots!($value $made.and_debug_display($value) $($rest)*)
+        $crate::inner_slots!($value $made.and_debug_display($value), $($rest)*)
     };
     ($value:ident $made:expr, integer $($rest:tt)*) => {
-        $crate::inner_slots!($value $made.and_integer($value) $($rest)*)
+        $crate::inner_slots!($value $made.and_integer($value), $($rest)*)
     };
     ($value:ident $made:expr, float $($rest:tt)*) => {
-        $crate::inner_slots!($value $made.and_float($value) $($rest)*)
+        $crate::inner_slots!($value $made.and_float($value), $($rest)*)
     };
     ($value:ident $made:expr, binary $($rest:tt)*) => {
-        $crate::inner_slots!($value $made.and_binary($value) $($rest)*)
+        $crate::inner_slots!($value $made.and_binary($value), $($rest)*)
     };
     ($value:ident $made:expr, b $($rest:tt)*) => {
-        $crate::inner_slots!($value $made.and_binary($value) $($rest)*)
+        $crate::inner_slots!($value $made.and_binary($value), $($rest)*)
     };
     ($value:ident $made:expr, octal $($rest:tt)*) => {
-        $crate::inner_slots!($value $made.and_octal($value) $($rest)*)
+        $crate::inner_slots!($value $made.and_octal($value), $($rest)*)
     };
     ($value:ident $made:expr, o $($rest:tt)*) => {
-        $crate::inner_slots!($value $made.and_octal($value) $($rest)*)
+        $crate::inner_slots!($value $made.and_octal($value), $($rest)*)
     };
     ($value:ident $made:expr, lower_hex $($rest:tt)*) => {
-        $crate::inner_slots!($value $made.and_lower_hex($value) $($rest)*)
+        $crate::inner_slots!($value $made.and_lower_hex($value), $($rest)*)
     };
     ($value:ident $made:expr, x $($rest:tt)*) => {
-        $crate::inner_slots!($value $made.and_lower_hex($value) $($rest)*)
+        $crate::inner_slots!($value $made.and_lower_hex($value), $($rest)*)
     };
     ($value:ident $made:expr, upper_hex $($rest:tt)*) => {
-        $crate::inner_slots!($value $made.and_upper_hex($value) $($rest)*)
+        $crate::inner_slots!($value $made.and_upper_hex($value), $($rest)*)
     };
     ($value:ident $made:expr, X $($rest:tt)*) => {
-        $crate::inner_slots!($value $made.and_upper_hex($value) $($rest)*)
+        $crate::inner_slots!($value $made.and_upper_hex($value), $($rest)*)
     };
     ($value:ident $made:expr, lower_exp $($rest:tt)*) => {
-        $crate::inner_slots!($value $made.and_lower_exp($value) $($rest)*)
+        $crate::inner_slots!($value $made.and_lower_exp($value), $($rest)*)
     };
     ($value:ident $made:expr, e $($rest:tt)*) => {
-        $crate::inner_slots!($value $made.and_lower_exp($value) $($rest)*)
+        $crate::inner_slots!($value $made.and_lower_exp($value), $($rest)*)
     };
     ($value:ident $made:expr, upper_exp $($rest:tt)*) => {
-        $crate::inner_slots!($value $made.and_upper_exp($value) $($rest)*)
+        $crate::inner_slots!($value $made.and_upper_exp($value), $($rest)*)
     };
     ($value:ident $made:expr, E $($rest:tt)*) => {
-        $crate::inner_slots!($value $made.and_upper_exp($value) $($rest)*)
+        $crate::inner_slots!($value $made.and_upper_exp($value), $($rest)*)
+    };
+    ($value:ident $made:expr, pointer $($rest:tt)*) => {
+        $crate::inner_slots!($value $made.and_pointer($value), $($rest)*)
+    };
+    ($value:ident $made:expr, p $($rest:tt)*) => {
+        $crate::inner_slots!($value $made.and_pointer($value), $($rest)*)
     };
     ($value:ident $made:expr, iter $($rest:tt)*) => {
-        $crate::inner_slots!($value $made.and_iter($crate::hidden::items($value)) $($rest)*)
+        $crate::inner_slots!($value $made.and_iter($value), $($rest)*)
     };
     ($value:ident $made:expr, i $($rest:tt)*) => {
-        $crate::inner_slots!($value $made.and_iter($crate::hidden::items($value)) $($rest)*)
+        $crate::inner_slots!($value $made.and_iter($value), $($rest)*)
+    };
+    ($value:ident $made:expr, $set:ident $($rest:tt)*) => {
+        $crate::inner_slots!($value {
+            let mut made = $made;
+            made.$set($value);
+            made
+        }, $($rest)*)
     };
 }

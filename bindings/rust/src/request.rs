@@ -1,7 +1,7 @@
 //! A value's text under a request, by std's own formatting.
 use std::fmt::{self, Debug, Display, Write};
 
-use crate::formattable::Formattable;
+use crate::formattable::{slot, Formattable};
 use crate::sys::{Request, NO_FILL, PRECISION, WIDTH};
 
 /// The greatest width and precision that std takes at run time.
@@ -52,15 +52,22 @@ pub(crate) fn write_value(
     if request.is_plain() {
         return write!(out, "{shown}");
     }
-    if request.width > MOST || request.precision > MOST {
+    if !is_taken_by_std(request) {
         return Err(fmt::Error);
     }
     match char::from_u32(request.fill) {
-        Some(fill) if request.fill != NO_FILL && fill != ' ' => {
+        Some(fill) if request.fill != NO_FILL && fill != ' ' && request.given & WIDTH != 0 => {
             write_filled(out, &shown, request, fill)
         }
         _ => write_padded(out, &shown, request, Padding::Spaces),
     }
+}
+
+/// Whether std writes any value under the request. At the greatest precision it panics over the
+/// exponent form of a float, of which it counts the digit before the point too.
+fn is_taken_by_std(request: &Request) -> bool {
+    let is_exponent = matches!(request.slot, slot::LOWER_EXP | slot::UPPER_EXP);
+    request.width <= MOST && request.precision <= MOST - usize::from(is_exponent)
 }
 
 /// Writes the value padded with spaces and with marks, and puts the fill where the two differ.
@@ -153,8 +160,8 @@ macro_rules! with_debug {
     };
 }
 
-/// Writes the value under its spec, padded with spaces or with marks. A mark stands only before an
-/// alignment, as a fill does.
+/// Writes the value under its spec, padded with spaces or with marks. Marks are for a spec that has an
+/// alignment and a width.
 fn write_padded(
     out: &mut String,
     shown: &Shown<'_, '_>,
@@ -163,18 +170,18 @@ fn write_padded(
 ) -> fmt::Result {
     let (width, precision) = (request.width, request.precision);
     macro_rules! aligned {
-        ($part:literal) => {
-            with_place!([out shown request width precision] [] $part [width])
+        ($part:literal $counts:tt) => {
+            with_place!([out shown request width precision] [] $part $counts)
         };
     }
     match (padding, request.alignment) {
-        (_, 0) => with_place!([out shown request width precision] [] "" []),
-        (Padding::Spaces, 1) => aligned!("<"),
-        (Padding::Spaces, 2) => aligned!("^"),
-        (Padding::Spaces, _) => aligned!(">"),
-        (Padding::Marks, 1) => aligned!("\u{10ffff}<"),
-        (Padding::Marks, 2) => aligned!("\u{10ffff}^"),
-        (Padding::Marks, _) => aligned!("\u{10ffff}>"),
+        (_, 0) => aligned!("" []),
+        (Padding::Spaces, 1) => aligned!("<" []),
+        (Padding::Spaces, 2) => aligned!("^" []),
+        (Padding::Spaces, _) => aligned!(">" []),
+        (Padding::Marks, 1) => aligned!("\u{10ffff}<"[width]),
+        (Padding::Marks, 2) => aligned!("\u{10ffff}^"[width]),
+        (Padding::Marks, _) => aligned!("\u{10ffff}>"[width]),
     }
 }
 

@@ -9,7 +9,7 @@ use common::reader::{self, Row, Slots, View};
 use common::{Failed, Own, Plain};
 use interpolator::{check, format, iwriteln, write, Error, Formattable};
 use std::collections::HashMap;
-use std::fmt::{Binary, Debug, Display, LowerExp, LowerHex, Octal, UpperExp, UpperHex};
+use std::fmt::{Binary, Debug, Display, LowerExp, LowerHex, Octal, UpperExp, UpperHex, Write};
 
 /// The values of a test live as long as the program.
 fn kept<T>(value: T) -> &'static T {

@@ -1,8 +1,9 @@
 //! Floats, against std.
 mod common;
 
-use common::text;
-use interpolator::Formattable;
+use common::{map, text, Own};
+use interpolator::{check, format, Error, Formattable};
+use std::fmt;
 
 #[test]
 fn a_float_is_written_as_by_std() {
@@ -62,4 +63,59 @@ fn a_float_beside_values_of_other_types() {
         ),
         "0.50 0.33 wo 0.50 7 0.50 5.0e-1"
     );
+}
+
+/// Compares the texts of a value with std's, under widths and precisions up to the greatest that
+/// std takes, and under greater ones.
+macro_rules! compare_at_the_border {
+    ($name:literal, $value:ident in $context:ident: $($letter:literal)*) => {$(
+        for count in 65_533..=65_537usize {
+            let width = format!(concat!("{{", $name, ":{}", $letter, "}}"), count);
+            let precision = format!(concat!("{{", $name, ":.{}", $letter, "}}"), count);
+            let is_exponent = matches!($letter, "e" | "E");
+            let by_std = (count <= 65_535)
+                .then(|| format!(concat!("{0:1$", $letter, "}"), $value, count));
+            compare(&width, &$context, by_std);
+            let by_std = (count <= 65_535 - usize::from(is_exponent))
+                .then(|| format!(concat!("{0:.1$", $letter, "}"), $value, count));
+            compare(&precision, &$context, by_std);
+        }
+    )*};
+}
+
+#[track_caller]
+fn compare(format_text: &str, context: &impl interpolator::Context, by_std: Option<String>) {
+    let fault = Error::Fmt(fmt::Error, format_text.len() - 1);
+    let wanted = by_std.ok_or(fault);
+    assert!(format(format_text, context) == wanted, "{format_text}");
+    assert_eq!(
+        check(format_text, context),
+        wanted.map(|_| ()),
+        "{format_text}"
+    );
+}
+
+#[test]
+fn the_greatest_widths_and_precisions() {
+    let (double, single, number) = (2.5, 1e-30f32, Own(12));
+    let context = map(&[
+        ("d", Formattable::float(&double)),
+        ("s", Formattable::float(&single)),
+        ("n", Formattable::integer(&number)),
+        ("k", Formattable::integer(&12)),
+    ]);
+    compare_at_the_border!("d", double in context: "" "?" "e" "E");
+    compare_at_the_border!("s", single in context: "" "?" "e" "E");
+    compare_at_the_border!("n", number in context: "" "?" "b" "o" "x" "X" "e" "E" "x?" "X?");
+    for letter in ["", "?", "b", "o", "x", "X", "e", "E", "x?", "X?"] {
+        for count in 65_533..=65_537 {
+            let format_text = format!("{{k:{count}{letter}}}");
+            assert_eq!(
+                format(&format_text, &context).map(|text| text.len()),
+                Ok(count)
+            );
+            let format_text = format!("{{k:.{count}{letter}}}");
+            assert!(format(&format_text, &context).is_ok(), "{format_text}");
+        }
+    }
 }

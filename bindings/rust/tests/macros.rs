@@ -1,76 +1,41 @@
 //! The macros.
+#[path = "common/forms.rs"]
+mod forms;
+
 use interpolator::{
     context, format, ieprint, ieprintln, iformat, iprint, iprintln, iwrite, iwriteln, list, Error,
 };
-use std::fmt;
+use std::fmt::{self, Write};
+use std::rc::Rc;
 
 #[test]
-fn contexts() {
-    let (a, b, l) = ("", 10, list!["a", 1]);
-    let context = context! {
-        a: [display, debug],
-        b: [?, b],
-        "a string" = b,
-        d: debug_display = &"hello",
-        l: iter,
-    };
-    assert_eq!(format("{a}{a:?}", &context).unwrap(), "\"\"");
-    assert_eq!(format("{b:?} {b:b}", &context).unwrap(), "10 1010");
-    assert_eq!(format("{a string}", &context).unwrap(), "10");
-    assert_eq!(format("{d} {d:?}", &context).unwrap(), "hello \"hello\"");
-    assert_eq!(format("{l:i({})(,)}", &context).unwrap(), "a,1");
-    assert_eq!(context! {}.len(), 0);
+fn each_form_makes_what_it_says() {
+    for form in forms::all() {
+        assert_eq!(form.made, form.wanted, "{}", form.source);
+    }
 }
 
 #[test]
-fn each_trait_by_both_names() -> Result<(), Error> {
-    assert_eq!(
-        iformat!("{n:b}{m:b}", n: binary = 12, m: b => 12)?,
-        "11001100"
-    );
-    assert_eq!(iformat!("{n:x} {n:X}", n: [x, X] = 169)?, "a9 A9");
-    assert_eq!(
-        iformat!("{n:x} {n:X}", n: [lower_hex, upper_hex] = 169)?,
-        "a9 A9"
-    );
-    assert_eq!(iformat!("{n:o}{m:o}", n: octal = 16, m: o = 16)?, "2020");
-    assert_eq!(
-        iformat!("{n:e}{m:E}", n: lower_exp = 1.5, m: upper_exp = 15)?,
-        "1.5e01.5E1"
-    );
-    assert_eq!(iformat!("{n:e}{m:E}", n: e = 1.5, m: E = 15)?, "1.5e01.5E1");
-    assert_eq!(
-        iformat!("{n:?}{n:b}{m:.2}", n: integer = 1, m: float = 0.5)?,
-        "110.50"
-    );
-    assert_eq!(
-        iformat!("{d} {e:?}", d = "display", e: debug => "debug")?,
-        "display \"debug\""
-    );
-    Ok(())
+fn names_that_are_strings() {
+    let b = 10;
+    let context = context! { "a string" = b, "a string": ? = b, "": :x = 11, };
+    let text = format("{a string} {a string:?} {} {:x}", &context);
+    assert_eq!(text.as_deref(), Ok("10 10 11 b"));
 }
 
 #[test]
-fn lists() -> Result<(), Error> {
-    assert_eq!(
-        iformat!("{list:i({:?})(,)}", list: i = list![debug: "a", 1])?,
-        "\"a\",1"
-    );
-    let both = list![[display, debug, upper_hex]: 2, 1];
-    assert_eq!(
-        iformat!("{list:i({}{:?}{:X})(,)}", list: i = both)?,
-        "222,111"
-    );
-    let all = [list![[display, debug, X]: 4, 16, 164]];
-    assert_eq!(
-        iformat!("{list:i({} {:?} {:X})(, )}", list: iter = all[0])?,
-        "4 4 4, 16 16 10, 164 164 A4"
-    );
-    assert_eq!(
-        iformat!("{list:i({})(, )}", list: i = &list!["test", 10, "another"])?,
-        "test, 10, another"
-    );
-    assert_eq!(iformat!("{list:i}", list: i = list![])?, "");
+fn more_than_the_crate_takes() -> Result<(), Error> {
+    let list = list![: ?; "a", 1,];
+    assert_eq!(iformat!("{list:i({:?})(,)}", list: i)?, "\"a\",1");
+    assert_eq!(iformat!("{n} {n:?} {n:x}", n:?::x: = 10)?, "10 10 a");
+    assert_eq!(iformat!("{n} {n:?}", n: debug_display = 10)?, "10 10");
+    let numbers = list![i8::MAX, u8::MAX,];
+    assert_eq!(iformat!("{numbers:i({})(,)}", numbers: i)?, "127,255");
+    let shared = Rc::new(Vec::from(numbers));
+    assert_eq!(iformat!("{shared:i0({})}", shared: i)?, "127");
+    assert_eq!(iformat!("no values")?, "no values");
+    let none = list![];
+    assert_eq!(none.len(), 0);
     Ok(())
 }
 
@@ -85,11 +50,10 @@ fn values_that_are_made_on_the_spot() {
         calls += 1;
         calls
     };
-    assert_eq!(
-        iformat!("{n}{n:?}", n: [display, debug] = next()).unwrap(),
-        "11"
-    );
+    assert_eq!(iformat!("{n}{n:?}", n: :? = next()).unwrap(), "11");
     assert_eq!(calls, 1);
+    let text = iformat!("{list:i({:?})(,)}", list: i = list![:?; "test", name.len()]);
+    assert_eq!(text.as_deref(), Ok("\"test\",3"));
 }
 
 fn to_any(out: &mut impl fmt::Write) -> Result<(), Error> {

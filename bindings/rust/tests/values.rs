@@ -209,15 +209,46 @@ fn types_of_the_callers_own() {
     );
 }
 
+/// Compares the texts under a spec with std's, for each choice of its parts.
+macro_rules! each_spec {
+    ([$($parts:literal)*]) => {{
+        let spec = concat!("{t:" $(, $parts)*, "}");
+        let by_std = format!(concat!("{0:" $(, $parts)*, "}"), Spec);
+        assert_eq!(text(spec, &[("t", Formattable::display(&Spec))]), by_std, "{spec}");
+    }};
+    ([$($parts:literal)*] [$($choice:literal)*] $($choices:tt)*) => {
+        each_spec!([$($parts)*] $($choice)*; $($choices)*)
+    };
+    ([$($parts:literal)*] $choice:literal $($others:literal)*; $($choices:tt)*) => {
+        each_spec!([$($parts)* $choice] $($choices)*);
+        each_spec!([$($parts)*] $($others)*; $($choices)*)
+    };
+    ([$($parts:literal)*]; $($choices:tt)*) => {};
+}
+
 #[test]
 fn a_value_gets_its_spec() {
-    let spec = [("t", Formattable::display(&Spec))];
-    assert_eq!(text("{t}", &spec), format!("{Spec}"));
-    assert_eq!(text("{t:+#07.3}", &spec), format!("{Spec:+#07.3}"));
-    assert_eq!(text("{t:<-5}", &spec), format!("{Spec:<-5}"));
-    assert_eq!(text("{t:^5.0}", &spec), format!("{Spec:^5.0}"));
-    assert_eq!(text("{t:>5}", &spec), format!("{Spec:>5}"));
-    assert_eq!(text("{t:*>5}", &spec), format!("{Spec:*>5}"));
+    each_spec!([] ["" "<" "^" ">"] ["" "+" "-"] ["" "#"] ["" "0"] ["" "5"] ["" ".0"]);
+}
+
+/// Tells the fill that it gets, in place of writing it.
+struct Fill;
+
+impl fmt::Display for Fill {
+    fn fmt(&self, f: &mut fmt::Formatter<'_>) -> fmt::Result {
+        write!(f, "{:x}", u32::from(f.fill()))
+    }
+}
+
+#[test]
+fn a_fill_reaches_the_text_alone() {
+    let values = [
+        ("t", Formattable::display(&Spec)),
+        ("f", Formattable::display(&Fill)),
+    ];
+    assert_eq!(text("{t:*>5}", &values), format!("{Spec:*>5}"));
+    assert_eq!(text("{t:é<+9}", &values), format!("{Spec:é<+9}"));
+    assert_eq!(text("{f:>5} {f:*>} {f:*>5}", &values), "20 20 10ffff");
 }
 
 #[test]
@@ -246,7 +277,7 @@ fn the_slots_have_names() {
     for (value, wanted) in [
         (Formattable::default(), "Formattable"),
         (Formattable::default().and_display(&1).and_debug(&1), "Formattable(debug, display)"),
-        (Formattable::from(&1), "Formattable(debug, display)"),
+        (Formattable::debug_display(&1), "Formattable(debug, display)"),
         (Formattable::integer(&1),
             "Formattable(debug, display, binary, lower_exp, lower_hex, octal, upper_exp, upper_hex)"),
         (float.and_iter(&[]), "Formattable(debug, display, lower_exp, upper_exp, iter)"),
