@@ -226,8 +226,8 @@ inline constexpr bool is_character =
 
 template <class Type>
 inline constexpr bool is_whole =
-    std::is_integral_v<
-        Type> && !std::is_same_v<Type, bool> && !is_character<Type> && sizeof(Type) <= 8;
+    std::is_integral_v<Type> && !std::is_same_v<Type, bool> && !is_character<Type>
+    && sizeof(Type) <= 8;
 
 template <class Type, class = void> inline constexpr bool is_range = false;
 template <class Type>
