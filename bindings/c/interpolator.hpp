@@ -2,10 +2,11 @@
 //
 // A format and named values go in; a std::string comes out, or an exception of the class `error`:
 //
-//   std::string text = interpolator::format("{name:>8}: {l:i({})(, )}", {{"name", "Ann"}, {"l", {1, 2}}});
+//   std::string text =
+//       interpolator::format("{name:>8}: {l:i({})(, )}", {{"name", "Ann"}, {"l", {1, 2}}});
 //
-// A `value` views a string literal or a std::string_view, which has to live until the last call with it; a
-// std::string it keeps. Nothing else has to be freed or kept.
+// A `value` views a string literal or a std::string_view, which has to live until the last call
+// with it; a std::string it keeps. Nothing else has to be freed or kept.
 #ifndef INTERPOLATOR_HPP
 #define INTERPOLATOR_HPP
 #include "interpolator.h"
@@ -34,8 +35,9 @@ namespace interpolator {
 // How an argument wants its value written: its trait, and its spec.
 using request = interpolator_request;
 
-// No printer is asked for a text under a greater width or precision, and no floating number has one: the
-// format then has the fault MISSING_TRAIT at that argument. The same limit is that of Rust's own formats.
+// No printer is asked for a text under a greater width or precision, and no floating number has
+// one: the format then has the fault MISSING_TRAIT at that argument. The same limit is that of
+// Rust's own formats.
 inline constexpr std::size_t most_width = 65535;
 
 // ---- Texts that a program makes
@@ -43,8 +45,9 @@ inline constexpr std::size_t most_width = 65535;
 // A text cut to the precision of a request, and padded to its width as a text is.
 inline std::string padded(std::string_view text, const request &asked);
 
-// A number without its sign, padded to the width of a request as a number is: with its sign, zeros or the
-// fill, at the right if no alignment is given. (The precision is for whoever made the digits.)
+// A number without its sign, padded to the width of a request as a number is: with its sign, zeros
+// or the fill, at the right if no alignment is given. (The precision is for whoever made the
+// digits.)
 inline std::string padded_number(bool negative, std::string_view digits, const request &asked);
 
 namespace detail {
@@ -80,7 +83,7 @@ inline std::string aligned(std::string_view text, const request &asked, std::uin
   return made;
 }
 
-}  // namespace detail
+} // namespace detail
 
 inline std::string padded(std::string_view text, const request &asked) {
   if (asked.given & INTERPOLATOR_PRECISION) {
@@ -111,7 +114,8 @@ inline constexpr std::size_t most_digits = 1100;
 inline std::string digits_with_exponent(double number, std::size_t precision) {
   char text[most_digits + 50];
   const auto end = std::to_chars(text, text + sizeof text, number, std::chars_format::scientific,
-                                 static_cast<int>(precision)).ptr;
+                                 static_cast<int>(precision))
+                       .ptr;
   std::string made(text, end);
   if (precision) made.erase(1, 1);
   return made;
@@ -128,13 +132,16 @@ inline bool is_in_the_middle(double number, const std::string &digits) {
   const std::string next = digits_with_exponent(number, digits.size());
   if (next[digits.size()] != '5' || next.compare(0, digits.size(), digits) != 0) return false;
   const std::string all = digits_with_exponent(number, most_digits);
-  return all[digits.size()] == '5' && all.find_first_not_of('0', digits.size() + 1) == most_digits + 1;
+  return all[digits.size()] == '5'
+         && all.find_first_not_of('0', digits.size() + 1) == most_digits + 1;
 }
 
-// Of a number that is finite and not negative. Of two that are equally near Rust takes the greater one.
+// Of a number that is finite and not negative. Of two that are equally near Rust takes the greater
+// one.
 template <class Number> shortest shortest_of(Number number) {
   char text[64];
-  const auto end = std::to_chars(text, text + sizeof text, number, std::chars_format::scientific).ptr;
+  const auto end =
+      std::to_chars(text, text + sizeof text, number, std::chars_format::scientific).ptr;
   shortest made;
   const char *at = text;
   for (; at != end && *at != 'e'; at++)
@@ -185,7 +192,8 @@ inline std::string exact(double number, std::size_t precision, bool exponent) {
 
 // The digits of a finite number that is not negative, for a request.
 template <class Number> std::string digits_of(Number number, const request &asked) {
-  const bool exponent = asked.slot == INTERPOLATOR_LOWER_EXP || asked.slot == INTERPOLATOR_UPPER_EXP;
+  const bool exponent =
+      asked.slot == INTERPOLATOR_LOWER_EXP || asked.slot == INTERPOLATOR_UPPER_EXP;
   if (asked.given & INTERPOLATOR_PRECISION)
     return exact(static_cast<double>(number), asked.precision, exponent);
   const shortest of = shortest_of(number);
@@ -195,9 +203,10 @@ template <class Number> std::string digits_of(Number number, const request &aske
 }
 
 // The text of a floating number for a request: under `{}`, `{:?}`, `{:e}` and `{:E}`.
-template <class Number> std::optional<std::string> floating_text(Number number, const request &asked) {
-  if (asked.slot != INTERPOLATOR_DISPLAY && asked.slot != INTERPOLATOR_DEBUG &&
-      asked.slot != INTERPOLATOR_LOWER_EXP && asked.slot != INTERPOLATOR_UPPER_EXP)
+template <class Number>
+std::optional<std::string> floating_text(Number number, const request &asked) {
+  if (asked.slot != INTERPOLATOR_DISPLAY && asked.slot != INTERPOLATOR_DEBUG
+      && asked.slot != INTERPOLATOR_LOWER_EXP && asked.slot != INTERPOLATOR_UPPER_EXP)
     return std::nullopt;
   if (std::isnan(number)) {
     request unsigned_one = asked;
@@ -206,28 +215,32 @@ template <class Number> std::optional<std::string> floating_text(Number number, 
   }
   if (std::isinf(number)) return padded_number(std::signbit(number), "inf", asked);
   std::string digits = digits_of(std::abs(number), asked);
-  if (asked.slot == INTERPOLATOR_UPPER_EXP)
-    std::replace(digits.begin(), digits.end(), 'e', 'E');
+  if (asked.slot == INTERPOLATOR_UPPER_EXP) std::replace(digits.begin(), digits.end(), 'e', 'E');
   return padded_number(std::signbit(number), digits, asked);
 }
 
-template <class Type> inline constexpr bool is_character =
-    std::is_same_v<Type, char> || std::is_same_v<Type, char16_t> || std::is_same_v<Type, char32_t> ||
-    std::is_same_v<Type, wchar_t>;
+template <class Type>
+inline constexpr bool is_character =
+    std::is_same_v<Type, char> || std::is_same_v<Type, char16_t>
+    || std::is_same_v<Type, char32_t> || std::is_same_v<Type, wchar_t>;
 
-template <class Type> inline constexpr bool is_whole =
-    std::is_integral_v<Type> && !std::is_same_v<Type, bool> && !is_character<Type> && sizeof(Type) <= 8;
+template <class Type>
+inline constexpr bool is_whole =
+    std::is_integral_v<Type> && !std::is_same_v<Type, bool> && !is_character<Type>
+    && sizeof(Type) <= 8;
 
 template <class Type, class = void> inline constexpr bool is_range = false;
-template <class Type> inline constexpr bool is_range<
-    Type, std::void_t<decltype(std::declval<const Type &>().begin()), decltype(std::declval<const Type &>().end())>> =
+template <class Type>
+inline constexpr bool is_range<Type, std::void_t<decltype(std::declval<const Type &>().begin()),
+                                                 decltype(std::declval<const Type &>().end())>> =
     !std::is_convertible_v<Type, std::string_view>;
 
-}  // namespace detail
+} // namespace detail
 
 // ---- Values
 
-// Makes the text of a value for a request. Without one the format has the fault MISSING_TRAIT there.
+// Makes the text of a value for a request. Without one the format has the fault MISSING_TRAIT
+// there.
 using printer = std::function<std::optional<std::string>(const request &)>;
 
 // A value: a text, a whole number, a truth value, a character, a floating number, a list, or what a
@@ -248,7 +261,8 @@ public:
 
   // A character. A `char` past ASCII is none: to write it is the fault FMT.
   template <class Character, std::enable_if_t<detail::is_character<Character>, long> = 0>
-  value(Character character) : kind_(INTERPOLATOR_CHARACTER), of_(whole{0, code_of(character), 0}) {}
+  value(Character character)
+      : kind_(INTERPOLATOR_CHARACTER), of_(whole{0, code_of(character), 0}) {}
 
   // A whole number of 8 to 64 bits.
   template <class Number, std::enable_if_t<detail::is_whole<Number>, short> = 0>
@@ -257,10 +271,11 @@ public:
 #ifdef __SIZEOF_INT128__
   __extension__ value(__int128 number)
       : kind_(INTERPOLATOR_SIGNED128),
-        of_(whole{static_cast<std::int64_t>(number >> 64), static_cast<std::uint64_t>(number), 0}) {}
+        of_(whole{static_cast<std::int64_t>(number >> 64), static_cast<std::uint64_t>(number), 0}) {
+  }
   __extension__ value(unsigned __int128 number)
-      : kind_(INTERPOLATOR_UNSIGNED128),
-        of_(whole{0, static_cast<std::uint64_t>(number), static_cast<std::uint64_t>(number >> 64)}) {}
+      : kind_(INTERPOLATOR_UNSIGNED128), of_(whole{0, static_cast<std::uint64_t>(number),
+                                                   static_cast<std::uint64_t>(number >> 64)}) {}
 #endif
 
   // A floating number, written as Rust writes it.
@@ -268,8 +283,9 @@ public:
   value(float number) : kind_(INTERPOLATOR_LENT), of_(number) {}
 
   // What a printer prints.
-  template <class Printer, std::enable_if_t<
-      std::is_invocable_r_v<std::optional<std::string>, const Printer &, const request &>, char> = 0>
+  template <class Printer, std::enable_if_t<std::is_invocable_r_v<std::optional<std::string>,
+                                                                  const Printer &, const request &>,
+                                            char> = 0>
   value(Printer print) : kind_(INTERPOLATOR_LENT), of_(printer(std::move(print))) {}
 
   // The items of a container.
@@ -305,7 +321,8 @@ public:
   }
   std::optional<std::string> printed(const request &asked) const {
     if (asked.width > most_width || asked.precision > most_width) return std::nullopt;
-    if (const auto *number = std::get_if<double>(&of_)) return detail::floating_text(*number, asked);
+    if (const auto *number = std::get_if<double>(&of_))
+      return detail::floating_text(*number, asked);
     if (const auto *number = std::get_if<float>(&of_)) return detail::floating_text(*number, asked);
     const auto *print = std::get_if<printer>(&of_);
     return print && *print ? (*print)(asked) : std::nullopt;
@@ -330,7 +347,8 @@ private:
 
   std::uint32_t kind_;
   std::uint32_t slots_ = 0;
-  std::variant<std::string_view, std::string, whole, double, float, printer, std::vector<value>> of_;
+  std::variant<std::string_view, std::string, whole, double, float, printer, std::vector<value>>
+      of_;
 };
 
 // A value under a name.
@@ -349,16 +367,16 @@ public:
       : std::runtime_error(sentence), code(answer.code), detail(answer.detail), place(answer.place),
         row(answer.row) {}
 
-  const std::uint32_t code;    // INTERPOLATOR_MISSING_TRAIT ..
-  const std::uint32_t detail;  // as interpolator.h says
-  const std::size_t place;     // the byte of the format, of the codes 1 to 5
-  const std::size_t row;       // of `rows`: how many rows come before it
+  const std::uint32_t code;   // INTERPOLATOR_MISSING_TRAIT ..
+  const std::uint32_t detail; // as interpolator.h says
+  const std::size_t place;    // the byte of the format, of the codes 1 to 5
+  const std::size_t row;      // of `rows`: how many rows come before it
 };
 
 // A text, or what is wrong.
 struct result {
   interpolator_answer answer;
-  std::string text;  // or the sentence of the fault
+  std::string text; // or the sentence of the fault
   explicit operator bool() const { return answer.code == INTERPOLATOR_OK; }
 };
 
@@ -379,7 +397,8 @@ template <class Call> result answered(Call call, std::size_t guess) {
   std::string room(guess, '\0');
   for (;;) {
     const interpolator_answer answer = call(room.data(), room.size());
-    const std::size_t length = answer.code == INTERPOLATOR_OK && !answer.message ? answer.length : answer.message;
+    const std::size_t length =
+        answer.code == INTERPOLATOR_OK && !answer.message ? answer.length : answer.message;
     const bool fits = length <= room.size();
     room.resize(length);
     if (!fits) continue;
@@ -420,7 +439,8 @@ inline request plain_display() {
 }
 
 inline std::vector<interpolator_argument> arguments_of(std::string_view format) {
-  std::vector<interpolator_argument> found(static_cast<std::size_t>(std::count(format.begin(), format.end(), '{')));
+  std::vector<interpolator_argument> found(
+      static_cast<std::size_t>(std::count(format.begin(), format.end(), '{')));
   const auto got = interpolator_arguments(format.data(), format.size(), found.data(), found.size());
   if (got.code == INTERPOLATOR_NO_MEMORY) throw error(got, sentence_of(got.code));
   // a format that is not UTF-8 has none, and its fault is that of the call
@@ -432,7 +452,7 @@ inline std::vector<interpolator_argument> arguments_of(std::string_view format) 
 class reading {
 public:
   explicit reading(std::string_view format) {
-    std::vector<std::pair<std::size_t, uses *>> around;  // item formats, each with its end
+    std::vector<std::pair<std::size_t, uses *>> around; // item formats, each with its end
     for (const auto &one : arguments_of(format)) {
       while (!around.empty() && one.name_first > around.back().first) around.pop_back();
       const auto name = format.substr(one.name_first, one.name_end - one.name_first);
@@ -472,7 +492,8 @@ public:
   // The cells of a table, which have no items.
   laid(const std::vector<const uses *> &columns, const std::vector<std::vector<value>> &rows) {
     for (const auto &row : rows)
-      for (std::size_t k = 0; k < row.size(); k++) add({}, row[k], k < columns.size() ? *columns[k] : unused());
+      for (std::size_t k = 0; k < row.size(); k++)
+        add({}, row[k], k < columns.size() ? *columns[k] : unused());
     lists_.clear();
   }
 
@@ -529,7 +550,8 @@ private:
   void lend(interpolator_field &made, const value &of, const uses &used) {
     std::vector<interpolator_lent> &lent = lent_.emplace_back();
     for (const auto &asked : used.requests)
-      if (auto text = of.printed(asked)) lent.push_back({asked, bytes_of(texts_.emplace_back(std::move(*text)))});
+      if (auto text = of.printed(asked))
+        lent.push_back({asked, bytes_of(texts_.emplace_back(std::move(*text)))});
     made.lent = lent.data();
     made.lent_count = lent.size();
   }
@@ -540,17 +562,19 @@ private:
   std::deque<std::string> texts_;
 };
 
-}  // namespace detail
+} // namespace detail
 
 // ---- Calls
 
 // The text of a format, or its fault.
 inline result try_format(std::string_view format, const fields &row) {
   const detail::laid of(format, row);
-  return detail::answered([&](char *room, std::size_t size) {
-    return interpolator_format(format.data(), format.size(), of.row(), of.count(), of.items(), of.item_count(),
-                               room, size);
-  }, format.size() + 128);
+  return detail::answered(
+      [&](char *room, std::size_t size) {
+        return interpolator_format(format.data(), format.size(), of.row(), of.count(), of.items(),
+                                   of.item_count(), room, size);
+      },
+      format.size() + 128);
 }
 
 // The text of a format; a fault is thrown as `error`.
@@ -558,21 +582,25 @@ inline std::string format(std::string_view format, const fields &row) {
   return detail::text_or_throw(try_format(format, row));
 }
 
-// Throws the first fault that a format has by itself or over a row of examples. If it returns, no row
-// that resembles the examples makes one.
+// Throws the first fault that a format has by itself or over a row of examples. If it returns, no
+// row that resembles the examples makes one.
 inline void check(std::string_view format, const fields &examples) {
   const detail::laid of(format, examples);
-  detail::text_or_throw(detail::answered([&](char *room, std::size_t size) {
-    return interpolator_check(format.data(), format.size(), of.row(), of.count(), of.items(), of.item_count(),
-                              room, size);
-  }, 128));
+  detail::text_or_throw(detail::answered(
+      [&](char *room, std::size_t size) {
+        return interpolator_check(format.data(), format.size(), of.row(), of.count(), of.items(),
+                                  of.item_count(), room, size);
+      },
+      128));
 }
 
 // Throws the first fault that a format has by itself, whatever the values are.
 inline void check_alone(std::string_view format) {
-  detail::text_or_throw(detail::answered([&](char *room, std::size_t size) {
-    return interpolator_check_alone(format.data(), format.size(), room, size);
-  }, 128));
+  detail::text_or_throw(detail::answered(
+      [&](char *room, std::size_t size) {
+        return interpolator_check_alone(format.data(), format.size(), room, size);
+      },
+      128));
 }
 
 // All faults that a format has by itself or over a row of examples.
@@ -580,8 +608,8 @@ inline std::vector<interpolator_fault> faults(std::string_view format, const fie
   const detail::laid of(format, examples);
   std::vector<interpolator_fault> found(8);
   for (;;) {
-    const auto got = interpolator_faults(format.data(), format.size(), of.row(), of.count(), of.items(),
-                                         of.item_count(), found.data(), found.size());
+    const auto got = interpolator_faults(format.data(), format.size(), of.row(), of.count(),
+                                         of.items(), of.item_count(), found.data(), found.size());
     if (got.code != INTERPOLATOR_OK) throw error(got, detail::sentence_of(got.code));
     const bool fits = got.length <= found.size();
     found.resize(got.length);
@@ -589,31 +617,35 @@ inline std::vector<interpolator_fault> faults(std::string_view format, const fie
   }
 }
 
-// Where a format is: in a text, such as a line of a file, which begins at this line of what has this name.
+// Where a format is: in a text, such as a line of a file, which begins at this line of what has
+// this name.
 struct source {
   std::string_view name;
   std::string_view text;
   std::size_t first_line = 1;
-  std::size_t start = 0;  // the byte of the text at which the format begins
+  std::size_t start = 0; // the byte of the text at which the format begins
 };
 
 // A fault as a compiler shows it, or nothing if there are no more than `which` faults.
-inline std::optional<std::string> explain(const source &where, std::string_view format, const fields &examples,
-                                          std::size_t which = 0) {
+inline std::optional<std::string> explain(const source &where, std::string_view format,
+                                          const fields &examples, std::size_t which = 0) {
   const detail::laid of(format, examples);
-  const interpolator_source from{
-      detail::bytes_of(where.name), detail::bytes_of(where.text), where.first_line, where.start};
-  result got = detail::answered([&](char *room, std::size_t size) {
-    return interpolator_explain(&from, format.data(), format.size(), of.row(), of.count(), of.items(),
-                                of.item_count(), which, room, size);
-  }, 256);
+  const interpolator_source from{detail::bytes_of(where.name), detail::bytes_of(where.text),
+                                 where.first_line, where.start};
+  result got = detail::answered(
+      [&](char *room, std::size_t size) {
+        return interpolator_explain(&from, format.data(), format.size(), of.row(), of.count(),
+                                    of.items(), of.item_count(), which, room, size);
+      },
+      256);
   if (got) return std::nullopt;
   if (got.answer.code > INTERPOLATOR_UNSUPPORTED) throw error(got.answer, got.text);
   return std::move(got.text);
 }
 
-// The text of a format for each row of a table: the columns have a name and an example each, and each row
-// has a cell for each column, none of which is a list. The format is read and prepared once.
+// The text of a format for each row of a table: the columns have a name and an example each, and
+// each row has a cell for each column, none of which is a list. The format is read and prepared
+// once.
 inline std::vector<std::string> rows(std::string_view format, const fields &columns,
                                      const std::vector<std::vector<value>> &cells) {
   const detail::laid heads(format, columns);
@@ -629,10 +661,12 @@ inline std::vector<std::string> rows(std::string_view format, const fields &colu
   }
   const detail::laid table(used, cells);
   std::vector<std::size_t> ends(cells.size());
-  const std::string text = detail::text_or_throw(detail::answered([&](char *room, std::size_t size) {
-    return interpolator_rows(format.data(), format.size(), heads.row(), heads.count(), table.row(),
-                             table.count(), ends.data(), ends.size(), room, size);
-  }, cells.size() * (format.size() + 16) + 128));
+  const std::string text = detail::text_or_throw(detail::answered(
+      [&](char *room, std::size_t size) {
+        return interpolator_rows(format.data(), format.size(), heads.row(), heads.count(),
+                                 table.row(), table.count(), ends.data(), ends.size(), room, size);
+      },
+      cells.size() * (format.size() + 16) + 128));
   std::vector<std::string> made;
   for (std::size_t k = 0; k < ends.size(); k++) {
     const std::size_t start = k ? ends[k - 1] : 0;
@@ -641,8 +675,8 @@ inline std::vector<std::string> rows(std::string_view format, const fields &colu
   return made;
 }
 
-// How much a format can write, over values whose texts have at most `text` characters and whose lists
-// have at most `items` items.
+// How much a format can write, over values whose texts have at most `text` characters and whose
+// lists have at most `items` items.
 inline interpolator_cost_answer cost(std::string_view format, std::size_t text, std::size_t items) {
   const auto got = interpolator_cost(format.data(), format.size(), text, items);
   if (got.code == INTERPOLATOR_OK) return got;
@@ -656,5 +690,5 @@ inline std::vector<interpolator_argument> arguments(std::string_view format) {
   return detail::arguments_of(format);
 }
 
-}  // namespace interpolator
+} // namespace interpolator
 #endif

@@ -1,13 +1,13 @@
-/* A catalogue of messages, one format a line of a file: each is checked when it is loaded, against an
- * example of the values that it will be used with. So a translation cannot fail later.
+/* A catalogue of messages, one format a line of a file: each is checked when it is loaded, against
+ * an example of the values that it will be used with. So a translation cannot fail later.
  *
  *   catalogue FILE NAME COUNT
  *
  * Who writes a file of messages is not trusted: a line may be of any length and of any bytes, and a
  * format that could write more than MOST characters (a width may be any number) is refused.
  *
- * The status is 0 if all messages were written, 1 if a line has a fault, and 2 if the file cannot be read,
- * the messages cannot be written, or there is no memory. */
+ * The status is 0 if all messages were written, 1 if a line has a fault, and 2 if the file cannot
+ * be read, the messages cannot be written, or there is no memory. */
 #include "interpolator.h"
 #include <stdio.h>
 #include <stdlib.h>
@@ -50,26 +50,30 @@ static void row(interpolator_field *fields, const char *name, int count) {
 }
 
 /* Whether a line has no fault over the example: the first one is shown. */
-static int holds(const interpolator_source *source, const interpolator_field *example, buffer *room) {
+static int holds(const interpolator_source *source, const interpolator_field *example,
+                 buffer *room) {
   for (;;) {
-    interpolator_answer got =
-        interpolator_explain(source, source->text.at, source->text.length, example, 2, NULL, 0, 0, room->at, room->size);
+    interpolator_answer got = interpolator_explain(source, source->text.at, source->text.length,
+                                                   example, 2, NULL, 0, 0, room->at, room->size);
     if (got.code == INTERPOLATOR_OK) return 1;
     if (got.code == INTERPOLATOR_NO_MEMORY) no_memory();
     if (got.message > room->size) {
       enlarge(room, got.message);
       continue;
     }
-    if (got.message == 0) fprintf(stderr, "%s:%lu: not UTF-8", source->name.at, (unsigned long)source->first_line);
+    if (got.message == 0)
+      fprintf(stderr, "%s:%lu: not UTF-8", source->name.at, (unsigned long)source->first_line);
     fwrite(room->at, 1, got.message, stderr);
     putc('\n', stderr);
     return 0;
   }
 }
 
-/* Whether a line writes no more than MOST characters, of texts that are not longer than `longest`. */
+/* Whether a line writes no more than MOST characters, of texts that are not longer than `longest`.
+ */
 static int is_short(const interpolator_source *source, size_t longest) {
-  interpolator_cost_answer cost = interpolator_cost(source->text.at, source->text.length, longest, 0);
+  interpolator_cost_answer cost =
+      interpolator_cost(source->text.at, source->text.length, longest, 0);
   if (cost.code == INTERPOLATOR_NO_MEMORY) no_memory();
   if (cost.characters <= MOST) return 1;
   fprintf(stderr, "%s:%lu: it could write more than %d characters\n", source->name.at,
@@ -78,10 +82,11 @@ static int is_short(const interpolator_source *source, size_t longest) {
 }
 
 /* Writes a message that was checked. */
-static int write_message(const interpolator_source *source, const interpolator_field *fields, buffer *room) {
+static int write_message(const interpolator_source *source, const interpolator_field *fields,
+                         buffer *room) {
   for (;;) {
-    interpolator_answer got =
-        interpolator_format(source->text.at, source->text.length, fields, 2, NULL, 0, room->at, room->size);
+    interpolator_answer got = interpolator_format(source->text.at, source->text.length, fields, 2,
+                                                  NULL, 0, room->at, room->size);
     size_t length = got.code == INTERPOLATOR_OK ? got.length : got.message;
     if (got.code == INTERPOLATOR_NO_MEMORY) no_memory();
     if (length > room->size) {

@@ -1,5 +1,5 @@
-/* Each call with formats, texts, kinds, ranges and rooms by chance, whose memory is no longer than what is
- * said: nothing else is read or written, and the answers are what the header says.
+/* Each call with formats, texts, kinds, ranges and rooms by chance, whose memory is no longer than
+ * what is said: nothing else is read or written, and the answers are what the header says.
  *
  *   bytes COUNT */
 #include "interpolator.h"
@@ -30,9 +30,20 @@ static char *copied(const char *from, size_t length) {
   return at;
 }
 
-static const char *const parts[] = {"{", "}", "{a", "{b:", "{}", "}}", "{{", ":i", "({", "})", "#(", ")#", "(,)", ">",
-                                    "<", "^", "+", "-", "#", "0", "7", "12", ".", ".3", "?", "x", "X?", "e", "E", "b", "o",
-                                    "p", "a", "b", "c", " ", "..", "\xC3\xA9", "\xF0\x9F\x98\x80", "\xff", "\xC3", "\n"};
+static const char *const parts[] = {"{",    "}",        "{a",
+                                    "{b:",  "{}",       "}}",
+                                    "{{",   ":i",       "({",
+                                    "})",   "#(",       ")#",
+                                    "(,)",  ">",        "<",
+                                    "^",    "+",        "-",
+                                    "#",    "0",        "7",
+                                    "12",   ".",        ".3",
+                                    "?",    "x",        "X?",
+                                    "e",    "E",        "b",
+                                    "o",    "p",        "a",
+                                    "b",    "c",        " ",
+                                    "..",   "\xC3\xA9", "\xF0\x9F\x98\x80",
+                                    "\xff", "\xC3",     "\n"};
 
 static interpolator_bytes text_of(size_t longest) {
   char text[4 * LONGEST];
@@ -158,7 +169,9 @@ static void checks(void) {
   count = got.length;
   if (got.code == INTERPOLATOR_OK) {
     WANT((count == 0) == (first.code == INTERPOLATOR_OK));
-    if (count) WANT(all[0].code == first.code && all[0].place == first.place && all[0].detail == first.detail);
+    if (count)
+      WANT(all[0].code == first.code && all[0].place == first.place
+           && all[0].detail == first.detail);
   }
   around = text_of(20);
   source.name = interpolator_string("a name");
@@ -184,7 +197,8 @@ static void others(void) {
   if (got.code == INTERPOLATOR_OK && count) WANT(ends[count - 1] == got.length);
   got = interpolator_arguments(FORMAT, arguments, 2);
   for (k = 0; k < got.length && k < 2; k++)
-    WANT(arguments[k].name_first <= arguments[k].name_end && arguments[k].name_end <= now.format.length);
+    WANT(arguments[k].name_first <= arguments[k].name_end
+         && arguments[k].name_end <= now.format.length);
   WANT(interpolator_cost(FORMAT, below(9), below(4)).code <= INTERPOLATOR_NOT_UTF8);
   free(arguments);
   free(ends);

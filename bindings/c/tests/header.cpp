@@ -1,4 +1,5 @@
-// The header for C++17: values of each kind, lists, floating numbers as Rust writes them, faults, tables.
+// The header for C++17: values of each kind, lists, floating numbers as Rust writes them, faults,
+// tables.
 #include "interpolator.hpp"
 
 #include <cstdio>
@@ -26,7 +27,8 @@ static void want_text(int line, std::string_view wanted, const result &got) {
 }
 
 static void want_fault(int line, std::uint32_t code, std::size_t place, const result &got) {
-  want_at(line, got.answer.code == code && got.answer.place == place && !got.text.empty(), got.text);
+  want_at(line, got.answer.code == code && got.answer.place == place && !got.text.empty(),
+          got.text);
 }
 
 static std::string made(const char *text) { return text; }
@@ -38,7 +40,8 @@ static void values() {
   TEXT("a text that is made and is kept", "{t}", {{"t", made("a text that is made and is kept")}});
   TEXT("view", "{t}", {{"t", std::string_view("viewed", 4)}});
   TEXT("true false", "{a} {b}", {{"a", true}, {"b", false}});
-  TEXT("'x' \xC3\xA9 \xF0\x9F\x98\x80", "{a:?} {b} {c}", {{"a", 'x'}, {"b", u'\u00e9'}, {"c", U'\U0001F600'}});
+  TEXT("'x' \xC3\xA9 \xF0\x9F\x98\x80", "{a:?} {b} {c}",
+       {{"a", 'x'}, {"b", u'\u00e9'}, {"c", U'\U0001F600'}});
   FAULT(INTERPOLATOR_FMT, 2, "{a}", {{"a", '\xE9'}});
   TEXT("ff fe fffd fffffffc", "{a:x} {b:x} {c:x} {d:x}",
        {{"a", std::uint8_t(255)}, {"b", std::int8_t(-2)}, {"c", short(-3)}, {"d", -4}});
@@ -90,13 +93,16 @@ static void floating_numbers() {
       {1.0, "1|1.0|1e0|1|1.000E0|+00001.0|***1.0***|    1.0|1     |"},
       {3.14159, "3.14159|3.14159|3.14159e0|3|3.142E0|+00003.1|***3.1***|    3.1|3     |"},
       {-2.5, "-2.5|-2.5|-2.5e0|-2|-2.500E0|-00002.5|**-2.5***|   -2.5|-2    |"},
-      {1e21, "1000000000000000000000|1e21|1e21|1000000000000000000000|1.000E21|+1000000000000000000000.0|"
-             "1000000000000000000000.0|1000000000000000000000.0|1000000000000000000000|"},
-      {1e15, "1000000000000000|1000000000000000.0|1e15|1000000000000000|1.000E15|+1000000000000000.0|"
-             "1000000000000000.0|1000000000000000.0|1000000000000000|"},
+      {1e21,
+       "1000000000000000000000|1e21|1e21|1000000000000000000000|1.000E21|+1000000000000000000000.0|"
+       "1000000000000000000000.0|1000000000000000000000.0|1000000000000000000000|"},
+      {1e15,
+       "1000000000000000|1000000000000000.0|1e15|1000000000000000|1.000E15|+1000000000000000.0|"
+       "1000000000000000.0|1000000000000000.0|1000000000000000|"},
       {1e16, "10000000000000000|1e16|1e16|10000000000000000|1.000E16|+10000000000000000.0|"
              "10000000000000000.0|10000000000000000.0|10000000000000000|"},
-      {1e23, "100000000000000000000000|1e23|1e23|99999999999999991611392|1.000E23|+99999999999999991611392.0|"
+      {1e23, "100000000000000000000000|1e23|1e23|99999999999999991611392|1.000E23|+"
+             "99999999999999991611392.0|"
              "99999999999999991611392.0|99999999999999991611392.0|99999999999999991611392|"},
       {1e-5, "0.00001|1e-5|1e-5|0|1.000E-5|+00000.0|***0.0***|    0.0|0     |"},
       {1.5e-5, "0.000015|1.5e-5|1.5e-5|0|1.500E-5|+00000.0|***0.0***|    0.0|0     |"},
@@ -127,15 +133,21 @@ static void floating_numbers() {
 }
 
 static void printers() {
-  const auto shout = [](const request &asked) { return std::optional<std::string>(padded("\xC3\xA9h!", asked)); };
+  const auto shout = [](const request &asked) {
+    return std::optional<std::string>(padded("\xC3\xA9h!", asked));
+  };
   TEXT("\xC3\xA9h!|..\xC3\xA9h!..|\xC3\xA9h!\xE2\x86\x92|\xC3\xA9h",
        "{s}|{s:.^7}|{s:\xE2\x86\x92<4}|{s:.2}", {{"s", shout}});
-  const auto number = [](const request &asked) { return std::optional<std::string>(padded_number(true, "12", asked)); };
+  const auto number = [](const request &asked) {
+    return std::optional<std::string>(padded_number(true, "12", asked));
+  };
   TEXT("-12|  -12|-0012|-12  |-0012", "{n}|{n:5}|{n:05}|{n:<5}|{n:*^05}", {{"n", number}});
   const auto none = [](const request &) { return std::optional<std::string>(); };
   FAULT(INTERPOLATOR_MISSING_TRAIT, 2, "{n}", {{"n", none}});
   int asked = 0;
-  const auto counted = [&asked](const request &) { return ++asked, std::optional<std::string>("x"); };
+  const auto counted = [&asked](const request &) {
+    return ++asked, std::optional<std::string>("x");
+  };
   TEXT("", "{l:i(x)}", {{"l", {}}, {"unused", counted}});
   TEXT("xx", "{c}{c:?}", {{"c", counted}});
   WANT(asked == 2);

@@ -1,6 +1,7 @@
-/* The quick way through a call: exact texts, numbers, truth values and floats, and what Python prints, are
- * laid out here, and lists and tables of them. Whatever else there is, and each fault, is left to the
- * modules beside this one: then a function returns None, and they do the same call from the start.
+/* The quick way through a call: exact texts, numbers, truth values and floats, and what Python
+ * prints, are laid out here, and lists and tables of them. Whatever else there is, and each fault,
+ * is left to the modules beside this one: then a function returns None, and they do the same call
+ * from the start.
  *
  * The calls of the library are given by their addresses, so that there is one library, which
  * _library.py has found. */
@@ -14,11 +15,11 @@
 
 /* ---- What the module knows: the library's calls, and some objects of the modules beside it */
 
-typedef interpolator_answer (*format_call)(
-    const char *, size_t, const interpolator_field *, size_t, const interpolator_field *, size_t, char *, size_t);
-typedef interpolator_answer (*rows_call)(
-    const char *, size_t, const interpolator_field *, size_t, const interpolator_field *, size_t, size_t *, size_t,
-    char *, size_t);
+typedef interpolator_answer (*format_call)(const char *, size_t, const interpolator_field *, size_t,
+                                           const interpolator_field *, size_t, char *, size_t);
+typedef interpolator_answer (*rows_call)(const char *, size_t, const interpolator_field *, size_t,
+                                         const interpolator_field *, size_t, size_t *, size_t,
+                                         char *, size_t);
 
 static format_call library_format;
 static rows_call library_rows;
@@ -31,7 +32,8 @@ static PyObject *decimal;
 
 /* ---- How a format uses a value */
 
-/* A request, as the library and as Python have it, and the spec by which a float has the same text. */
+/* A request, as the library and as Python have it, and the spec by which a float has the same text.
+ */
 typedef struct {
   interpolator_request asked;
   PyObject *request;
@@ -72,7 +74,8 @@ static int read_wanted(uses *to, PyObject *from) {
     Py_ssize_t length;
     if (!one || !PyArg_ParseTuple(one, "OOO", &bytes, &request, &spec)) return -1;
     if (PyBytes_AsStringAndSize(bytes, &at, &length) < 0) return -1;
-    if ((size_t)length != sizeof to->all[k].asked) return PyErr_SetString(PyExc_ValueError, "no request"), -1;
+    if ((size_t)length != sizeof to->all[k].asked)
+      return PyErr_SetString(PyExc_ValueError, "no request"), -1;
     memcpy(&to->all[k].asked, at, sizeof to->all[k].asked);
     Py_INCREF(request);
     to->all[k].request = request;
@@ -207,8 +210,9 @@ static PyObject *printed(laid *to, PyObject *value, const wanted *one) {
                 || ((PyObject *)Py_TYPE(value) == decimal && one->asked.slot != INTERPOLATOR_DEBUG);
   PyObject *text = by_spec ? PyObject_Format(value, one->spec)
                            : PyObject_CallFunctionObjArgs(text_for, value, one->request, NULL);
-  if (!text && (PyErr_ExceptionMatches(PyExc_ValueError) || PyErr_ExceptionMatches(PyExc_TypeError)
-                || PyErr_ExceptionMatches(PyExc_ArithmeticError))) {
+  if (!text
+      && (PyErr_ExceptionMatches(PyExc_ValueError) || PyErr_ExceptionMatches(PyExc_TypeError)
+          || PyErr_ExceptionMatches(PyExc_ArithmeticError))) {
     PyErr_Clear(); /* the fault is found and told by the other modules */
     return give_up(to), NULL;
   }
@@ -239,9 +243,11 @@ static int lay_printed(laid *to, interpolator_field *field, PyObject *value, con
   return 0;
 }
 
-/* Whether the value is of a type, or of one derived from it, that the other modules know more of. */
+/* Whether the value is of a type, or of one derived from it, that the other modules know more of.
+ */
 static int is_left_out(PyObject *value) {
-  if (PyUnicode_Check(value) || PyLong_Check(value) || PyList_Check(value) || PyTuple_Check(value)) return 1;
+  if (PyUnicode_Check(value) || PyLong_Check(value) || PyList_Check(value) || PyTuple_Check(value))
+    return 1;
   return PyObject_IsInstance(value, left_out);
 }
 
@@ -264,7 +270,8 @@ static int lay(laid *to, array *in, PyObject *value, const uses *of) {
     list *next;
     /* one that is printed as a whole, or is a cell, is rare */
     if (of->count || !of->items) return give_up(to);
-    if (!has_place((void **)&to->lists, to->list_count, &to->list_room, sizeof *to->lists)) return -1;
+    if (!has_place((void **)&to->lists, to->list_count, &to->list_room, sizeof *to->lists))
+      return -1;
     next = &to->lists[to->list_count++];
     next->field = in->count - 1;
     next->items = value;
@@ -286,7 +293,8 @@ static int lay_items(laid *to, const list *of) {
     PyObject *item = is_list ? PyList_GetItem(of->items, k) : PyTuple_GetItem(of->items, k);
     if (!item) return -1;
     Py_INCREF(item);
-    if (hold(to, item) < 0 || !next_field(&to->items) || lay(to, &to->items, item, of->of) < 0) return -1;
+    if (hold(to, item) < 0 || !next_field(&to->items) || lay(to, &to->items, item, of->of) < 0)
+      return -1;
   }
   return 0;
 }
@@ -313,11 +321,10 @@ static int lay_lists(laid *to) {
 
 /* A format with its names, and how it uses each. */
 typedef struct {
-  PyObject_HEAD
-  PyObject *format; /* bytes */
-  PyObject *names;  /* a tuple of texts */
-  uses *used;       /* of each name */
-  Py_ssize_t count; /* of those that were read */
+  PyObject_HEAD PyObject *format; /* bytes */
+  PyObject *names;                /* a tuple of texts */
+  uses *used;                     /* of each name */
+  Py_ssize_t count;               /* of those that were read */
 } plan;
 
 static void plan_dealloc(PyObject *self) {
@@ -339,9 +346,11 @@ static PyObject *plan_new(PyTypeObject *type, PyObject *words, PyObject *named) 
   allocfunc make = (allocfunc)PyType_GetSlot(type, Py_tp_alloc);
   plan *of;
   (void)named;
-  if (!PyArg_ParseTuple(words, "SO!O!", &format, &PyTuple_Type, &names, &PyTuple_Type, &used)) return NULL;
+  if (!PyArg_ParseTuple(words, "SO!O!", &format, &PyTuple_Type, &names, &PyTuple_Type, &used))
+    return NULL;
   count = PyTuple_Size(names);
-  if (PyTuple_Size(used) != count) return PyErr_SetString(PyExc_ValueError, "a name has no uses"), NULL;
+  if (PyTuple_Size(used) != count)
+    return PyErr_SetString(PyExc_ValueError, "a name has no uses"), NULL;
   of = (plan *)make(type, 0);
   if (!of) return NULL;
   Py_INCREF(format);
@@ -376,7 +385,8 @@ static int lay_row(laid *to, const plan *of, PyObject *values) {
     interpolator_field *field;
     if (!value) return PyErr_Occurred() ? -1 : give_up(to);
     Py_INCREF(value);
-    if (hold(to, value) < 0 || !(field = next_field(&to->fields)) || bytes_of(to, name, &field->name) < 0)
+    if (hold(to, value) < 0 || !(field = next_field(&to->fields))
+        || bytes_of(to, name, &field->name) < 0)
       return -1;
     if (lay(to, &to->fields, value, &of->used[k]) < 0) return -1;
   }
@@ -393,11 +403,10 @@ static PyObject *format_laid(const plan *of, const laid *row) {
   if (PyBytes_AsStringAndSize(of->format, &format, &length) < 0) return NULL;
   for (;;) {
     interpolator_answer got;
-    Py_BEGIN_ALLOW_THREADS
-    got = library_format(format, (size_t)length, row->fields.at, row->fields.count, row->items.at, row->items.count,
-                         room, size);
-    Py_END_ALLOW_THREADS
-    if (got.code != INTERPOLATOR_OK) {
+    Py_BEGIN_ALLOW_THREADS got =
+        library_format(format, (size_t)length, row->fields.at, row->fields.count, row->items.at,
+                       row->items.count, room, size);
+    Py_END_ALLOW_THREADS if (got.code != INTERPOLATOR_OK) {
       Py_INCREF(Py_None);
       made = Py_None;
       break;
@@ -421,15 +430,16 @@ static PyObject *plan_format(PyObject *self, PyObject *values) {
   PyObject *made;
   memset(&row, 0, sizeof row);
   if (!PyDict_Check(values)) return PyErr_SetString(PyExc_TypeError, "no dict"), NULL;
-  made = lay_row(&row, (plan *)self, values) < 0 ? unfinished(&row) : format_laid((plan *)self, &row);
+  made =
+      lay_row(&row, (plan *)self, values) < 0 ? unfinished(&row) : format_laid((plan *)self, &row);
   free_laid(&row);
   return made;
 }
 
 /* ---- Tables */
 
-/* The cell of a row under a column, borrowed; null, without an exception, if the row is no exact tuple,
- * list or dict, or has none. */
+/* The cell of a row under a column, borrowed; null, without an exception, if the row is no exact
+ * tuple, list or dict, or has none. */
 static PyObject *cell_of(PyObject *row, Py_ssize_t column, PyObject *names) {
   if (PyTuple_CheckExact(row)) return PyTuple_GetItem(row, column);
   if (PyList_CheckExact(row)) return PyList_GetItem(row, column);
@@ -452,7 +462,8 @@ static int lay_cells(laid *to, const plan *of, PyObject *rows, Py_ssize_t count)
       PyObject *cell = cell_of(row, column, of->names);
       if (!cell) return PyErr_Occurred() ? -1 : give_up(to);
       Py_INCREF(cell);
-      if (hold(to, cell) < 0 || !next_field(&to->fields) || lay(to, &to->fields, cell, &of->used[column]) < 0)
+      if (hold(to, cell) < 0 || !next_field(&to->fields)
+          || lay(to, &to->fields, cell, &of->used[column]) < 0)
         return -1;
       if (to->list_count) return give_up(to);
     }
@@ -480,7 +491,8 @@ static PyObject *texts_of(const char *room, const size_t *ends, Py_ssize_t count
 #define FIRST_ROOM ((size_t)1 << 20)
 
 /* The texts over what is laid out; None of a fault. */
-static PyObject *rows_laid(const plan *of, const char *columns, const laid *table, size_t *ends, Py_ssize_t count) {
+static PyObject *rows_laid(const plan *of, const char *columns, const laid *table, size_t *ends,
+                           Py_ssize_t count) {
   char *format, *room = NULL;
   Py_ssize_t length;
   size_t size;
@@ -496,11 +508,10 @@ static PyObject *rows_laid(const plan *of, const char *columns, const laid *tabl
       return PyErr_NoMemory();
     }
     room = larger;
-    Py_BEGIN_ALLOW_THREADS
-    got = library_rows(format, (size_t)length, (const interpolator_field *)columns, (size_t)of->count,
-                       table->fields.at, table->fields.count, ends, (size_t)count, room, size);
-    Py_END_ALLOW_THREADS
-    if (got.code == INTERPOLATOR_OK && got.length > size) {
+    Py_BEGIN_ALLOW_THREADS got =
+        library_rows(format, (size_t)length, (const interpolator_field *)columns, (size_t)of->count,
+                     table->fields.at, table->fields.count, ends, (size_t)count, room, size);
+    Py_END_ALLOW_THREADS if (got.code == INTERPOLATOR_OK && got.length > size) {
       size = got.length;
       continue;
     }
@@ -515,8 +526,8 @@ static PyObject *rows_laid(const plan *of, const char *columns, const laid *tabl
   }
 }
 
-/* rows(bytes of the fields of the columns, list of rows): the texts, or None if the other modules have to
- * make them or a fault. The plan has a name for each column. */
+/* rows(bytes of the fields of the columns, list of rows): the texts, or None if the other modules
+ * have to make them or a fault. The plan has a name for each column. */
 static PyObject *plan_rows(PyObject *self, PyObject *words) {
   const plan *of = (plan *)self;
   laid table;
@@ -542,15 +553,14 @@ static PyMethodDef plan_methods[] = {
     {"rows", plan_rows, METH_VARARGS, "The texts of rows, or None."},
     {NULL, NULL, 0, NULL}};
 
-static PyType_Slot plan_slots[] = {
-    {Py_tp_new, (void *)plan_new},
-    {Py_tp_dealloc, (void *)plan_dealloc},
-    {Py_tp_methods, plan_methods},
-    {Py_tp_doc, "A format with its names, and how it uses each."},
-    {0, NULL}};
+static PyType_Slot plan_slots[] = {{Py_tp_new, (void *)plan_new},
+                                   {Py_tp_dealloc, (void *)plan_dealloc},
+                                   {Py_tp_methods, plan_methods},
+                                   {Py_tp_doc, "A format with its names, and how it uses each."},
+                                   {0, NULL}};
 
-static PyType_Spec plan_spec = {
-    "interpolator._speed.Plan", sizeof(plan), 0, Py_TPFLAGS_DEFAULT, plan_slots};
+static PyType_Spec plan_spec = {"interpolator._speed.Plan", sizeof(plan), 0, Py_TPFLAGS_DEFAULT,
+                                plan_slots};
 
 /* ---- The module */
 
@@ -567,7 +577,8 @@ static PyObject *bind(PyObject *module, PyObject *words) {
   Py_ssize_t size;
   void *at_format, *at_rows;
   (void)module;
-  if (!PyArg_ParseTuple(words, "OOnOO!O", &format, &rows, &size, &print, &PyTuple_Type, &types, &number))
+  if (!PyArg_ParseTuple(words, "OOnOO!O", &format, &rows, &size, &print, &PyTuple_Type, &types,
+                        &number))
     return NULL;
   if ((size_t)size != sizeof(interpolator_field))
     return PyErr_SetString(PyExc_ImportError, "the structs of the library are others"), NULL;
@@ -582,12 +593,18 @@ static PyObject *bind(PyObject *module, PyObject *words) {
   Py_RETURN_NONE;
 }
 
-static PyMethodDef functions[] = {
-    {"bind", bind, METH_VARARGS, "Tells the calls of the library."}, {NULL, NULL, 0, NULL}};
+static PyMethodDef functions[] = {{"bind", bind, METH_VARARGS, "Tells the calls of the library."},
+                                  {NULL, NULL, 0, NULL}};
 
-static struct PyModuleDef module = {
-    PyModuleDef_HEAD_INIT, "interpolator._speed", "The quick way through a call.", -1, functions,
-    NULL, NULL, NULL, NULL};
+static struct PyModuleDef module = {PyModuleDef_HEAD_INIT,
+                                    "interpolator._speed",
+                                    "The quick way through a call.",
+                                    -1,
+                                    functions,
+                                    NULL,
+                                    NULL,
+                                    NULL,
+                                    NULL};
 
 PyMODINIT_FUNC PyInit__speed(void) {
   PyObject *made = PyModule_Create(&module), *type = made ? PyType_FromSpec(&plan_spec) : NULL;
