@@ -20,6 +20,8 @@ pub(crate) enum Known<'a> {
     /// By its kind in the library.
     Signed(u32, i64),
     Signed128(&'a i128),
+    /// A float, by its bits as an `f64`: written by this crate, not by the library.
+    Float(u64),
 }
 
 impl<'a> Known<'a> {
@@ -54,6 +56,8 @@ impl<'a> Known<'a> {
             isize: number => signed(kind::SIGNED64, *number as i64),
             u128: number => Known::Unsigned128(number),
             i128: number => Known::Signed128(number),
+            f64: number => Known::Float(number.to_bits()),
+            f32: number => Known::Float(f64::from(*number).to_bits()),
             &'static &'static str: text => Known::Text(shorter(text)),
             &'static String: text => Known::Text(text.as_str()),
             Box<str>: text => Known::Text(text),
@@ -82,7 +86,7 @@ impl<'a> Known<'a> {
     #[inline]
     pub(crate) fn field(self, slots: u32) -> Field<'a> {
         let field = match self {
-            Known::Nothing => Field::NOTHING,
+            Known::Nothing | Known::Float(_) => Field::NOTHING,
             Known::Text(text) => Field::text(text),
             Known::Truth(truth) => Field::natural(kind::TRUTH, u64::from(truth)),
             Known::Character(character) => Field::natural(kind::CHARACTER, u64::from(character)),

@@ -24,7 +24,8 @@
 //! and `)#`, with as many `#` as it takes.
 //!
 //! Whole numbers, texts, `bool` and `char` are written by the library. Floats and values of any other
-//! type are written by their own `fmt`, under the spec that the format has.
+//! type are written by their own `fmt`, under the spec that the format has; but floats of at most 15
+//! digits behind the point are written by this crate, as by std.
 //!
 //! Beside the API of that crate are [`check`], [`explain`], [`cost`] and [`rows`].
 use std::borrow::Borrow;
@@ -33,6 +34,7 @@ use std::fmt;
 use std::hash::{BuildHasher, Hash};
 
 mod error;
+mod float;
 mod formattable;
 mod known;
 mod laid;

@@ -35,6 +35,31 @@ fn a_float_is_written_as_by_std() {
     }
 }
 
+/// Compares the texts of floats under a spec with std's, for each choice of its parts.
+macro_rules! each_spec {
+    ([$($parts:literal)*]) => {
+        for number in [0.0, -0.5, 2.5, 999.995, -0.005, 1e17, 12345678.125, f64::NAN, -1e-300] {
+            let spec = concat!("{f:" $(, $parts)*, "}");
+            let by_std = format!(concat!("{0:" $(, $parts)*, "}"), number);
+            assert_eq!(text(spec, &[("f", Formattable::float(&number))]), by_std, "{spec}");
+        }
+    };
+    ([$($parts:literal)*] [$($choice:literal)*] $($choices:tt)*) => {
+        each_spec!([$($parts)*] $($choice)*; $($choices)*)
+    };
+    ([$($parts:literal)*] $choice:literal $($others:literal)*; $($choices:tt)*) => {
+        each_spec!([$($parts)* $choice] $($choices)*);
+        each_spec!([$($parts)*] $($others)*; $($choices)*)
+    };
+    ([$($parts:literal)*]; $($choices:tt)*) => {};
+}
+
+#[test]
+fn a_float_under_each_spec() {
+    each_spec!([] ["" "<" ">" "*<" "é^"] ["" "+"] ["" "#"] ["" "0"] ["" "9" "20"] ["" ".0" ".2" ".15"]);
+    each_spec!([] ["" "*^"] ["12"] ["" ".0" ".3"] ["?" "e" "E"]);
+}
+
 #[test]
 fn a_float_in_a_list() {
     let halves = [0.5, 1.5, 2.5, 0.125, 0.375, 999.5, 0.25, 9.75];
