@@ -1,6 +1,6 @@
 //! The whole text of a row.
 ghost use Rattle.std.specs.Prelude.{◌≡◌, [], false, IfOk};
-ghost use Rattle.interpolator_render.specs.Written.{as_writer};
+ghost use Rattle.interpolator_render.specs.Written.{as_writer, plain};
 ghost use Rattle.interpolator_border.specs.Answers.{FormatAnswers, FormatsRow};
 
 use crate::answer::{Answer, Failure, put, told_failure, well};
@@ -17,7 +17,8 @@ const MOST_MORE: usize = 256;
 #[tactic(auto, using(interpolator_syntax::proofs::CharacterLemmas::no_text))]
 fn buffer_for(alloc: Global, format: &str) -> Result<TextBuffer, AllocError>
     ensures empty { IfOk result
-        (λ buffer. as_writer buffer ≡ record { text = []; refused = false }) }
+        (λ buffer. as_writer buffer
+        ≡ record { text = []; refused = false; origin = plain }) }
 {
     let len = format.len();
     let text = String::with_capacity(alloc, len.saturating_add(len.min(MOST_MORE)))?;
