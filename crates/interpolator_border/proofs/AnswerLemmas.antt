@@ -179,7 +179,7 @@ module _ (new : Written) (made old room sentence_old sentence_new : List ℕ) (a
   wrote_full m told refused tells =
       let text = text_of refused.front in
       let full = subst (λ t. TellsWritten true (byte_count text) t sentence_old sentence_new answer)
-          refused.told (told_text text true told refused.appended refused.flag tells) in record {
+      refused.told (told_text text true told refused.appended refused.flag tells) in record {
         front = refused.front;
         c = refused.c;
         place = refused.place;
@@ -199,8 +199,8 @@ module _ (new : Written) (made old room sentence_old sentence_new : List ℕ) (a
   wrote_some m told wants tells =
       let text = text_of wants.front in
       let some = subst (λ t. TellsWritten false (byte_count text) t sentence_old sentence_new answer)
-          wants.told
-          (told_text text false told wants.begun.appended wants.begun.same_flag tells) in record {
+      wants.told
+      (told_text text false told wants.begun.appended wants.begun.same_flag tells) in record {
         front = wants.front;
         back = wants.back;
         split = wants.split;

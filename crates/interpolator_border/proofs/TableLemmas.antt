@@ -25,11 +25,10 @@ use Rattle.interpolator_border.specs.declared.answer.Failure.TheVariants as fail
 at_row : (a : Answer) (row : ℕ) (old new : List ℕ) (told answer : Told_answer)
     → answer ≡ record told { row = row } → ToldFault a 0 old new told
     → ToldAtRow a row old new answer
-at_row a row old new told answer is fails =
-    (
-      is ∙ ap {A = Told_answer} {B = Told_answer} (λ t. record t { row = row }) fails.0,
-      fails.1,
-    )
+at_row a row old new told answer is fails = (
+  is ∙ ap {A = Told_answer} {B = Told_answer} (λ t. record t { row = row }) fails.0,
+  fails.1,
+)
 
 -- why a row was not appended is told: memory was wanted, or its fault
 in_row : (a : Answer) (found : Option Fault) (row : ℕ) (old new : List ℕ) (told answer : Told_answer)
