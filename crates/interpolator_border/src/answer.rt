@@ -1,8 +1,9 @@
 //! What a call returns.
 ghost use Rattle.std.specs.Prelude.{◌≡◌, ◌<◌, length};
-ghost use Rattle.interpolator_border.specs.Answers.{FillsFront, Told, ToldBy, ToldCode, ToldFailure};
-ghost use Rattle.interpolator_border.specs.Answers.{bare_answer, failure_code, fault_answer};
-ghost use Rattle.interpolator_border.specs.Answers.{full_answer, full_sentence, text_answer};
+ghost use Rattle.interpolator_border.specs.Answers.{FillsFront, Told, ToldBy, ToldCode};
+ghost use Rattle.interpolator_border.specs.Answers.{ToldFailure, bare_answer, failure_code};
+ghost use Rattle.interpolator_border.specs.Answers.{fault_answer, full_answer, full_sentence};
+ghost use Rattle.interpolator_border.specs.Answers.{text_answer};
 ghost use Rattle.interpolator_syntax.specs.Faults.{answer_of};
 
 use crate::fault::{NO_MEMORY, code_of, fault_numbers};
