@@ -6,6 +6,7 @@ ghost use Rattle.interpolator.specs.Written.{Appends};
 ghost use Rattle.interpolator_examples.specs.Logs.{GetsTexts, log_text};
 
 use crate::page::Page;
+use crate::users::files::WriteError;
 use interpolator::{Context, Error, Formattable, Interpolate, IoWriter, TextWrite, is_name};
 use std::alloc::Global;
 use std::io;
@@ -57,7 +58,7 @@ fn write_log<W: io::Write + Drop, C: Interpolate>(
     to: W,
     format: &str,
     records: &[C],
-) -> io::Result<W>
+) -> Result<W, WriteError>
     ensures whole { IfOk result (λ file. GetsTexts (W.contents to) (W.contents file)
         (log_text C.Object.shows C.finds format.now records.now)) }
 {
