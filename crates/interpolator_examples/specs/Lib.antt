@@ -1,4 +1,4 @@
--- What the values of the examples show.
+-- What the values of the examples show, and what a log contains.
 pub mod Cells
 pub mod Levels
 pub mod Logs

@@ -1,28 +1,33 @@
 -- What a log of records contains.
-use Rattle.std.specs.Prelude.{ℕ, List, [], ◌∷◌, ◌++◌, Option, encode_utf8_all}
-use Rattle.std.specs.Str.{chars}
+use Rattle.std.specs.Prelude.{ℕ, List, [], ◌++◌, Option, Some, None, encode_utf8_all, codes}
+use Rattle.std.specs.Prelude.{if◌then◌else◌}
+use Rattle.std.specs.Str.{bytes_eq, chars}
 use Rattle.std.specs.Io.KnownBytes.{Appends}
 use Rattle.interpolator.specs.At.{outermost, text_of}
 use Rattle.interpolator.specs.Meaning.Environments.{environment}
 use Rattle.interpolator.specs.Meaning.Meanings.{means}
-use Rattle.interpolator.specs.Slots.{Slots}
-use Rattle.interpolator.specs.Views.{Shown}
-use Rattle.interpolator_render.specs.declared.view.Spec.{Spec}
-use Rattle.interpolator_render.specs.declared.view.Trait.{Trait}
+use Rattle.interpolator.specs.Slots.{Slots, empty_slots, with_display}
+use Rattle.interpolator.specs.Views.{unsigned_number}
+use Rattle.interpolator_examples.specs.declared.users.log_file.Record.{Record}
+use Rattle.interpolator_examples.specs.declared.users.log_file.Records.{Records}
+use Rattle.interpolator_examples.specs.declared.users.log_file.Records.TheVariants.{End, More'}
 
--- what values show, and what a record has under a name
-module _ {X C : Type 0} (shows : X → Trait → Spec → Shown)
-    (finds : C → List ℕ → Option (Slots X)) (format : List ℕ) where
-  -- the text that the format means for a record
-  abbrev pub record_text : C → List ℕ
-  record_text one =
-      text_of (means shows (environment (finds one)) (outermost (chars format))).text
+-- what a record has under a name
+abbrev pub found_in : Record → List ℕ → Option (Slots ℕ)
+found_in entry name = if bytes_eq (encode_utf8_all name) (codes "n")
+    then Some (with_display empty_slots entry.number) else None
 
-  -- the records' texts, one after the other
-  abbrev pub log_text : List C → List ℕ
-  log_text [] = []
-  log_text (first ∷ rest) = record_text first ++ log_text rest
+-- the text that a format means for a record
+abbrev pub record_text : List ℕ → Record → List ℕ
+record_text format entry =
+    text_of (means (λ number _ _. unsigned_number number) (environment (found_in entry))
+    (outermost (chars format))).text
 
--- a writer of bytes, if it shows what it contains, contains what it did, and then this text
+-- the records' texts, one after the other
+abbrev pub log_text : List ℕ → Records → List ℕ
+log_text format End = []
+log_text format (More' first place rest) = record_text format first ++ log_text format rest
+
+-- a writer of bytes that shows what it contains has what it had, and then exactly this text
 abbrev pub GetsTexts : Option (List ℕ) → Option (List ℕ) → List ℕ → Type 0
 GetsTexts old new text = Appends old new (encode_utf8_all text)

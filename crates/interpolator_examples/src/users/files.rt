@@ -7,7 +7,7 @@ use std::io;
 
 /// Why not everything was written.
 #[derive(Drop)]
-enum WriteError {
+pub enum WriteError {
     Format(Error),
     Io(io::Error),
 }

@@ -1,11 +1,10 @@
 //! A log in a file: once all is written, the file has exactly the texts of the records.
-ghost use Rattle.std.specs.Prelude.{None, Some, OnOk, IfOk, if◌then◌else◌, codes};
-ghost use Rattle.std.specs.Str.{bytes_eq, encode_utf8_all};
-ghost use Rattle.interpolator.specs.Slots.{empty_slots, with_display};
+ghost use Rattle.std.specs.Prelude.{OnOk, IfOk};
 ghost use Rattle.interpolator.specs.Written.{Appends};
-ghost use Rattle.interpolator_examples.specs.Logs.{GetsTexts, log_text};
+ghost use Rattle.interpolator_examples.specs.Logs.{GetsTexts, log_text, found_in};
 
 use crate::page::Page;
+use crate::users::files::WriteError;
 use interpolator::{Context, Error, Formattable, Interpolate, IoWriter, TextWrite, is_name};
 use std::alloc::Global;
 use std::io;
@@ -19,8 +18,7 @@ struct Record {
 impl Context for Record {
     type Object = u64;
 
-    ghost finds = { λ entry name. if bytes_eq (encode_utf8_all name) (codes "n")
-        then Some (with_display empty_slots entry.number) else None };
+    ghost finds = { found_in };
 
     fn get(&self, key: &str) -> Option<Formattable<'_, u64>> {
         if is_name(key, "n") {
@@ -32,19 +30,26 @@ impl Context for Record {
 
 impl Interpolate for Record {}
 
+/// The records of a log.
+#[derive(Drop)]
+enum Records {
+    End,
+    More(Record, Box<Records>),
+}
+
 /// Writes what the format means for each record.
-fn write_records<W: TextWrite, C: Interpolate>(
+fn write_records<W: TextWrite>(
     alloc: Global,
     out: &mut W,
     format: &str,
-    records: &[C],
+    records: &Records,
 ) -> Result<(), Error>
-    ensures texts { OnOk result (Appends (W.written out.old)
-        (log_text C.Object.shows C.finds format.now records.now) (W.written out.new)) }
+    ensures texts { OnOk result (Appends (W.written out.old) (log_text format.now records.now)
+        (W.written out.new)) }
 {
     match records {
-        [] => Ok(()),
-        [first, rest @ ..] => {
+        Records::End => Ok(()),
+        Records::More(first, rest) => {
             first.write_to(alloc, out, format)?;
             write_records(alloc, out, format, rest)
         }
@@ -52,14 +57,14 @@ fn write_records<W: TextWrite, C: Interpolate>(
 }
 
 /// Writes a log to `to`, and returns `to`: it has what it had, and then exactly the records' texts.
-fn write_log<W: io::Write + Drop, C: Interpolate>(
+fn write_log<W: io::Write + Drop>(
     alloc: Global,
     to: W,
     format: &str,
-    records: &[C],
-) -> io::Result<W>
+    records: &Records,
+) -> Result<W, WriteError>
     ensures whole { IfOk result (λ file. GetsTexts (W.contents to) (W.contents file)
-        (log_text C.Object.shows C.finds format.now records.now)) }
+        (log_text format.now records.now)) }
 {
     let mut out = IoWriter::new(alloc, to);
     write_records(alloc, &mut out, format, records)?;
@@ -67,17 +72,17 @@ fn write_log<W: io::Write + Drop, C: Interpolate>(
     Ok(out.into_inner())
 }
 
-/// A thousand records.
-fn thousand(alloc: Global) -> Result<Vec<Record>, Error> {
-    let mut records = Vec::new(alloc);
-    for number in 0..1000 {
-        records.push(Record { number })?;
+/// A thousand records, from 0 on.
+fn thousand(alloc: Global) -> Result<Records, Error> {
+    let mut records = Records::End;
+    for number in (0..1000).rev() {
+        records = Records::More(Record { number }, Box::new(alloc, records)?);
     }
     Ok(records)
 }
 
 /// How many bytes the log of these records has.
-fn size(alloc: Global, format: &str, records: &[Record]) -> Result<String, Error> {
+fn size(alloc: Global, format: &str, records: &Records) -> Result<String, Error> {
     match write_log(alloc, Vec::new(alloc), format, records) {
         Ok(file) => Ok(format!(in alloc; "{} bytes", file.len())?),
         Err(_) => Ok(String::from_str(alloc, "not written")?),
@@ -89,7 +94,7 @@ pub fn show(page: &mut Page) -> Result<(), Error> {
     let alloc = page.alloc;
     let records = thousand(alloc)?;
     for format in ["{n};\n", "{n:>15};\n", "{m}"] {
-        page.put_made("log file", size(alloc, format, records.as_slice()));
+        page.put_made("log file", size(alloc, format, &records));
     }
     Ok(())
 }
