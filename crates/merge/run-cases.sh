@@ -15,7 +15,7 @@ wanted_number='wants a number, such as -7 or 12.50'
 greatest=170141183460469231731687303715884105727
 here=$(cd "$(dirname "$0")" && pwd)
 name=merge
-wanted=64
+wanted=91
 . "$here/../../.ci/cases.sh"
 
 # files TEMPLATE TABLE: what stands in the files `t` and `r`.
@@ -67,7 +67,7 @@ record_cases() {
     case_of file file 0 '<1|2,3>' '' --separator ';' t r
     files '<{a}|{b}>' $'a\tb\n1\t2\n'
     case_of file file 0 '<1|2>' '' --separator tab t r
-    files '<{a}>' $'a;b\n1,2\n'
+    files 'Dear' $'a;b\n1,2\n'
     case_of file file 1 '' $'r:2: 2 fields, but line 1 has 1\n' --separator , t r
     files '{a}' $'a\n\xe9\n'
     case_of file file 0 'é' '' --latin1 t r
@@ -132,11 +132,11 @@ table_cases() {
     fault 'r: the table is empty: it has no names' 'Dear' $'\r\n\n'
     fault "r:2:1: $unclosed" '{a}' $'a,b\n"1,2\n'
     fault "r:2:4: $unclosed" '{a}' $'a,b\né, "1\n2""\n\n'
-    fault $'r:2: 1 field, but line 1 has 2\n'"r:3:2: $stray" '{a}' $'a,b\n"1\n2"\n'
+    fault 'r:2: 1 field, but line 1 has 2' '{a}' $'a,b\n"1\n2"\n'
     fault "r:3:4: $stray"$'\nr:4: 1 field, but line 1 has 2' '{a}' $'a,b\n"1\n",5"\n1\n'
     fault "r:2:2: $stray" '{a}' $'a,b\n5" pipe,2\n'
-    fault "r:2:10: $after_quote" '{a}' $'a,b\n"5"" é" x,2\n'
-    fault "r:3:2: $after_quote" '{a}' $'a,b\n1,"\n" "2"\n'
+    fault "r:2:9: $after_quote" '{a}' $'a,b\n"5"" é" x,2\n'
+    fault "r:3:3: $after_quote" '{a}' $'a,b\n1,"\n" "2"\n'
     fault "r:1:8: $after_quote" '{a}' $'a, "b" c\n1,2\n'
     fault "r:1:3: $unclosed" '{a}' $'a,"b\n1,2\n'
     fault "r:2:2: $lone"$'\n'"r:3:4: $lone" '{a}' $'a\n1\r2\n"2"\r\r\n'

@@ -29,7 +29,7 @@ mod values;
 
 use interpolator::{Error, Source, explain_with_names};
 use letters::{Fault, merged};
-use records::{BadByte, Field, Problem, Reader, Separator, latin1, text_in};
+use records::{BadByte, Field, Problem, ReadError, Reader, Separator, latin1, text_in};
 use std::alloc::Global;
 use std::process::ExitCode;
 use std::{env, fs, io};
@@ -63,7 +63,7 @@ struct Files<'a> {
     separator: Separator,
 }
 
-/// Fills in the fields of the header. Where this is called, it has no fault.
+/// Fills in the fields of the header; none, if it has a fault.
 fn read_header<'a>(
     alloc: Global,
     files: Files<'a>,
@@ -71,7 +71,8 @@ fn read_header<'a>(
 ) -> Result<(), Error> {
     match Reader::new(files.table, files.separator).next_record(alloc, fields) {
         Ok(_) => Ok(()),
-        Err(_) => Err(Error::NoMemory),
+        Err(ReadError::Fault(_)) => Ok(()),
+        Err(ReadError::NoMemory) => Err(Error::NoMemory),
     }
 }
 
@@ -111,18 +112,11 @@ fn told_line(alloc: Global, table: &str, fault: LineFault, wanted: usize) -> Res
     Ok(told)
 }
 
-/// How many names the header has; none if it has a fault.
-fn wanted_in(alloc: Global, files: Files<'_>) -> usize {
-    let mut fields = Vec::new(alloc);
-    match read_header(alloc, files, &mut fields) {
-        Ok(()) => fields.len(),
-        Err(_) => 0,
-    }
-}
-
 /// The faults of a table, a line for each.
 fn told_lines(alloc: Global, files: Files<'_>, faults: &[LineFault]) -> Result<String, Error> {
-    let wanted = wanted_in(alloc, files);
+    let mut fields = Vec::new(alloc);
+    read_header(alloc, files, &mut fields)?;
+    let wanted = fields.len();
     let mut told = String::new(alloc);
     for fault in faults {
         let line = told_line(alloc, files.table_name, *fault, wanted)?;
