@@ -1,0 +1,14 @@
+use Rattle.std.proofs.Common.{◌≡◌, ◌++◌, ℕ, List, length, map}
+use denote.Text.{Utf8}
+use denote.Shadow.{shadow}
+use Rattle.records.specs.Records.{Opens}
+use Rattle.records.specs.Spellings.{text_of}
+use Rattle.records.proofs.record.take_record.Given as goal
+
+abbrev pub invariant-fields : goal.invariant-fields
+invariant-fields l = shadow (Utf8 l.rest)
+    × ((opening : List ℕ) × (l.text ≡ opening ++ l.rest)
+    × Opens l.separator (map text_of l.fields.items) opening)
+
+abbrev pub decreases-fields : goal.decreases-fields
+decreases-fields l = length l.rest

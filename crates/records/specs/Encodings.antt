@@ -1,0 +1,13 @@
+-- Bytes as text.
+use Rattle.std.specs.Prelude.{◌≡◌, ℕ, List, slice_index, take}
+use Rattle.std.specs.Str.{IsValidUpTo}
+use Rattle.records.specs.Places.{place_after}
+use Rattle.records.specs.Tables.{line_start}
+use Rattle.records.specs.declared.encoding.BadByte.{BadByte}
+
+-- the first byte that is no UTF-8: the bytes before it are, and with it and more none are
+pub record IsBad (bytes : List ℕ) (bad : BadByte) : Type 0 where
+  pub count : ℕ
+  pub valid : IsValidUpTo bytes count
+  pub byte : bad.byte ≡ slice_index bytes count
+  pub placed : bad.place ≡ place_after (line_start 1) (take count bytes)

@@ -1,0 +1,39 @@
+-- The head and the end of a text, which belong to no record.
+use Rattle.std.specs.Prelude.{◌≡◌, ◌≢◌, ◌⊎◌, ⊤, ◌≤◌, ℕ, List, [], ◌∷◌, ◌++◌, length}
+use Rattle.records.specs.Marks.{carriage_return, line_feed}
+use Rattle.records.specs.Tables.{At}
+
+-- the byte order mark
+abbrev pub mark : List ℕ
+mark = 0xEF ∷ 0xBB ∷ 0xBF ∷ []
+
+-- a text without the mark at its head, if it has one
+abbrev pub IsUnmarked : (text rest : List ℕ) → Type 0
+IsUnmarked text rest =
+    (text ≡ mark ++ rest) ⊎ (((more : List ℕ) → text ≢ mark ++ more) × (rest ≡ text))
+
+-- a text begins with a line feed
+abbrev pub FeedsFirst : List ℕ → Type 0
+FeedsFirst [] = ⊥
+FeedsFirst (b ∷ bs) = b ≡ line_feed
+
+-- a text is line ends alone: each byte is a line feed, or a carriage return before one
+abbrev pub AreLineEnds : List ℕ → Type 0
+AreLineEnds [] = ⊤
+AreLineEnds (b ∷ bs) =
+    ((b ≡ line_feed) ⊎ ((b ≡ carriage_return) × FeedsFirst bs)) × AreLineEnds bs
+
+-- a text without its longest end that is line ends alone
+pub record IsEnded (text kept : List ℕ) : Type 0 where
+  pub end : List ℕ
+  pub is : text ≡ kept ++ end
+  pub line_ends : AreLineEnds end
+  pub longest : (front back : List ℕ) → text ≡ front ++ back → AreLineEnds back
+      → length kept ≤ length front
+
+-- a reader of a text begins behind the mark at its head, and stops before the line ends at its end
+pub record Starts (text : List ℕ) (from : At) : Type 0 where
+  pub rest : List ℕ
+  pub unmarked : IsUnmarked text rest
+  pub ended : IsEnded rest from.text
+  pub first_line : from.line ≡ 1

@@ -1,0 +1,41 @@
+//! The head and the end of a text, which belong to no record.
+
+ghost use Rattle.std.specs.Prelude.{MatchOption};
+ghost use Rattle.records.specs.Ends.{LosesLineEnd, NotLast};
+ghost use Rattle.records.specs.Heads.{IsEnded, IsUnmarked};
+ghost use Rattle.records.specs.Marks.{line_feed};
+
+/// The text without the byte order mark at its head.
+pub(crate) fn without_mark(text: &str) -> &str
+    ensures { IsUnmarked text.now result.now }
+{
+    match text.strip_prefix('\u{feff}') {
+        Some(rest) => rest,
+        None => text,
+    }
+}
+
+/// The text without the line end at its end, if it has one.
+fn without_line_end(text: &str) -> Option<&str>
+    ensures { MatchOption result (NotLast line_feed text.now)
+        (λ rest. LosesLineEnd text.now rest.now) }
+{
+    match text.strip_suffix('\n') {
+        None => None,
+        Some(line) => match line.strip_suffix('\r') {
+            None => Some(line),
+            Some(rest) => Some(rest),
+        },
+    }
+}
+
+/// The text without the line ends at its end.
+pub(crate) fn without_end(text: &str) -> &str
+    ensures { IsEnded text.now result.now }
+{
+    let mut kept = text;
+    while let Some(rest) = without_line_end(kept) {
+        kept = rest;
+    }
+    kept
+}

@@ -1,0 +1,33 @@
+//! The records of a table, as RFC 4180 and spreadsheets write them.
+//!
+//! [`Reader`] reads one after another: each call of [`Reader::next_record`] fills in the fields of
+//! the next record, in memory that the last one had. A field is lent from the table, or made where
+//! two quotes stand for one. A fault is returned with its line and column, and nothing is skipped.
+//!
+//! ```text
+//! let mut reader = Reader::new("name;town\n\"Zoë \"\"Z\"\"\";\"Ulm\nWest\"\n", Separator::Semicolon);
+//! // line 1: `name` and `town`; line 2: `Zoë "Z"`, and a field of two lines
+//! ```
+//!
+//! [`text_in`] and [`latin1`] make texts of bytes. Read on at `Spellings`, `Records` and `Faults` in
+//! `specs/`, which say how a record is spelled, and at the laws in [`laws`].
+#![tactic(auto)]
+
+mod encoding;
+mod fault;
+mod field;
+mod head;
+pub mod laws;
+mod place;
+mod quoted;
+mod reader;
+mod record;
+mod scan;
+mod separator;
+mod take;
+
+pub use encoding::{BadByte, latin1, text_in};
+pub use fault::{Fault, Place, Problem};
+pub use field::Field;
+pub use reader::{ReadError, Reader};
+pub use separator::Separator;

@@ -1,0 +1,64 @@
+//! The character between two fields.
+
+ghost use Rattle.std.specs.Prelude.{◌≡◌, ◌==◌};
+ghost use Rattle.std.specs.List.{before_first, list_any};
+ghost use Rattle.records.specs.Marks.{byte_of, line_feed};
+ghost use Rattle.records.specs.Separators.{told_by};
+
+/// The character between two fields of a record.
+#[derive(Clone, Copy, Debug, PartialEq, Eq)]
+pub enum Separator {
+    /// `,`
+    Comma,
+    /// `;`
+    Semicolon,
+    /// A tab.
+    Tab,
+}
+
+/// The first line of a text.
+fn first_line(text: &str) -> &str
+    ensures { result.now ≡ before_first (λ b. b == line_feed) text.now }
+{
+    match text.split_once('\n') {
+        Some((line, _)) => line,
+        None => text,
+    }
+}
+
+impl Separator {
+    /// The byte of the character.
+    pub fn byte(self) -> u8
+        ensures { result ≡ byte_of self }
+    {
+        match self {
+            Separator::Comma => b',',
+            Separator::Semicolon => b';',
+            Separator::Tab => b'\t',
+        }
+    }
+
+    /// Whether a line has this character.
+    fn is_in(self, line: &str) -> bool
+        ensures { result ≡ list_any (λ b. b == byte_of self) line.now }
+    {
+        line.as_bytes().contains(&self.byte())
+    }
+
+    /// The separator that the first line of a table is told by: the one of the three that it has,
+    /// if it has none of the others.
+    pub fn told_by(table: &str) -> Option<Separator>
+        ensures { result ≡ told_by table.now }
+    {
+        let line = first_line(table);
+        let comma = Separator::Comma.is_in(line);
+        let semicolon = Separator::Semicolon.is_in(line);
+        let tab = Separator::Tab.is_in(line);
+        match (comma, semicolon, tab) {
+            (true, false, false) => Some(Separator::Comma),
+            (false, true, false) => Some(Separator::Semicolon),
+            (false, false, true) => Some(Separator::Tab),
+            _ => None,
+        }
+    }
+}
