@@ -6,14 +6,16 @@
 # usage: run-cases.sh [PROGRAM..]
 set -u
 
-usage='usage: merge TEMPLATE TABLE'
+usage='usage: merge [--separator , | ; | tab] [--latin1] TEMPLATE TABLE'
 stray='a stray quote: write the field in quotes, and double those in it'
-unclosed='a quote that this line does not close'
+unclosed='a quote that is never closed'
+after_quote='text after a closing quote: double the quotes in a field'
+lone='a carriage return without a newline'
 wanted_number='wants a number, such as -7 or 12.50'
 greatest=170141183460469231731687303715884105727
 here=$(cd "$(dirname "$0")" && pwd)
 name=merge
-wanted=64
+wanted=91
 . "$here/../../.ci/cases.sh"
 
 # files TEMPLATE TABLE: what stands in the files `t` and `r`.
@@ -38,9 +40,11 @@ letter_cases() {
     letters $'1;\n2;\n' $'{a};\n' $'a,b\n1,x\n2,\n'
     letters '<é|  7>' '<{a}|{b:>3}>' $'a,b\r\né,7\r\n'
     letters '"{x}"' '{a:?}' $'a\n{x}'
-    letters '[]' '[{a}]' $'a\n\n'
+    letters '' '[{a}]' $'a\n\n'
+    letters '' '[{a}]' $'a\n\r\n\n\r\n'
+    letters '[][x]' '[{a}]' $'a\n\nx\n\n'
     letters '' '[{a}]' $'a,b'
-    letters '' 'Dear' ''
+    letters '' 'Dear' 'a'
     letters '<1>' '<{a}>' $'\xef\xbb\xbfa,b\n1,2\n'
     letters '<1>' $'\xef\xbb\xbf<{a}>' $'a\n1\n'
     letters '<1| 2>' '<{a}|{b b}>' $' a, b b\n1, 2\n'
@@ -48,6 +52,39 @@ letter_cases() {
     letters '<a "b" c|>' '<{x}|{y}>' $'x,y\n"a ""b"" c",""\n'
     letters '<">' '<{a, b}>' $'"a, b"\n""""\n'
     letters '<é>< >' '<{a}>' $'"a"\r\n"é"\r\n" "\r\n'
+}
+
+record_cases() {
+    letters $'<1\n2"\r\n|x>' '<{a}|{b}>' $'a,b\n"1\n2""\r\n",x\n'
+    letters $'<\n>' '<{a}>' $'a\n"\n"'
+    letters '<1|2><3| 4>' '<{a}|{b}>' $'a, "b"\n1, "2"  \n "3" , 4\n'
+    letters '<1,2|3>' '<{a}|{b}>' $'a;b\n1,2;3\n'
+    letters '<1;2|3>' '<{a}|{b}>' $'a\tb\n1;2\t3\n'
+    letters '< x |y>' '<{a}|{b}>' $'a\tb\n x \t "y" \n'
+    letters '<1;2>' '<{a;b}>' $'a;b,c\n1;2,3\n'
+    letters $'<a\tb>' '<{a}>' $'a\na\tb\n'
+    files '<{a}|{b,c}>' $'a;b,c\n1;2,3\n'
+    case_of file file 0 '<1|2,3>' '' --separator ';' t r
+    files '<{a}|{b}>' $'a\tb\n1\t2\n'
+    case_of file file 0 '<1|2>' '' --separator tab t r
+    files 'Dear' $'a;b\n1,2\n'
+    case_of file file 1 '' $'r:2: 2 fields, but line 1 has 1\n' --separator , t r
+    files '{a}' $'a\n\xe9\n'
+    case_of file file 0 'é' '' --latin1 t r
+    case_of file file 0 'é' '' --separator , --latin1 t r
+    case_of file file 3 '' $'r:2:1: byte 0xE9 is no UTF-8; is this Latin-1? try --latin1\n' t r
+    nul_case
+}
+
+# A NUL in a field is written.
+nul_case() {
+    printf '{a}' >t
+    printf 'a\nx\0y\n' >r
+    if "$program" t r | cmp -s - <(printf 'x\0y'); then
+        passed=$((passed + 1))
+    else
+        fail 'another letter of a field with a NUL'
+    fi
 }
 
 number_cases() {
@@ -58,7 +95,7 @@ number_cases() {
     letters '12.50|1.0' '{a:?}|{b:.1}' $'a:,"b:"\n12.50,1\n'
     letters "<x:|$greatest>" '<{a}|{b}>' $'a,b:\nx:,'"$greatest"$'\n'
     fault "r:2: column 1 $wanted_number" '{a}' $'a:\n170141183460469231731687303715884105728\n'
-    fault "r:2: column 1 $wanted_number" '{a}' $'a:\n\n'
+    fault "r:2: column 1 $wanted_number" '{a}' $'a:\n\n1\n'
     fault "r:3: column 2 $wanted_number" '{a}' $'a,b:\nx,1\ny,1.\n'
     fault "r:2: column 1 $wanted_number"$'\nr:3: 1 field, but line 1 has 2\n'"r:4: column 2 $wanted_number" \
         '{a}' $'a:,b:\nx,y\n1\n0,.5\n'
@@ -72,7 +109,6 @@ number_cases() {
 }
 
 template_cases() {
-    fault $'t:1:2: specified value not in context `a` at 1\n  |\n1 | {a}\n  | ~^~' '{a}' ''
     fault $'t:3:4: specified value not in context `q` at 25\n  |\n3 | é {q}\n  |   ~^~\n  = names: `name`' \
         $'Dear\n  é {name:>8},\né {q}' $'name\nAnn\nZoë\n'
     fault $'t:1:2: specified value not in context `nme` at 1\n  |\n1 | {nme}\n  | ~^~~~\n  = did you mean `name`? names: `item`, `name`' \
@@ -88,17 +124,24 @@ table_cases() {
     fault 'r:3: 1 field, but line 1 has 2' '{a}' $'a,b\n1,2\n3\n'
     fault 'r:2: 2 fields, but line 1 has 1' '{a}' $'a\n1,2\n'
     fault $'r:2: 1 field, but line 1 has 2\nr:4: 3 fields, but line 1 has 2\nr:5: 1 field, but line 1 has 2' \
-        '{a}' $'a,b\n1\n1,2\n1,2,3\n\n'
+        '{a}' $'a,b\n1\n1,2\n1,2,3\n\n7,8\n'
     fault 'r:1: column 2 has the name of an earlier column' '{a}' $'a,a\n1,2\n'
     fault $'r:1: column 3 has the name of an earlier column\nr:3: 1 field, but line 1 has 3' '{a}' \
         $'a,b, a\n1,2,3\n4\n'
-    fault "r:2: $unclosed" '{a}' $'a,b\n"1,2\n'
-    fault "r:2: $unclosed"$'\n'"r:3: $stray" '{a}' $'a\n"1\n2"\n'
-    fault "r:2: $stray" '{a}' $'a,b\n5" pipe,2\n'
-    fault "r:2: $stray" '{a}' $'a,b\n"5"" pipe" ,2\n'
-    fault "r:2: $stray" '{a}' $'a,b\n1, "2"\n'
-    fault "r:1: $stray" '{a}' $'a, "b"\n1,2\n'
-    fault "r:1: $unclosed" '{a}' $'a,"b\n1,2\n'
+    fault 'r: the table is empty: it has no names' '{a}' ''
+    fault 'r: the table is empty: it has no names' 'Dear' $'\r\n\n'
+    fault "r:2:1: $unclosed" '{a}' $'a,b\n"1,2\n'
+    fault "r:2:4: $unclosed" '{a}' $'a,b\né, "1\n2""\n\n'
+    fault 'r:2: 1 field, but line 1 has 2' '{a}' $'a,b\n"1\n2"\n'
+    fault "r:3:4: $stray"$'\nr:4: 1 field, but line 1 has 2' '{a}' $'a,b\n"1\n",5"\n1\n'
+    fault "r:2:2: $stray" '{a}' $'a,b\n5" pipe,2\n'
+    fault "r:2:9: $after_quote" '{a}' $'a,b\n"5"" é" x,2\n'
+    fault "r:3:3: $after_quote" '{a}' $'a,b\n1,"\n" "2"\n'
+    fault "r:1:8: $after_quote" '{a}' $'a, "b" c\n1,2\n'
+    fault "r:1:3: $unclosed" '{a}' $'a,"b\n1,2\n'
+    fault "r:2:2: $lone"$'\n'"r:3:4: $lone" '{a}' $'a\n1\r2\n"2"\r\r\n'
+    fault "r:1:2: $lone" '{a}' $'a\r1\r2\r'
+    fault $'r:2: 1 field, but line 1 has 2\n'"r:3:3: $unclosed" '{a}' $'a,b\n1\n1,"2'
 }
 
 # Wrong use, unreadable files and refused writes.
@@ -108,11 +151,15 @@ other_cases() {
     case_of file file 2 '' "$usage"$'\n' t r r
     case_of file file 2 '' "$usage"$'\n' -t r
     case_of file file 2 '' "$usage"$'\n' t --help
+    case_of file file 2 '' "$usage"$'\n' --separator t r
+    case_of file file 2 '' "$usage"$'\n' --separator : t r
+    case_of file file 2 '' "$usage"$'\n' --latin1 t
     case_of file file 3 '' $'none: No such file or directory (os error 2)\n' none r
     case_of file file 3 '' $'none: No such file or directory (os error 2)\n' t none
     printf 'a\n\xff\n' >b
-    case_of file file 3 '' $'b: stream did not contain valid UTF-8\n' t b
-    case_of file file 3 '' $'b: stream did not contain valid UTF-8\n' b r
+    case_of file file 3 '' $'b:2:1: byte 0xFF is no UTF-8; is this Latin-1? try --latin1\n' t b
+    case_of file file 3 '' $'b:2:1: byte 0xFF is no UTF-8\n' b r
+    case_of file file 3 '' $'.: Is a directory (os error 21)\n' t .
     files '{a}' $'a\n1\n'
     case_of closed file 3 '' '' t r
     case_of full file 3 '' '' t r
@@ -136,6 +183,7 @@ refused_calls() {
 
 all_cases() {
     letter_cases
+    record_cases
     number_cases
     template_cases
     table_cases

@@ -1,5 +1,4 @@
-mod CsvLemmas
 mod LetterLemmas
-mod LineLemmas
+mod NameLemmas
 mod TableLemmas
 mod ValueLemmas

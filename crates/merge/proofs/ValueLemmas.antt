@@ -1,15 +1,16 @@
 -- The views of the fields of a line, one after the other.
 use Rattle.std.proofs.Common.{◌≡◌, refl, inl, inr, ℕ, ◌+◌, ◌<◌, ◌≤◌, List, [], ◌∷◌, ◌++◌, length}
-use Rattle.std.proofs.Common.{map, drop, get_or, string_bytes, append-nil, append_assoc}
+use Rattle.std.proofs.Common.{map, drop, get_or, append-nil, append_assoc}
 use Rattle.std.proofs.Common.{Option, None, Some}
 use Rattle.std.proofs.lemmas.List.{drop_all, drop_more}
-use Rattle.std.specs.declared.string.String.{String}
 use Rattle.interpolator.specs.declared.View.{View}
 use Rattle.merge.specs.Columns.{kinds_in}
 use Rattle.merge.specs.Values.{AreShown, Fits, IsMisfit, Shows}
 use Rattle.merge.specs.declared.columns.Column.{Column}
 use Rattle.merge.specs.declared.columns.Kind.{Kind}
 use Rattle.merge.specs.declared.columns.Kind.TheVariants as kinds
+use Rattle.records.specs.Spellings.{text_of}
+use Rattle.records.specs.declared.field.Field.{Field}
 
 -- a field whose view there is is what its column wants
 shown_fits : (kind : Kind) (field : List ℕ) (view : View) → Shows kind field view → Fits kind field
@@ -24,30 +25,30 @@ none_misfits number (k ∷ ks) (f ∷ fs) (v ∷ vs) h =
     inl (shown_fits k f v h.0, none_misfits (number + 1) ks fs vs h.1)
 none_misfits number _ _ _ h = absurd h
 
-module _ {Z : Type 0} (columns : List Column) (fields : List (String Z)) where
+module _ (columns : List Column) (fields : List Field) where
   -- the fields before a place have these views: what is said of the fields from there on is said of
   -- all
   pub record AreShownTo (at : ℕ) (views : List View) : Type 0 where
     pub shown : (more : List View)
-        → AreShown (kinds_in (drop at columns)) (map string_bytes (drop at fields)) more
-        → AreShown (kinds_in columns) (map string_bytes fields) (views ++ more)
+        → AreShown (kinds_in (drop at columns)) (map text_of (drop at fields)) more
+        → AreShown (kinds_in columns) (map text_of fields) (views ++ more)
     pub misfit : (found : Option ℕ) → IsMisfit (at + 1) (kinds_in (drop at columns))
-        (map string_bytes (drop at fields)) found
-        → IsMisfit 1 (kinds_in columns) (map string_bytes fields) found
+        (map text_of (drop at fields)) found
+        → IsMisfit 1 (kinds_in columns) (map text_of fields) found
 
   -- all fields have views
   pub all_shown : (at : ℕ) (views : List View) → length columns ≤ at → length fields ≤ at
-      → AreShownTo at views → AreShown (kinds_in columns) (map string_bytes fields) views
+      → AreShownTo at views → AreShown (kinds_in columns) (map text_of fields) views
   all_shown at views columns_end fields_end so_far =
       rw append-nil at (so_far.shown []
       (rw (drop_all at columns columns_end, drop_all at fields fields_end) tt))
 
-  module _ (at : ℕ) (column : Column) (field : String Z) (some_columns : at < length columns)
+  module _ (at : ℕ) (column : Column) (field : Field) (some_columns : at < length columns)
       (some_fields : at < length fields) (here : field ≡ get_or fields at field)
       (views : List View) (so_far : AreShownTo at views) where
     -- the view of one more field
     pub shown_more : (view : View)
-        → Shows (get_or columns at column).kind (string_bytes field) view
+        → Shows (get_or columns at column).kind (text_of field) view
         → AreShownTo (at + 1) (views ++ (view ∷ []))
     shown_more view one = record {
       shown = λ more h. rw append_assoc (so_far.shown (view ∷ more)
@@ -58,7 +59,7 @@ module _ {Z : Type 0} (columns : List Column) (fields : List (String Z)) where
     }
 
     -- the next field is the first misfit
-    pub misfit_here : ¬ Fits (get_or columns at column).kind (string_bytes field)
-        → IsMisfit 1 (kinds_in columns) (map string_bytes fields) (Some (at + 1))
+    pub misfit_here : ¬ Fits (get_or columns at column).kind (text_of field)
+        → IsMisfit 1 (kinds_in columns) (map text_of fields) (Some (at + 1))
     misfit_here none = so_far.misfit (Some (at + 1))
         (rw (drop_more columns at column, drop_more fields at field, ← here) (inr (none, refl)))

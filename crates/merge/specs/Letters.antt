@@ -1,7 +1,7 @@
 -- What the letters of a template and a table are. Template, table, lines and fields are bytes, and
 -- letters are characters.
-use Rattle.std.specs.Prelude.{◌≡◌, ◌≢◌, ◌⊎◌, ℕ, List, [], ◌++◌, map}
-use Rattle.std.specs.Prelude.{None, Some, Option, Result, MatchResult}
+use Rattle.std.specs.Prelude.{◌≡◌, ◌≢◌, ◌⊎◌, ℕ, Bool, false, true, List, [], ◌++◌, map}
+use Rattle.std.specs.Prelude.{None, Some, Option, Result, Ok, Err, MatchResult}
 use Rattle.std.specs.Borrow.{Bor}
 use Rattle.std.specs.Str.{chars}
 use Rattle.interpolator.specs.At.{outermost, text_of}
@@ -19,9 +19,11 @@ use Rattle.interpolator.specs.declared.Formattable.{Formattable}
 use Rattle.interpolator.specs.declared.Spec.{Spec}
 use Rattle.interpolator.specs.declared.Trait.{Trait}
 use Rattle.interpolator.specs.declared.View.{View}
-use Rattle.merge.specs.Csv.{fields_of}
-use Rattle.merge.specs.Table.{AreFaults, AreFaultsIn, HasTrouble, Joins, kinds_of, names_of}
-use Rattle.merge.specs.Values.{AreShown, IsMisfit, as_value, example_slots}
+use Rattle.merge.specs.Table.{AreFaults, AreFaultsIn, AreFaultsOf, HasHeader, HasTrouble, IsTable}
+use Rattle.merge.specs.Table.{IsToldOf, Joins, kinds_of, names_of}
+use Rattle.records.specs.Tables.{At, Entry, Gives}
+use Rattle.records.specs.declared.separator.Separator.{Separator}
+use Rattle.merge.specs.Values.{AreShown, as_value, example_slots}
 use Rattle.merge.specs.declared.columns.Kind.{Kind}
 use Rattle.merge.specs.declared.letters.Fault.{Fault}
 use Rattle.merge.specs.declared.letters.Fault.TheVariants as why
@@ -49,9 +51,9 @@ pub record HasNames (names : List (List ℕ)) (kinds : List Kind) (sample : Samp
 
 -- ---- letters
 
--- a template that is prepared for the names of a table
-abbrev pub form_of : (template table : List ℕ) → PreparedFormat
-form_of template table = record { text = template; names = names_of table }
+-- a template that is prepared for the names of a header
+abbrev pub form_of : (template : List ℕ) → (header : List (List ℕ)) → PreparedFormat
+form_of template header = record { text = template; names = names_of header }
 
 -- what it means with a row of values
 abbrev pub letter_means : PreparedFormat → Row → Meaning
@@ -72,16 +74,15 @@ pub record IsLetterOf (form : PreparedFormat) (kinds : List Kind) (fields : List
   pub shown : AreShown kinds fields views
   pub is : IsLetterWith form views letter
 
--- a text is the letter of a line, with which nothing is wrong
-abbrev pub IsLetter : PreparedFormat → List Kind → (line letter : List ℕ) → Type 0
-IsLetter form kinds line letter =
-    HasTrouble kinds line None × IsLetterOf form kinds (fields_of line) letter
+-- a text is the letter of a record, with which nothing is wrong
+abbrev pub IsLetter : PreparedFormat → List Kind → Entry → (letter : List ℕ) → Type 0
+IsLetter form kinds (Ok (line, fields)) letter =
+    HasTrouble kinds fields None × IsLetterOf form kinds fields letter
+IsLetter form kinds (Err fault) letter = ⊥
 
--- a text is the letters of some lines, one after the other
-abbrev pub AreLetters : PreparedFormat → List Kind → (some_lines : List (List ℕ)) → (text : List ℕ)
-    → Type 0
-AreLetters form kinds some_lines text =
-    Joins (λ _ line letter. IsLetter form kinds line letter) 2 some_lines text
+-- a text is the letters of some records, one after the other
+abbrev pub AreLetters : PreparedFormat → List Kind → (rows : List Entry) → (text : List ℕ) → Type 0
+AreLetters form kinds rows text = Joins (IsLetter form kinds) rows text
 
 -- ---- faults of the template
 
@@ -124,19 +125,59 @@ PutsIf form kinds fields old new None =
     (letter : List ℕ) × IsLetterOf form kinds fields letter × (new ≡ old ++ letter)
 PutsIf form kinds fields old new (Some trouble) = new ≡ old
 
--- the faults of some lines were found; if there are none, a text is the lines' letters
-pub record WritesRows (form : PreparedFormat) (kinds : List Kind) (some_lines : List (List ℕ))
-    (text : List ℕ) (found : List LineFault) : Type 0 where
-  pub faults : AreFaults kinds 2 some_lines found
-  pub letters : found ≡ [] → AreLetters form kinds some_lines text
+-- a record has its letter appended to a text, or what is told of it to what was found
+pub record WritesEntry (form : PreparedFormat) (kinds : List Kind) (entry : Entry)
+    (old new : List LineFault) (text new_text : List ℕ) : Type 0 where
+  pub told : List LineFault
+  pub is : IsToldOf kinds entry told
+  pub found : new ≡ old ++ told
+  pub puts : told ≡ []
+      → (letter : List ℕ) × IsLetter form kinds entry letter × (new_text ≡ text ++ letter)
 
--- a fault is that of these lines
-abbrev pub HasLines : Fault → List LineFault → Type 0
-HasLines (why.Template error) some_faults = ⊥
-HasLines (why.Table told) some_faults = told.items ≡ some_faults
+-- a table goes on with an entry, which is written; or it is at its end
+abbrev pub WritesNext : Separator → PreparedFormat → List Kind → (more : Bool) → (from to : At)
+    → (old new : List LineFault) → (text new_text : List ℕ) → Type 0
+WritesNext separator form kinds true from to old new text new_text =
+    (entry : Entry) × Gives separator entry from to
+    × WritesEntry form kinds entry old new text new_text
+WritesNext separator form kinds false from to old new text new_text =
+    (from.text ≡ []) × (new ≡ old) × (new_text ≡ text)
+
+-- the faults of some rows were found; if there are none, a text is their letters
+pub record WritesRows (form : PreparedFormat) (kinds : List Kind) (rows : List Entry)
+    (text : List ℕ) (found : List LineFault) : Type 0 where
+  pub faults : AreFaults kinds rows found
+  pub letters : found ≡ [] → AreLetters form kinds rows text
+
+-- a text is the letters of a template and a table, with neither of which anything is wrong
+pub record IsMerged (separator : Separator) (template table letters : List ℕ) : Type 0 where
+  pub header : List (List ℕ)
+  pub rows : List Entry
+  pub is : IsTable separator table header rows
+  pub sound : IsSound (form_of template header) (kinds_of header)
+  pub whole : AreFaultsOf header rows []
+  pub are_letters : AreLetters (form_of template header) (kinds_of header) rows letters
+
+-- a template is wrong with an error, by the header of a table: its fault, or memory was refused
+abbrev pub IsWrongIn : Separator → (template table : List ℕ) → Error → Type 0
+IsWrongIn separator template table error = (answer_of error ≡ no_memory)
+    ⊎ ((header : List (List ℕ)) × (after : At) × HasHeader separator table header after
+    × IsFault (form_of template header) (kinds_of header) error)
 
 -- why there are no letters: the template is wrong with an error, or the table has these faults
-abbrev pub Prevents : (template table : List ℕ) → Fault → Type 0
-Prevents template table (why.Template error) =
-    IsWrong (form_of template table) (kinds_of table) error
-Prevents template table (why.Table told) = AreFaultsIn table told.items × (told.items ≢ [])
+abbrev pub Prevents : Separator → (template table : List ℕ) → Fault → Type 0
+Prevents separator template table (why.Template error) =
+    IsWrongIn separator template table error
+Prevents separator template table (why.Table told) =
+    AreFaultsIn separator table told.items × (told.items ≢ [])
+
+-- a fault is that of these lines, or memory was refused
+abbrev pub IsOneFault : Fault → List LineFault → Type 0
+IsOneFault (why.Template error) told = answer_of error ≡ no_memory
+IsOneFault (why.Table faults) told = faults.items ≡ told
+
+-- columns are those of a header
+pub record AreColumns (header : List (List ℕ)) (names : List (List ℕ)) (kinds : List Kind) : Type 0
+  where
+    pub same_names : names ≡ names_of header
+    pub same_kinds : kinds ≡ kinds_of header

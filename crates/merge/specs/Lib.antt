@@ -1,6 +1,6 @@
 -- What the letters of a template and a table are.
 pub mod Columns
-pub mod Csv
 pub mod Letters
+pub mod Names
 pub mod Table
 pub mod Values

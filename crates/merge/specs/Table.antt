@@ -1,99 +1,92 @@
--- The names of a table, and what is wrong with its lines.
-use Rattle.std.specs.Prelude.{◌≡◌, ◌+◌, ◌==◌, ℕ, Bool, cond, List, [], ◌∷◌, ◌++◌, map, drop}
-use Rattle.std.specs.Prelude.{get_or, length, Option, None, Some}
+-- The header of a table, and what is wrong with its records.
+use Rattle.std.specs.Prelude.{◌≡◌, ◌⊎◌, ◌+◌, ◌==◌, ℕ, Bool, cond, List, [], ◌∷◌, ◌++◌, map}
+use Rattle.std.specs.Prelude.{length, Option, None, Some, Ok, Err}
 use Rattle.std.specs.List.{list_any}
 use Rattle.std.specs.Option.{option_map}
 use Rattle.std.specs.Str.{bytes_eq}
-use Rattle.std.specs.Str.Lines.{lines}
 use Rattle.merge.specs.Columns.{column_of}
-use Rattle.merge.specs.Csv.{Reading, all_fields, fields_of, read}
 use Rattle.merge.specs.Values.{IsMisfit}
 use Rattle.merge.specs.declared.columns.Kind.{Kind}
-use Rattle.merge.specs.declared.csv.Part.{Part}
-use Rattle.merge.specs.declared.csv.Part.TheVariants.{Start, Plain, Quoted, Closed, Stray}
 use Rattle.merge.specs.declared.table.LineFault.{LineFault}
 use Rattle.merge.specs.declared.table.Trouble.{Trouble}
 use Rattle.merge.specs.declared.table.Trouble.TheVariants as troubles
+use Rattle.records.specs.Heads.{Starts}
+use Rattle.records.specs.Tables.{AreEntries, At, Entry, GivesFault, GivesRecord}
+use Rattle.records.specs.declared.fault.Fault.{Fault}
+use Rattle.records.specs.declared.separator.Separator.{Separator}
 
--- the first line
-abbrev pub header_of : List ℕ → List ℕ
-header_of table = get_or (lines table) 0 []
+-- ---- the header
 
--- the columns, which the fields of the first line name
-abbrev pub columns_of : List ℕ → List (List ℕ × Kind)
-columns_of table = map column_of (fields_of (header_of table))
+-- the columns, which the fields of the header name
+abbrev pub columns_of : (header : List (List ℕ)) → List (List ℕ × Kind)
+columns_of header = map column_of header
 
 -- their names, and what the fields under them are
-abbrev pub names_of : List ℕ → List (List ℕ)
-names_of table = map (λ column. column.0) (columns_of table)
+abbrev pub names_of : (header : List (List ℕ)) → List (List ℕ)
+names_of header = map (λ column. column.0) (columns_of header)
 
-abbrev pub kinds_of : List ℕ → List Kind
-kinds_of table = map (λ column. column.1) (columns_of table)
+abbrev pub kinds_of : (header : List (List ℕ)) → List Kind
+kinds_of header = map (λ column. column.1) (columns_of header)
 
--- the lines after the first
-abbrev pub rows_of : List ℕ → List (List ℕ)
-rows_of table = drop 1 (lines table)
+-- the first record of a table is its header, with other records after it
+pub record HasHeader (separator : Separator) (table : List ℕ) (header : List (List ℕ)) (after : At)
+    : Type 0 where
+  pub start : At
+  pub starts : Starts table start
+  pub first : GivesRecord separator header start after
 
--- what is wrong with quotes, by where the reader is at the end of a line
-abbrev pub quote_trouble : Part → Option Trouble
-quote_trouble Start = None
-quote_trouble Plain = None
-quote_trouble Quoted = Some troubles.Unclosed
-quote_trouble Closed = None
-quote_trouble Stray = Some troubles.Stray
+-- a table has a header, and these records and faults after it
+abbrev pub IsTable : Separator → (table : List ℕ) → (header : List (List ℕ)) → (rows : List Entry)
+    → Type 0
+IsTable separator table header rows =
+    (after : At) × HasHeader separator table header after × AreEntries separator rows after
+
+-- ---- a record
 
 -- there are not as many fields as names
 abbrev pub count_trouble : (count names : ℕ) → Option Trouble
 count_trouble count names = cond (count == names) None (Some (troubles.Fields count))
 
--- the first of two
-abbrev pub first_some : Option Trouble → Option Trouble → Option Trouble
-first_some (Some trouble) other = Some trouble
-first_some None other = other
-
--- what is wrong with a line that was read
-abbrev pub trouble_in : ℕ → Reading → Option Trouble
-trouble_in names reading =
-    first_some (quote_trouble reading.part) (count_trouble (length (all_fields reading)) names)
-
--- what is wrong with the quotes or the number of fields of a line, if there are so many names
-abbrev pub trouble_of : ℕ → List ℕ → Option Trouble
-trouble_of names line = trouble_in names (read line)
-
--- what is wrong with the quotes or the number of fields, or else with the fields: the first that is
--- no number where one is wanted
+-- what is wrong with the number of fields, or else with the fields: the first that is no number
+-- where one is wanted
 abbrev pub IsTrouble : List Kind → (fields : List (List ℕ)) → (shape found : Option Trouble)
     → Type 0
 IsTrouble kinds fields (Some trouble) found = found ≡ Some trouble
 IsTrouble kinds fields None found = (misfit : Option ℕ) × IsMisfit 1 kinds fields misfit
     × (found ≡ option_map troubles.NotNumber misfit)
 
--- what is wrong with a line of some columns
-abbrev pub HasTrouble : List Kind → (line : List ℕ) → Option Trouble → Type 0
-HasTrouble kinds line found =
-    IsTrouble kinds (fields_of line) (trouble_of (length kinds) line) found
+-- what is wrong with a record of some columns
+abbrev pub HasTrouble : List Kind → (fields : List (List ℕ)) → Option Trouble → Type 0
+HasTrouble kinds fields found =
+    IsTrouble kinds fields (count_trouble (length fields) (length kinds)) found
+
+-- ---- what is told
 
 -- a line with what is wrong with it
 abbrev pub with_line : ℕ → Option Trouble → List LineFault
 with_line number None = []
 with_line number (Some trouble) = record { line = number; trouble = trouble } ∷ []
 
--- a whole is parts, one after the other: one for each line, by its number
-abbrev pub Joins : {A : Type 0} → (Part : ℕ → List ℕ → List A → Type 0) → (number : ℕ)
-    → (some_lines : List (List ℕ)) → (whole : List A) → Type 0
-Joins Part number [] whole = whole ≡ []
-Joins {A} Part number (line ∷ more) whole = (part : List A) × (rest : List A)
-    × Part number line part × Joins Part (number + 1) more rest × (whole ≡ part ++ rest)
+-- a fault by which the table goes on with no record
+abbrev pub broken : Fault → List LineFault
+broken fault = with_line fault.place.line (Some (troubles.Broken fault))
 
--- what is told of a line
-abbrev pub IsToldOf : List Kind → (number : ℕ) → (line : List ℕ) → List LineFault → Type 0
-IsToldOf kinds number line told =
-    (trouble : Option Trouble) × HasTrouble kinds line trouble × (told ≡ with_line number trouble)
+-- a whole is parts, one after the other: one for each record or fault
+abbrev pub Joins : {A : Type 0} → (Part : Entry → List A → Type 0) → (rows : List Entry)
+    → (whole : List A) → Type 0
+Joins Part [] whole = whole ≡ []
+Joins {A} Part (row ∷ more) whole = (part : List A) × (rest : List A)
+    × Part row part × Joins Part more rest × (whole ≡ part ++ rest)
 
--- these are the faults of lines, of which the first has this number
-abbrev pub AreFaults : List Kind → (number : ℕ) → (some_lines : List (List ℕ)) → List LineFault
-    → Type 0
-AreFaults kinds number some_lines told = Joins (IsToldOf kinds) number some_lines told
+-- what is told of a record, or of a fault
+abbrev pub IsToldOf : List Kind → Entry → List LineFault → Type 0
+IsToldOf kinds (Ok (line, fields)) told =
+    (trouble : Option Trouble) × HasTrouble kinds fields trouble × (told ≡ with_line line trouble)
+IsToldOf kinds (Err fault) told = told ≡ broken fault
+
+-- these are the faults of all that comes after the header
+abbrev pub AreFaults : List Kind → (rows : List Entry) → List LineFault → Type 0
+AreFaults kinds rows told = Joins (IsToldOf kinds) rows told
 
 -- a name is among others
 abbrev pub is_among : List (List ℕ) → List ℕ → Bool
@@ -114,13 +107,20 @@ repeats_after before (name ∷ more) =
 abbrev pub repeats : List (List ℕ) → List LineFault
 repeats names = repeats_after [] names
 
--- these are the faults of a table whose first line has its quotes in order, or not
-abbrev pub AreFaultsBy : Option Trouble → (table : List ℕ) → List LineFault → Type 0
-AreFaultsBy (Some trouble) table told = told ≡ with_line 1 (Some trouble)
-AreFaultsBy None table told = (others : List LineFault)
-    × AreFaults (kinds_of table) 2 (rows_of table) others
-    × (told ≡ repeats (names_of table) ++ others)
+-- these are the faults of a table with this header and these rows
+abbrev pub AreFaultsOf : (header : List (List ℕ)) → (rows : List Entry) → List LineFault → Type 0
+AreFaultsOf header rows told = (others : List LineFault) × AreFaults (kinds_of header) rows others
+    × (told ≡ repeats (names_of header) ++ others)
 
--- these are the faults of a table: if the names can be read, of all lines
-abbrev pub AreFaultsIn : (table : List ℕ) → List LineFault → Type 0
-AreFaultsIn table told = AreFaultsBy (quote_trouble (read (header_of table)).part) table told
+-- a table has no header: it is empty, or goes on with no record
+abbrev pub HasNoHeader : Separator → (table : List ℕ) → List LineFault → Type 0
+HasNoHeader separator table told = (start : At) × Starts table start
+    × (((start.text ≡ []) × (told ≡ with_line 1 (Some troubles.Empty)))
+    ⊎ ((fault : Fault) × (after : At) × GivesFault separator fault start after
+    × (told ≡ broken fault)))
+
+-- these are the faults of a table: if it has a header, of all its names and rows
+abbrev pub AreFaultsIn : Separator → (table : List ℕ) → List LineFault → Type 0
+AreFaultsIn separator table told = HasNoHeader separator table told
+    ⊎ ((header : List (List ℕ)) × (rows : List Entry) × IsTable separator table header rows
+    × AreFaultsOf header rows told)

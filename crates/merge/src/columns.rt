@@ -1,8 +1,10 @@
 //! The columns of a table: their names, and what their fields are.
 
-ghost use Rattle.std.specs.Prelude.{◌≡◌, IfOk, map, string_bytes};
+ghost use Rattle.std.specs.Prelude.{◌≡◌, IfOk, map};
 ghost use Rattle.merge.specs.Columns.{as_column, column_of, kinds_in};
+ghost use Rattle.records.specs.Spellings.{text_of};
 
+use records::Field;
 use std::alloc::{AllocError, Global};
 
 /// What the fields of a column are.
@@ -42,11 +44,11 @@ fn column_of(field: &str) -> Column<'_>
 }
 
 /// The columns that the fields of the first line name.
-pub fn columns_of(alloc: Global, fields: &[String]) -> Result<Vec<Column<'_>>, AllocError>
+pub fn columns_of<'a>(alloc: Global, fields: &'a [Field<'_>]) -> Result<Vec<Column<'a>>, AllocError>
     ensures kinds { IfOk result (λ columns. kinds_in columns.items
-        ≡ map (λ column. column.1) (map column_of (map (λ field. string_bytes field) fields.now))) }
+        ≡ map (λ column. column.1) (map column_of (map text_of fields.now))) }
     ensures names { IfOk result (λ columns. map (λ column. column.name.now) columns.items
-        ≡ map (λ column. column.0) (map column_of (map (λ field. string_bytes field) fields.now))) }
+        ≡ map (λ column. column.0) (map column_of (map text_of fields.now))) }
 {
     let mut columns = Vec::with_capacity(alloc, fields.len())?;
     for field in fields.iter() {

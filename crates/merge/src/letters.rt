@@ -1,6 +1,6 @@
 //! The letters of a template and a table.
 
-ghost use Rattle.std.specs.Prelude.{◌≡◌, ℕ, List, [], IfOk, IfErr};
+ghost use Rattle.std.specs.Prelude.{◌≡◌, ◌<◌, ℕ, List, [], IfOk, IfErr, OnOk, true};
 ghost use Rattle.std.specs.Prelude.{None, Some, length, map, string_bytes};
 ghost use Rattle.std.specs.Str.{chars};
 ghost use Rattle.interpolator.specs.Faults.{answer_of, no_memory};
@@ -8,18 +8,18 @@ ghost use Rattle.interpolator.specs.Prepared.Rows.{pair_names};
 ghost use Rattle.interpolator.specs.Slots.{slots_of};
 ghost use Rattle.interpolator.specs.declared.Error.TheVariants.{NoMemory};
 ghost use Rattle.merge.specs.Columns.{kinds_in};
-ghost use Rattle.merge.specs.Csv.{fields_of, read};
-ghost use Rattle.merge.specs.Letters.{AreLetters, HasLines, HasNames, IsReady, IsSound, IsWrong};
-ghost use Rattle.merge.specs.Letters.{Prevents, PutsIf, PutsLetter, WritesRows, form_of};
-ghost use Rattle.merge.specs.Table.{AreFaultsIn, HasTrouble, IsTrouble, header_of, kinds_of};
-ghost use Rattle.merge.specs.Table.{names_of, quote_trouble, rows_of, with_line};
+ghost use Rattle.merge.specs.Letters.{AreColumns, HasNames, IsMerged, IsReady, IsWrong, Prevents};
+ghost use Rattle.merge.specs.Letters.{IsOneFault, PutsIf, PutsLetter, WritesNext, WritesRows};
+ghost use Rattle.merge.specs.Table.{HasHeader, HasTrouble, IsTrouble, with_line};
 ghost use Rattle.merge.specs.Values.{AreShown, example_by};
 ghost use Rattle.merge.specs.declared.letters.Fault.TheVariants.{Template};
+ghost use Rattle.records.specs.Heads.{Starts};
+ghost use Rattle.records.specs.Spellings.{text_of};
+ghost use Rattle.records.specs.Tables.{AreEntries, Entry, GivesRecord, at, separator_of};
 
 use crate::columns::{Column, columns_of};
-use crate::csv::read_line;
 use crate::table::{
-    LineFault, Trouble, header_of, is_clean, push_fault, quote_trouble, repeats_of, trouble_in,
+    LineFault, Trouble, count_trouble, is_clean, push_broken, push_fault, repeats_of,
 };
 use crate::values::{example_of, row_of, views_of};
 use interpolator::{
@@ -27,6 +27,7 @@ use interpolator::{
 };
 use interpolator_laws::prepared::a_prepared_format_is_written;
 use interpolator_laws::samples::a_view_has_a_text_by_its_kind;
+use records::{Field, ReadError, Reader, Separator};
 use std::alloc::{AllocError, Global};
 
 /// Why there are no letters.
@@ -126,14 +127,14 @@ fn write_fields(
     out: &mut TextBuffer,
     letter: &Prepared,
     frame: Frame<'_>,
-    fields: &[String],
+    fields: &[Field<'_>],
 ) -> Result<Option<Trouble>, Error>
     requires ready { IsReady letter.now (kinds_in frame.columns.now) frame.sample.now }
     requires whole { length fields.now ≡ length frame.columns.now }
     ensures trouble { IfOk result (λ trouble. IsTrouble (kinds_in frame.entry.columns.now)
-        (map (λ field. string_bytes field) fields.now) None trouble) }
+        (map text_of fields.now) None trouble) }
     ensures ok { IfOk result (λ trouble. PutsIf letter.now (kinds_in frame.entry.columns.now)
-        (map (λ field. string_bytes field) fields.now) out.old.text out.new.text trouble) }
+        (map text_of fields.now) out.old.text out.new.text trouble) }
     ensures err { IfErr result (λ error. answer_of error ≡ no_memory) }
 {
     let read = views_of(alloc, frame.columns, fields)?;
@@ -146,105 +147,151 @@ fn write_fields(
     }
 }
 
-/// Writes the letter of a line, or returns what is wrong with the line.
-fn write_line(
+/// Writes the letter of a record, or returns what is wrong with it.
+fn write_record(
     alloc: Global,
     out: &mut TextBuffer,
     letter: &Prepared,
     frame: Frame<'_>,
-    line: &str,
+    fields: &[Field<'_>],
 ) -> Result<Option<Trouble>, Error>
     requires ready { IsReady letter.now (kinds_in frame.columns.now) frame.sample.now }
     ensures trouble { IfOk result (λ trouble.
-        HasTrouble (kinds_in frame.entry.columns.now) line.now trouble) }
+        HasTrouble (kinds_in frame.entry.columns.now) (map text_of fields.now) trouble) }
     ensures ok { IfOk result (λ trouble. PutsIf letter.now (kinds_in frame.entry.columns.now)
-        (fields_of line.now) out.old.text out.new.text trouble) }
+        (map text_of fields.now) out.old.text out.new.text trouble) }
     ensures err { IfErr result (λ error. answer_of error ≡ no_memory) }
 {
-    let reading = read_line(alloc, line)?;
-    match trouble_in(&reading, frame.columns.len()) {
+    match count_trouble(fields.len(), frame.columns.len()) {
         Some(trouble) => Ok(Some(trouble)),
-        None => {
-            let fields = reading.into_fields()?;
-            let trouble = write_fields(alloc, out, letter, frame, fields.as_slice())?;
-            Ok(trouble)
-        }
+        None => write_fields(alloc, out, letter, frame, fields),
     }
 }
 
-/// Writes the letters of all lines of a table after the first, and returns the lines that have
-/// none, with what is wrong with them.
-fn write_lines(
+/// Writes the letter of the next record, or appends what is wrong with it. Returns whether there
+/// was one.
+fn write_next<'a>(
+    alloc: Global,
+    out: &mut TextBuffer,
+    faults: &mut Vec<LineFault>,
+    letter: &Prepared,
+    frame: Frame<'_>,
+    reader: &mut Reader<'a>,
+    fields: &mut Vec<Field<'a>>,
+) -> Result<bool, Error>
+    requires ready { IsReady letter.now (kinds_in frame.columns.now) frame.sample.now }
+    ensures ok { IfOk result (λ more. WritesNext (separator_of reader.old) letter.now
+        (kinds_in frame.entry.columns.now) more (at reader.old) (at reader.new) faults.old.items
+        faults.new.items out.old.text out.new.text) }
+    ensures same { separator_of reader.new ≡ separator_of reader.old }
+    ensures shorter { IfOk result (λ more. more ≡ true
+        → length (at reader.new).text < length (at reader.old).text) }
+    ensures err { IfErr result (λ error. answer_of error ≡ no_memory) }
+{
+    match reader.next_record(alloc, fields) {
+        Ok(None) => Ok(false),
+        Ok(Some(line)) => {
+            let trouble = write_record(alloc, out, letter, frame, fields.as_slice())?;
+            push_fault(faults, line, trouble)?;
+            Ok(true)
+        }
+        Err(ReadError::Fault(fault)) => {
+            push_broken(faults, fault)?;
+            Ok(true)
+        }
+        Err(ReadError::NoMemory) => Err(Error::NoMemory),
+    }
+}
+
+/// Writes the letters of all records that a reader has left, and returns what is wrong with those
+/// that have none.
+fn write_rows(
     alloc: Global,
     out: &mut TextBuffer,
     letter: &Prepared,
     frame: Frame<'_>,
-    table: &str,
+    rest: Reader<'_>,
 ) -> Result<Vec<LineFault>, Error>
     requires ready { IsReady letter.now (kinds_in frame.columns.now) frame.sample.now }
     requires empty { out.old.text ≡ [] }
-    ensures ok { IfOk result (λ faults. WritesRows letter.now (kinds_in frame.entry.columns.now)
-        (rows_of table.now) out.new.text faults.items) }
+    ensures ok { IfOk result (λ faults. (rows : List Entry)
+        × AreEntries (separator_of rest.entry) rows (at rest.entry)
+        × WritesRows letter.now (kinds_in frame.entry.columns.now) rows out.new.text faults.items) }
     ensures err { IfErr result (λ error. answer_of error ≡ no_memory) }
 {
+    let mut reader = rest;
+    let mut fields = Vec::new(alloc);
     let mut faults = Vec::new(alloc);
-    let mut number = 1usize;
-    for line in table.lines().skip(1) {
-        number += 1;
-        let trouble = write_line(alloc, out, letter, frame, line)?;
-        push_fault(&mut faults, number, trouble)?;
-    }
+    'rows: while write_next(
+        alloc,
+        out,
+        &mut faults,
+        letter,
+        frame,
+        &mut reader,
+        &mut fields,
+    )? {}
     Ok(faults)
 }
 
-/// The fault of a table whose first line has a fault by which its names cannot be read.
-fn broken_header(alloc: Global, trouble: Trouble) -> Result<Fault, AllocError>
-    ensures { IfOk result (λ fault. HasLines fault (with_line 1 (Some trouble))) }
+/// The fault of a table with this one trouble, in this line.
+fn one_fault(alloc: Global, line: usize, trouble: Trouble) -> Fault
+    ensures { IsOneFault result (with_line line (Some trouble)) }
 {
     let mut faults = Vec::new(alloc);
-    push_fault(&mut faults, 1, Some(trouble))?;
-    Ok(Fault::Table(faults))
-}
-
-/// The fields of the first line, unless its quotes are not in order.
-fn header_fields(alloc: Global, table: &str) -> Result<Vec<String>, Fault>
-    ensures ok { IfOk result (λ fields.
-        map (λ field. string_bytes field) fields.items ≡ fields_of (header_of table.now)) }
-    ensures closed { IfOk result (λ _. quote_trouble (read (header_of table.now)).part ≡ None) }
-    ensures err { (template : List ℕ) → IfErr result (Prevents template table.now) }
-{
-    let header = read_line(alloc, header_of(table))?;
-    if let Some(trouble) = quote_trouble(&header) {
-        return Err(broken_header(alloc, trouble)?);
+    match push_fault(&mut faults, line, Some(trouble)) {
+        Ok(()) => Fault::Table(faults),
+        Err(_) => Fault::Template(Error::NoMemory),
     }
-    Ok(header.into_fields()?)
 }
 
-/// A letter for each line of a table, which has these columns, and examples of them.
+/// Fills in the fields of the header, which the reader of a table begins with.
+fn read_header<'a>(
+    alloc: Global,
+    reader: &mut Reader<'a>,
+    fields: &mut Vec<Field<'a>>,
+) -> Result<(), Fault>
+    ensures ok { OnOk result (GivesRecord (separator_of reader.old) (map text_of fields.new.items)
+        (at reader.old) (at reader.new)) }
+    ensures same { separator_of reader.new ≡ separator_of reader.old }
+    ensures err { (template table : List ℕ) → Starts table (at reader.old)
+        → IfErr result (Prevents (separator_of reader.old) template table) }
+{
+    match reader.next_record(alloc, fields) {
+        Ok(Some(_)) => Ok(()),
+        Ok(None) => Err(one_fault(alloc, 1, Trouble::Empty)),
+        Err(ReadError::Fault(fault)) => {
+            Err(one_fault(alloc, fault.place.line, Trouble::Broken(fault)))
+        }
+        Err(ReadError::NoMemory) => Err(Fault::Template(Error::NoMemory)),
+    }
+}
+
+/// A letter for each record that a reader has left, of these columns, and examples of them.
 fn letters_of<'a>(
     alloc: Global,
     template: &Template,
     columns: &'a [Column<'a>],
     sample: &'a [(&'a str, Formattable<'a, View<'a>>)],
-    table: &str,
+    rest: Reader<'_>,
 ) -> Result<String, Fault>
-    requires kinds { kinds_in columns.now ≡ kinds_of table.now }
-    requires names { map (λ column. column.name.now) columns.now ≡ names_of table.now }
-    requires sample { HasNames (map (λ column. column.name.now) columns.now)
-        (kinds_in columns.now) sample.now }
-    requires closed { quote_trouble (read (header_of table.now)).part ≡ None }
-    ensures sound { IfOk result (λ _.
-        IsSound (form_of template.now table.now) (kinds_of table.now)) }
-    ensures whole { IfOk result (λ _. AreFaultsIn table.now []) }
-    ensures letters { IfOk result (λ letters. AreLetters (form_of template.now table.now)
-        (kinds_of table.now) (rows_of table.now) (chars (string_bytes letters))) }
-    ensures fault { IfErr result (λ fault. Prevents template.now table.now fault) }
+    requires { HasNames (map (λ column. column.name.now) columns.now) (kinds_in columns.now)
+        sample.now }
+    ensures ok { (table : List ℕ) (header : List (List ℕ))
+        → HasHeader (separator_of rest.entry) table header (at rest.entry)
+        → AreColumns header (map (λ column. column.name.now) columns.now) (kinds_in columns.now)
+        → IfOk result (λ letters. IsMerged (separator_of rest.entry) template.now table
+        (chars (string_bytes letters))) }
+    ensures err { (table : List ℕ) (header : List (List ℕ))
+        → HasHeader (separator_of rest.entry) table header (at rest.entry)
+        → AreColumns header (map (λ column. column.name.now) columns.now) (kinds_in columns.now)
+        → IfErr result (Prevents (separator_of rest.entry) template.now table) }
 {
     let frame = Frame { columns, sample };
     let letter = prepared_letter(alloc, template, frame)?;
     let mut faults = repeats_of(alloc, columns)?;
     let mut out = TextBuffer::new(alloc);
-    let others = write_lines(alloc, &mut out, &letter, frame, table)?;
+    let others = write_rows(alloc, &mut out, &letter, frame, rest)?;
     faults.extend_from_slice(others.as_slice())?;
     if is_clean(&faults) {
         return Ok(out.into_string());
@@ -252,27 +299,31 @@ fn letters_of<'a>(
     Err(Fault::Table(faults))
 }
 
-/// A letter for each line of the table after the first, which names the fields. The template is
+/// A letter for each record of the table after the first, which names the fields. The template is
 /// read, checked and prepared once, before the first letter: after that no letter can have a fault.
 ///
 /// # Errors
 ///
-/// The fault of a first line whose names cannot be read; the first fault that the template has with
-/// the names; the faults of all lines; `NoMemory`.
-pub fn merged(alloc: Global, template: &str, table: &str) -> Result<String, Fault>
-    ensures sound { IfOk result (λ _.
-        IsSound (form_of template.now table.now) (kinds_of table.now)) }
-    ensures whole { IfOk result (λ _. AreFaultsIn table.now []) }
-    ensures letters { IfOk result (λ letters. AreLetters (form_of template.now table.now)
-        (kinds_of table.now) (rows_of table.now) (chars (string_bytes letters))) }
-    ensures fault { IfErr result (λ fault. Prevents template.now table.now fault) }
+/// The fault of a first record whose names cannot be read; the first fault that the template has
+/// with the names; the faults of all records; `NoMemory`.
+pub fn merged(
+    alloc: Global,
+    template: &str,
+    table: &str,
+    separator: Separator,
+) -> Result<String, Fault>
+    ensures ok { IfOk result (λ letters.
+        IsMerged separator template.now table.now (chars (string_bytes letters))) }
+    ensures err { IfErr result (Prevents separator template.now table.now) }
 {
     let template = Template::parse(alloc, template)?;
-    let fields = header_fields(alloc, table)?;
+    let mut reader = Reader::new(table, separator);
+    let mut fields = Vec::new(alloc);
+    read_header(alloc, &mut reader, &mut fields)?;
     let held = columns_of(alloc, fields.as_slice())?;
     let columns = held.as_slice();
     let text = View::Character('a');
     let number = View::Decimal { units: 0, scale: 0 };
     let sample = sample_of(alloc, columns, &text, &number)?;
-    letters_of(alloc, &template, columns, sample.as_slice(), table)
+    letters_of(alloc, &template, columns, sample.as_slice(), reader)
 }

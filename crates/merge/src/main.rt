@@ -1,38 +1,39 @@
-//! `merge TEMPLATE TABLE`: a letter for each row of the table.
+//! `merge TEMPLATE TABLE`: a letter for each record of the table.
 //!
-//! The first line of the table names its columns; white space around a name does not count. A name
-//! that ends in `:`, as `price:`, is that of a column of numbers, without the `:`. Its fields are
-//! whole numbers or decimals, as -7 or 12.50, of 128 bits without the point. White space around
-//! them, zeros in front and a `+` are not shown; all digits after the point are. `{price:>10.2}`
-//! shows such a field with two digits after the point, at the right of ten characters. The fields
-//! of other columns are texts.
+//! The first record of the table is its header, which names its columns; white space around a name
+//! does not count. A name that ends in `:`, as `price:`, is that of a column of numbers, without the
+//! `:`. Its fields are whole numbers or decimals, as -7 or 12.50, of 128 bits without the point.
+//! White space around them, zeros in front and a `+` are not shown; all digits after the point are.
+//! `{price:>10.2}` shows such a field with two digits after the point, at the right of ten
+//! characters. The fields of other columns are texts.
 //!
-//! The other lines have a field for each name. Fields are as RFC 4180 has them, but within one
-//! line: a field with a comma or a quote in it stands in quotes, and a quote in it is doubled. A
-//! field that goes on in the next line is not supported: its line is reported as one that does not
-//! close a quote. A blank line has one field, which is empty, so it is reported in a table of two
-//! columns or more. Lines end with a newline, or a carriage return and a newline. A byte order mark
-//! at the head of either file is skipped.
+//! The other records have a field for each name. Records are spelled as the crate `records` reads
+//! them: fields may stand in quotes, with separators, line ends and doubled quotes in them. The
+//! separator is that of `--separator`, which is `,`, `;` or `tab`; without it, that of the three
+//! which the first line alone has, or else the comma. Blank lines at the end are no records; any
+//! other blank line is a record of one empty field, so it is reported in a table of two columns or
+//! more. A byte order mark at the head of either file is skipped. The table is UTF-8, or with
+//! `--latin1` Latin-1; the template is UTF-8.
 //!
 //! The template is checked with the columns before the first letter, and its fault is shown in its
-//! line, as a compiler does. All lines of the table that have a fault are reported. In both cases
-//! no letter is written. The status is 0 if the letters are written, 1 after a fault of the
-//! template or of the table, 2 after wrong use, and 3 after a refused write or for a file that
-//! cannot be read.
+//! line, as a compiler does. All records of the table that have a fault are reported, by their first
+//! line, and all places where the table goes on with no record. In both cases no letter is written.
+//! The status is 0 if the letters are written, 1 after a fault of the template or of the table, 2
+//! after wrong use, and 3 after a refused write or for a file that cannot be read.
 #![tactic(auto)]
 
 mod columns;
-mod csv;
 mod letters;
 mod table;
 mod values;
 
 use interpolator::{Error, Source, explain_with_names};
 use letters::{Fault, merged};
+use records::{BadByte, Field, Problem, ReadError, Reader, Separator, latin1, text_in};
 use std::alloc::Global;
 use std::process::ExitCode;
 use std::{env, fs, io};
-use table::{LineFault, Trouble, header_of};
+use table::{LineFault, Trouble};
 
 const WRITTEN: u8 = 0;
 
@@ -43,6 +44,15 @@ const BAD_USE: u8 = 2;
 /// The status of a refused write, and of a file that cannot be read.
 const REFUSED: u8 = 3;
 
+/// What the command line asks for.
+#[derive(Clone, Copy)]
+struct Asked<'a> {
+    template: &'a str,
+    table: &'a str,
+    separator: Option<Separator>,
+    is_latin1: bool,
+}
+
 /// The files of the command line, and their texts.
 #[derive(Clone, Copy)]
 struct Files<'a> {
@@ -50,18 +60,44 @@ struct Files<'a> {
     template: &'a str,
     table_name: &'a str,
     table: &'a str,
+    separator: Separator,
 }
 
-/// The fault of a line, as a line of text, in a table whose first line has `wanted` names.
+/// Fills in the fields of the header; none, if it has a fault.
+fn read_header<'a>(
+    alloc: Global,
+    files: Files<'a>,
+    fields: &mut Vec<Field<'a>>,
+) -> Result<(), Error> {
+    match Reader::new(files.table, files.separator).next_record(alloc, fields) {
+        Ok(_) => Ok(()),
+        Err(ReadError::Fault(_)) => Ok(()),
+        Err(ReadError::NoMemory) => Err(Error::NoMemory),
+    }
+}
+
+/// Why a table goes on with no record.
+fn told_problem(problem: Problem) -> &'static str {
+    match problem {
+        Problem::Unclosed => "a quote that is never closed",
+        Problem::StrayQuote => {
+            "a stray quote: write the field in quotes, and double those in it"
+        }
+        Problem::AfterQuote => "text after a closing quote: double the quotes in a field",
+        Problem::LoneReturn => "a carriage return without a newline",
+    }
+}
+
+/// The fault of a line, as a line of text, in a table whose header has `wanted` names.
 fn told_line(alloc: Global, table: &str, fault: LineFault, wanted: usize) -> Result<String, Error> {
     let line = fault.line;
     let told = match fault.trouble {
-        Trouble::Unclosed => format!(in alloc;
-            "{table}:{line}: a quote that this line does not close\n"
-        )?,
-        Trouble::Stray => format!(in alloc;
-            "{table}:{line}: a stray quote: write the field in quotes, and double those in it\n"
-        )?,
+        Trouble::Broken(broken) => {
+            let column = broken.place.column;
+            let why = told_problem(broken.problem);
+            format!(in alloc; "{table}:{line}:{column}: {why}\n")?
+        }
+        Trouble::Empty => format!(in alloc; "{table}: the table is empty: it has no names\n")?,
         Trouble::Fields(count) => {
             let noun = if count == 1 { "field" } else { "fields" };
             format!(in alloc; "{table}:{line}: {count} {noun}, but line 1 has {wanted}\n")?
@@ -78,8 +114,9 @@ fn told_line(alloc: Global, table: &str, fault: LineFault, wanted: usize) -> Res
 
 /// The faults of a table, a line for each.
 fn told_lines(alloc: Global, files: Files<'_>, faults: &[LineFault]) -> Result<String, Error> {
-    let header = csv::read_line(alloc, header_of(files.table))?;
-    let wanted = header.count();
+    let mut fields = Vec::new(alloc);
+    read_header(alloc, files, &mut fields)?;
+    let wanted = fields.len();
     let mut told = String::new(alloc);
     for fault in faults {
         let line = told_line(alloc, files.table_name, *fault, wanted)?;
@@ -107,13 +144,10 @@ fn picture(
     Ok(told)
 }
 
-/// A fault of the template, with the names that the first line of the table gives, if it has any.
+/// A fault of the template, with the names that the header gives.
 fn told_fault(alloc: Global, files: Files<'_>, error: &Error) -> Result<String, Error> {
-    let header = header_of(files.table);
-    if header.is_empty() {
-        return picture(alloc, files, error, &[]);
-    }
-    let fields = csv::read_line(alloc, header)?.into_fields()?;
+    let mut fields = Vec::new(alloc);
+    read_header(alloc, files, &mut fields)?;
     let columns = columns::columns_of(alloc, fields.as_slice())?;
     let names = columns::names_of(alloc, columns.as_slice())?;
     picture(alloc, files, error, names.as_slice())
@@ -139,14 +173,55 @@ fn arguments(rt: &HostRuntime) -> io::Result<Vec<String>> {
     Ok(words)
 }
 
-/// Whether a word looks like a flag, of which there are none.
+/// The separator that a word names.
+fn separator_in(word: &str) -> Option<Separator> {
+    match word {
+        "," => Some(Separator::Comma),
+        ";" => Some(Separator::Semicolon),
+        "tab" | "\t" => Some(Separator::Tab),
+        _ => None,
+    }
+}
+
+/// What the words ask for: flags, and then two files.
+fn asked_by<'a>(words: &'a [String]) -> Option<Asked<'a>> {
+    let mut rest = words;
+    let mut separator = None;
+    let mut is_latin1 = false;
+    loop {
+        match rest {
+            [flag, word, more @ ..] if flag.as_str() == "--separator" => {
+                separator = Some(separator_in(word.as_str())?);
+                rest = more;
+            }
+            [flag, more @ ..] if flag.as_str() == "--latin1" => {
+                is_latin1 = true;
+                rest = more;
+            }
+            [template, table] if !is_flag(template.as_str()) && !is_flag(table.as_str()) => {
+                return Some(Asked {
+                    template: template.as_str(),
+                    table: table.as_str(),
+                    separator,
+                    is_latin1,
+                });
+            }
+            _ => return None,
+        }
+    }
+}
+
+/// Whether a word looks like a flag.
 fn is_flag(word: &str) -> bool {
     word.starts_with('-')
 }
 
 /// The usage, on standard error.
 fn usage(rt: &HostRuntime) -> ExitCode {
-    ended(eprintln!(rt; "usage: merge TEMPLATE TABLE"), BAD_USE)
+    ended(
+        eprintln!(rt; "usage: merge [--separator , | ; | tab] [--latin1] TEMPLATE TABLE"),
+        BAD_USE,
+    )
 }
 
 /// The status of a run that ends with this write.
@@ -168,7 +243,7 @@ fn without_words(rt: &HostRuntime, error: &io::Error) -> ExitCode {
 
 /// Writes the letters of a template and a table, or why there are none.
 fn write_letters(rt: &HostRuntime, files: Files<'_>) -> ExitCode {
-    match merged(rt.alloc(), files.template, files.table) {
+    match merged(rt.alloc(), files.template, files.table, files.separator) {
         Ok(letters) => ended(rt.print(letters.as_str()), WRITTEN),
         Err(fault) => match told(rt.alloc(), files, &fault) {
             Ok(told) => ended(eprint!(rt; "{told}"), FAULT),
@@ -177,23 +252,63 @@ fn write_letters(rt: &HostRuntime, files: Files<'_>) -> ExitCode {
     }
 }
 
-/// Merges two files.
-fn merge(rt: &HostRuntime, template_name: &str, table_name: &str) -> ExitCode {
-    let template = match fs::read_to_string(rt, template_name) {
-        Ok(text) => text,
-        Err(error) => return ended(eprintln!(rt; "{template_name}: {error}"), REFUSED),
-    };
-    let table = match fs::read_to_string(rt, table_name) {
-        Ok(text) => text,
-        Err(error) => return ended(eprintln!(rt; "{table_name}: {error}"), REFUSED),
+/// Ends a run with a file that has a byte that is no UTF-8, with advice.
+fn not_utf8(rt: &HostRuntime, name: &str, bad: BadByte, advice: &str) -> ExitCode {
+    let line = bad.place.line;
+    let column = bad.place.column;
+    let byte = bad.byte;
+    ended(
+        eprintln!(rt; "{name}:{line}:{column}: byte 0x{byte:02X} is no UTF-8{advice}"),
+        REFUSED,
+    )
+}
+
+/// Merges the texts of two files.
+fn merge_texts(rt: &HostRuntime, asked: Asked<'_>, template: &str, table: &str) -> ExitCode {
+    let separator = match asked.separator {
+        Some(separator) => separator,
+        None => Separator::told_by(table).unwrap_or(Separator::Comma),
     };
     let files = Files {
-        template_name,
-        template: without_mark(template.as_str()),
-        table_name,
-        table: without_mark(table.as_str()),
+        template_name: asked.template,
+        template: without_mark(template),
+        table_name: asked.table,
+        table,
+        separator,
     };
     write_letters(rt, files)
+}
+
+/// Merges a template and the bytes of a table.
+fn merge_bytes(rt: &HostRuntime, asked: Asked<'_>, template: &str, table: &[u8]) -> ExitCode {
+    if asked.is_latin1 {
+        return match latin1(rt.alloc(), table) {
+            Ok(text) => merge_texts(rt, asked, template, text.as_str()),
+            Err(_) => ended(eprintln!(rt; "{}", Error::NoMemory), FAULT),
+        };
+    }
+    match text_in(table) {
+        Ok(text) => merge_texts(rt, asked, template, text),
+        Err(bad) => not_utf8(rt, asked.table, bad, "; is this Latin-1? try --latin1"),
+    }
+}
+
+/// Merges two files.
+fn merge(rt: &HostRuntime, asked: Asked<'_>) -> ExitCode {
+    let template_name = asked.template;
+    let template = match fs::read(rt, template_name) {
+        Ok(bytes) => bytes,
+        Err(error) => return ended(eprintln!(rt; "{template_name}: {error}"), REFUSED),
+    };
+    let table_name = asked.table;
+    let table = match fs::read(rt, table_name) {
+        Ok(bytes) => bytes,
+        Err(error) => return ended(eprintln!(rt; "{table_name}: {error}"), REFUSED),
+    };
+    match text_in(template.as_slice()) {
+        Ok(text) => merge_bytes(rt, asked, text, table.as_slice()),
+        Err(bad) => not_utf8(rt, template_name, bad, ""),
+    }
 }
 
 fn main(rt: HostRuntime) -> ExitCode {
@@ -201,11 +316,8 @@ fn main(rt: HostRuntime) -> ExitCode {
         Ok(words) => words,
         Err(error) => return without_words(&rt, &error),
     };
-    let [template, table] = words.as_slice() else {
-        return usage(&rt);
-    };
-    if is_flag(template.as_str()) || is_flag(table.as_str()) {
-        return usage(&rt);
+    match asked_by(words.as_slice()) {
+        Some(asked) => merge(&rt, asked),
+        None => usage(&rt),
     }
-    merge(&rt, template.as_str(), table.as_str())
 }

@@ -1,21 +1,22 @@
-//! The faults of the lines of a table.
+//! The faults of a table.
 
-ghost use Rattle.std.specs.Prelude.{◌≡◌, ◌++◌, [], Decides, IfOk, length, map};
-ghost use Rattle.merge.specs.Csv.{reading_of};
-ghost use Rattle.merge.specs.Table.{count_trouble, header_of, is_among, quote_trouble};
-ghost use Rattle.merge.specs.Table.{repeat_trouble, repeats, trouble_in, with_line};
+ghost use Rattle.std.specs.Prelude.{◌≡◌, ◌+◌, ◌^◌, ◌<◌, ◌++◌, ◌∷◌, [], ℕ, List, Decides, IfOk};
+ghost use Rattle.std.specs.Prelude.{length, map};
+ghost use Rattle.merge.specs.Names.{Knows};
+ghost use Rattle.merge.specs.Table.{broken, count_trouble, repeat_trouble, repeats, with_line};
 
-use crate::columns::{Column, names_of};
-use crate::csv::{Part, Reading};
+use crate::columns::Column;
+use records::Fault;
 use std::alloc::{AllocError, Global};
+use std::collections::BTreeMap;
 
 /// What is wrong with a line.
 #[derive(Clone, Copy, Debug)]
 pub enum Trouble {
-    /// It does not close a quote.
-    Unclosed,
-    /// It has a quote where none may be.
-    Stray,
+    /// It goes on with no record.
+    Broken(Fault),
+    /// It is the first, and there is none.
+    Empty,
     /// It has this many fields, and not as many as there are names.
     Fields(usize),
     /// It gives the column of this number, from 1, the name of an earlier one.
@@ -24,66 +25,21 @@ pub enum Trouble {
     NotNumber(usize),
 }
 
-/// A line, by its number from 1, and what is wrong with it.
+/// A line, by its number from 1, and what is wrong with it. A record is told by its first line.
 #[derive(Clone, Copy, Debug)]
 pub struct LineFault {
     pub line: usize,
     pub trouble: Trouble,
 }
 
-/// What is wrong with the quotes of a line.
-pub fn quote_trouble(reading: &Reading) -> Option<Trouble>
-    ensures { result ≡ quote_trouble reading.now.part }
-{
-    match reading.part {
-        Part::Quoted => Some(Trouble::Unclosed),
-        Part::Stray => Some(Trouble::Stray),
-        Part::Start | Part::Plain | Part::Closed => None,
-    }
-}
-
-/// What is wrong with the number of fields of a line, for this number of names.
-fn count_trouble(count: usize, names: usize) -> Option<Trouble>
+/// What is wrong with the number of fields of a record, for this number of names.
+pub fn count_trouble(count: usize, names: usize) -> Option<Trouble>
     ensures { result ≡ count_trouble count names }
 {
     if count == names {
         return None;
     }
     Some(Trouble::Fields(count))
-}
-
-/// What is wrong with the quotes or the number of fields of a line, for this number of names.
-pub fn trouble_in(reading: &Reading, names: usize) -> Option<Trouble>
-    ensures { result ≡ trouble_in names (reading_of reading.now) }
-{
-    match quote_trouble(reading) {
-        Some(trouble) => Some(trouble),
-        None => count_trouble(reading.count(), names),
-    }
-}
-
-/// The first line of a table, which names its columns.
-pub fn header_of(table: &str) -> &str
-    ensures { result.now ≡ header_of table.now }
-{
-    table.lines().next().unwrap_or("")
-}
-
-/// Whether a name is among others.
-fn is_among(names: &[&str], name: &str) -> bool
-    ensures { result ≡ is_among (map (λ x. x.now) names.now) name.now }
-{
-    names.contains(&name)
-}
-
-/// What is wrong with a name that comes after others.
-fn repeat_trouble(before: &[&str], name: &str) -> Option<Trouble>
-    ensures { result ≡ repeat_trouble (map (λ x. x.now) before.now) name.now }
-{
-    if is_among(before, name) {
-        return Some(Trouble::Twice(before.len() + 1));
-    }
-    None
 }
 
 /// Appends a line, if anything is wrong with it.
@@ -103,16 +59,43 @@ pub fn push_fault(
     }
 }
 
+/// Appends a fault by which the table goes on with no record.
+pub fn push_broken(faults: &mut Vec<LineFault>, fault: Fault) -> Result<(), AllocError>
+    ensures { IfOk result (λ _. faults.new.items ≡ faults.old.items ++ broken fault) }
+{
+    push_fault(faults, fault.place.line, Some(Trouble::Broken(fault)))
+}
+
+/// Appends the fault of a name that some before have, which come before it, and adds it to them.
+fn push_repeat<'a>(
+    faults: &mut Vec<LineFault>,
+    seen: &mut BTreeMap<&'a str, usize>,
+    before: usize,
+    name: &'a str,
+) -> Result<(), AllocError>
+    requires { before + 1 < 2 ^ 64 }
+    ensures faults { (names : List (List ℕ)) → Knows seen.old names → length names ≡ before
+        → IfOk result (λ _.
+        faults.new.items ≡ faults.old.items ++ with_line 1 (repeat_trouble names name.now)) }
+    ensures seen { (names : List (List ℕ)) → Knows seen.old names
+        → IfOk result (λ _. Knows seen.new (names ++ (name.now ∷ []))) }
+{
+    if seen.insert(name, before)?.is_none() {
+        return Ok(());
+    }
+    push_fault(faults, 1, Some(Trouble::Twice(before + 1)))?;
+    Ok(())
+}
+
 /// The faults of the first line: one for each column that has the name of an earlier one.
 pub fn repeats_of(alloc: Global, columns: &[Column<'_>]) -> Result<Vec<LineFault>, AllocError>
     ensures { IfOk result (λ faults.
         faults.items ≡ repeats (map (λ column. column.name.now) columns.now)) }
 {
-    let names = names_of(alloc, columns)?;
-    let names = names.as_slice();
+    let mut seen = BTreeMap::new(alloc);
     let mut faults = Vec::new(alloc);
-    for (before, name) in names.iter().enumerate() {
-        push_fault(&mut faults, 1, repeat_trouble(&names[..before], name))?;
+    for (before, column) in columns.iter().enumerate() {
+        push_repeat(&mut faults, &mut seen, before, column.name)?;
     }
     Ok(faults)
 }

@@ -1,14 +1,15 @@
 //! The fields of a line as values, each as its column wants it.
 
 ghost use Rattle.std.specs.Prelude.{◌≡◌, IfOk, MatchOption, MatchResult, Some, length, map};
-ghost use Rattle.std.specs.Prelude.{string_bytes};
 ghost use Rattle.interpolator.specs.Slots.{slots_of};
 ghost use Rattle.merge.specs.Columns.{kinds_in};
 ghost use Rattle.merge.specs.Values.{AreShown, Fits, IsMisfit, Shows, as_value, example_by};
+ghost use Rattle.records.specs.Spellings.{text_of};
 ghost use Rattle.merge.specs.declared.columns.Kind.TheVariants.{Number};
 
 use crate::columns::{Column, Kind};
 use interpolator::{Decimal, Formattable, View};
+use records::Field;
 use std::alloc::{AllocError, Global};
 
 /// The view of the number in a field, if it has one, with white space around it or none.
@@ -39,14 +40,14 @@ fn view_of(kind: Kind, field: &str) -> Option<View<'_>>
 pub fn views_of<'a>(
     alloc: Global,
     columns: &[Column<'_>],
-    fields: &'a [String],
+    fields: &'a [Field<'_>],
 ) -> Result<Result<Vec<View<'a>>, usize>, AllocError>
     requires { length fields.now ≡ length columns.now }
     ensures { IfOk result (λ read. MatchResult read
-        (λ views. AreShown (kinds_in columns.now) (map (λ field. string_bytes field) fields.now)
+        (λ views. AreShown (kinds_in columns.now) (map text_of fields.now)
         views.items)
         (λ column. IsMisfit 1 (kinds_in columns.now)
-        (map (λ field. string_bytes field) fields.now) (Some column))) }
+        (map text_of fields.now) (Some column))) }
 {
     let mut views = Vec::with_capacity(alloc, fields.len())?;
     for (at, field) in fields.iter().enumerate() {

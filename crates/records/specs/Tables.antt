@@ -1,5 +1,5 @@
 -- A table, record by record and fault by fault, with nothing left out.
-use Rattle.std.specs.Prelude.{◌≡◌, ◌≢◌, ℕ, ◌==◌}
+use Rattle.std.specs.Prelude.{⊤, ◌≡◌, ◌≢◌, ℕ, ◌==◌}
 use Rattle.std.specs.Prelude.{List, [], ◌∷◌, ◌++◌, Option, None, Some, Result, Ok, Err}
 use Rattle.std.specs.List.{after_first}
 use Rattle.records.specs.Faults.{Breaks}
@@ -25,6 +25,10 @@ pub record At : Type 0 where
 -- where a reader is
 abbrev pub at : Reader → At
 at reader = record { line = reader.line; text = reader.rest.now }
+
+-- the separator that a reader reads by
+abbrev pub separator_of : Reader → Separator
+separator_of reader = reader.separator
 
 -- the place where a line begins
 abbrev pub line_start : ℕ → Place
@@ -69,6 +73,13 @@ ReadsNext separator from to fields (Ok (Some line)) =
 ReadsNext separator from to fields (Err (errors.Fault fault)) =
     GivesFault separator fault from to × (fields ≡ [])
 ReadsNext separator from to fields (Err errors.NoMemory) = (to ≡ from) × (fields ≡ [])
+
+-- a record was read, or a fault was found
+abbrev pub IsPast : Result (Option ℕ) ReadError → Type 0
+IsPast (Ok (Some line)) = ⊤
+IsPast (Ok None) = ⊥
+IsPast (Err (errors.Fault fault)) = ⊤
+IsPast (Err errors.NoMemory) = ⊥
 
 -- ---- a whole table
 

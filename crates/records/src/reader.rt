@@ -32,13 +32,13 @@ impl<'a> Reader<'a> {
     ghost use Rattle.records.specs.Faults.{Breaks};
     ghost use Rattle.records.specs.Heads.{Starts};
     ghost use Rattle.records.specs.Spellings.{text_of};
-    ghost use Rattle.records.specs.Tables.{GivesFault, Passes, ReadsNext, at};
+    ghost use Rattle.records.specs.Tables.{GivesFault, IsPast, Passes, ReadsNext, at, separator_of};
 
     /// A reader of a table from its beginning. A byte order mark at its head and line ends at its
     /// end belong to no record.
     pub fn new(table: &'a str, separator: Separator) -> Reader<'a>
         ensures starts { Starts table.now (at result) }
-        ensures separator { result.separator ≡ separator }
+        ensures separator { separator_of result ≡ separator }
     {
         Reader {
             separator,
@@ -86,9 +86,10 @@ impl<'a> Reader<'a> {
         alloc: Global,
         fields: &mut Vec<Field<'a>>,
     ) -> Result<Option<usize>, ReadError>
-        ensures next { ReadsNext self.old.separator (at self.old) (at self.new)
+        ensures next { ReadsNext (separator_of self.old) (at self.old) (at self.new)
             (map text_of fields.new.items) result }
-        ensures same { self.new.separator ≡ self.old.separator }
+        ensures same { separator_of self.new ≡ separator_of self.old }
+        ensures shorter { IsPast result → length (at self.new).text < length (at self.old).text }
     {
         fields.clear();
         if self.rest.is_empty() {

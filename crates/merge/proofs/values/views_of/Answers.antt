@@ -1,4 +1,4 @@
-use Rattle.std.proofs.Common.{◌<◌, ◌≤◌, arith, length}
+use Rattle.std.proofs.Common.{arith}
 use Rattle.merge.proofs.ValueLemmas.{all_shown, misfit_here, shown_more}
 use Rattle.merge.proofs.values.views_of.Goals as goal
 
@@ -11,13 +11,13 @@ loop-at-preserved c =
     (shown_more c.args.columns.now c.args.fields.now c.loop-at.at _ _
     (omega (arith, c.loop-at-test.true, c.requires)) c.loop-at-test.true c.index-fields-at.is
     c.loop-at.views.items c.loop-at.invariant _
-    (rw c.as_str.ensures.value at c.in-Some.ensures))
+    (rw c.as_str.ensures at c.in-Some.ensures))
 
 pub returns-in-None : goal.returns-in-None
 returns-in-None c =
     misfit_here c.args.columns.now c.args.fields.now c.loop-at.at _ _
     (omega (arith, c.loop-at-test.true, c.requires)) c.loop-at-test.true c.index-fields-at.is
-    c.loop-at.views.items c.loop-at.invariant (rw c.as_str.ensures.value at c.in-None.ensures)
+    c.loop-at.views.items c.loop-at.invariant (rw c.as_str.ensures at c.in-None.ensures)
 
 pub returns : goal.returns
 returns c =

@@ -1,0 +1,31 @@
+use Rattle.std.proofs.Common.{Err, Ok, map}
+use Rattle.merge.specs.Columns.{kinds_in}
+use Rattle.merge.proofs.TableLemmas.{fault_written, record_written}
+use Rattle.records.specs.Spellings.{text_of}
+use Rattle.merge.proofs.letters.write_next.Goals as goal
+
+pub returns-in_ok-push_fault-in-Ok-Some-clause-ok :
+    goal.returns-in_ok-push_fault-in-Ok-Some-clause-ok
+returns-in_ok-push_fault-in-Ok-Some-clause-ok c =
+    let fields = map text_of c.next_record.new.fields.items in
+    let trouble = c.in_ok-trouble-in-Ok-Some in (
+      Ok (c.in-Ok-Some.line, fields),
+      rw c.in-Ok-Some.field-0-is at c.in-Ok-Some.ensures.next,
+      record_written c.args.letter.now (kinds_in c.args.frame.columns.now) c.in-Ok-Some.line
+          fields trouble.trouble c.args.faults.now.items c.push_fault.new.faults.items
+          c.args.out.now.text c.write_record.new.out.text
+          (rw c.as_slice.ensures.value at trouble.ensures.trouble)
+          (rw c.as_slice.ensures.value at trouble.ensures.ok)
+          c.in_ok-push_fault-in-Ok-Some.ensures,
+    )
+
+pub returns-in_ok-push_broken-in-Err-Fault-clause-ok :
+    goal.returns-in_ok-push_broken-in-Err-Fault-clause-ok
+returns-in_ok-push_broken-in-Err-Fault-clause-ok c = (
+  Err c.in-Err-Fault.fault,
+  (rw c.in-Err-Fault.field-0-is at c.in-Err-Fault.ensures.next).0,
+  fault_written c.args.letter.now (kinds_in c.args.frame.columns.now) c.in-Err-Fault.fault
+      c.args.faults.now.items c.push_broken.new.faults.items c.args.out.now.text
+      (let e = c.in-Err-Fault.fault-is in
+      let found = c.in_ok-push_broken-in-Err-Fault.ensures in rw e at found),
+)

@@ -1,0 +1,16 @@
+use Rattle.std.proofs.Common.{◌≡◌, List, length}
+use Rattle.merge.specs.Columns.{kinds_in}
+use Rattle.merge.specs.Letters.{WritesRows}
+use Rattle.merge.proofs.TableLemmas.{HasRead}
+use Rattle.records.specs.Tables.{Entry, at, separator_of}
+use Rattle.merge.proofs.letters.write_rows.Given as goal
+
+abbrev pub invariant-rows : goal.invariant-rows
+invariant-rows l = record {
+  same : separator_of l.reader ≡ separator_of l.fn.rest;
+  rows : (rows : List Entry) × HasRead (separator_of l.fn.rest) (at l.fn.rest) (at l.reader) rows
+      × WritesRows l.letter (kinds_in l.frame.columns.now) rows l.out.text l.faults.items;
+}
+
+abbrev pub decreases-rows : goal.decreases-rows
+decreases-rows l = length (at l.reader).text
