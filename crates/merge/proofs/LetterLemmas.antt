@@ -1,5 +1,5 @@
 -- A row of the views of fields resembles the sample.
-use Rattle.std.proofs.Common.{◌≡◌, refl, subst, sym, ℕ, ℤ, pos, List, [], ◌∷◌, map}
+use Rattle.std.proofs.Common.{◌≡◌, refl, ℕ, ℤ, pos, List, [], ◌∷◌, map}
 use Rattle.std.specs.Borrow.{Bor}
 use Rattle.std.specs.Str.{chars}
 use Rattle.interpolator.specs.Meaning.Resembling.{HasText, Resembles, ResemblesSlot}
@@ -8,8 +8,8 @@ use Rattle.interpolator.specs.Texts.{view_text}
 use Rattle.interpolator.specs.Views.{Shown, decimal_number, one_character, some_text}
 use Rattle.interpolator.specs.declared.Spec.{Spec}
 use Rattle.interpolator.specs.declared.Trait.{Trait}
-use Rattle.interpolator.specs.declared.Trait.TheVariants.{Binary, Debug, Display, Iter, LowerExp}
-use Rattle.interpolator.specs.declared.Trait.TheVariants.{LowerHex, Octal, UpperExp, UpperHex}
+use Rattle.interpolator.specs.declared.Trait.TheVariants.{Binary, Debug, Display, Iter}
+use Rattle.interpolator.specs.declared.Trait.TheVariants.{LowerHex, Octal, UpperHex}
 use Rattle.interpolator.specs.declared.View.{View}
 use Rattle.interpolator.specs.declared.View.TheVariants as forms
 use Rattle.interpolator.specs.Meaning.Samples.{is_failure, shows_nothing}

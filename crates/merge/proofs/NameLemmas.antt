@@ -1,13 +1,12 @@
 -- Names, and which of them were seen.
 use Rattle.std.proofs.Common.{◌≡◌, ◌∙◌, refl, sym, ap, ℕ, ◌+◌, ◌<◌, Bool, true, false, ◌||◌, cond, List, []}
-use Rattle.std.proofs.Common.{◌∷◌, ◌++◌, map, length, take, drop, get_or, append-nil, append_assoc}
-use Rattle.std.proofs.Common.{Option, None, Some, is_some}
+use Rattle.std.proofs.Common.{◌∷◌, ◌++◌, map, length, take, drop, get_or, append_assoc}
+use Rattle.std.proofs.Common.{Option, Some, is_some}
 use Rattle.std.proofs.lemmas.List.{drop_more, map_more}
 use Rattle.std.proofs.lemmas.Map.Text.{btree_map_updates_str}
 use Rattle.std.specs.BTreeMap.{BTreeMap, UpdatesBy}
 use Rattle.std.specs.Borrow.{Bor}
 use Rattle.std.specs.Cmp.Lexicographic.{slice_cmp}
-use Rattle.std.specs.List.{list_any}
 use Rattle.std.specs.Ordering.{nat_cmp}
 use Rattle.std.specs.Str.{bytes_eq}
 use Rattle.merge.specs.Names.{Knows}

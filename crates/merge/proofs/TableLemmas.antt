@@ -1,6 +1,6 @@
 -- What comes after the header of a table, one after the other.
-use Rattle.std.proofs.Common.{◌≡◌, ◌∙◌, refl, ℕ, true, Bool, ◌||◌, List, [], ◌∷◌, ◌++◌, append-nil}
-use Rattle.std.proofs.Common.{append_assoc, sym, ap, length, Option, None, Some, Ok, Err}
+use Rattle.std.proofs.Common.{◌≡◌, ◌∙◌, refl, ℕ, List, [], ◌∷◌, ◌++◌, append-nil}
+use Rattle.std.proofs.Common.{append_assoc, sym, Option, None, Some, Ok, Err}
 use Rattle.interpolator.specs.Prepared.Rows.{PreparedFormat}
 use Rattle.merge.specs.Letters.{AreColumns, IsLetter, PutsIf, WritesEntry, WritesRows}
 use Rattle.merge.specs.Table.{AreFaults, AreFaultsOf, HasTrouble, IsToldOf, Joins, broken, repeats}

@@ -23,7 +23,7 @@ use Rattle.merge.specs.Table.{AreFaults, AreFaultsIn, AreFaultsOf, HasHeader, Ha
 use Rattle.merge.specs.Table.{IsToldOf, Joins, kinds_of, names_of}
 use Rattle.records.specs.Tables.{At, Entry, Gives}
 use Rattle.records.specs.declared.separator.Separator.{Separator}
-use Rattle.merge.specs.Values.{AreShown, IsMisfit, as_value, example_slots}
+use Rattle.merge.specs.Values.{AreShown, as_value, example_slots}
 use Rattle.merge.specs.declared.columns.Kind.{Kind}
 use Rattle.merge.specs.declared.letters.Fault.{Fault}
 use Rattle.merge.specs.declared.letters.Fault.TheVariants as why

@@ -1,5 +1,5 @@
-use Rattle.std.proofs.Common.{◌∙◌, ap, arith, inr, length, length-append, refl, sym}
-use Rattle.std.proofs.Common.{◌≡◌, [], ◌++◌, map}
+use Rattle.std.proofs.Common.{◌∙◌, inr, sym}
+use Rattle.std.proofs.Common.{[], map}
 use Rattle.std.proofs.lemmas.Bool.{false≢true}
 use Rattle.merge.specs.Columns.{kinds_in}
 use Rattle.merge.proofs.TableLemmas.{faults_known, split_nil}

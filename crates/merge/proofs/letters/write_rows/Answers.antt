@@ -1,6 +1,6 @@
 use Rattle.std.proofs.Common.{[], ◌++◌, ◌∙◌, ◌∷◌}
 use Rattle.merge.specs.Columns.{kinds_in}
-use Rattle.merge.proofs.TableLemmas.{all_read, no_rows, none_read, one_read, rows_more}
+use Rattle.merge.proofs.TableLemmas.{all_read, one_read, rows_more}
 use Rattle.records.specs.Tables.{at, separator_of}
 use Rattle.merge.proofs.letters.write_rows.Goals as goal
 

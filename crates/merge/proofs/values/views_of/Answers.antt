@@ -1,4 +1,4 @@
-use Rattle.std.proofs.Common.{◌<◌, ◌≤◌, arith, length}
+use Rattle.std.proofs.Common.{arith}
 use Rattle.merge.proofs.ValueLemmas.{all_shown, misfit_here, shown_more}
 use Rattle.merge.proofs.values.views_of.Goals as goal
 
