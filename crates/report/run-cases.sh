@@ -61,7 +61,7 @@ fault_cases() {
     fault 't:1: the total of `n` has more than 128 bits' $'n\n'"${most}7"$'\n1\n'
     fault 't:1: the total of `n` has more than 128 bits' $'n\n'"-${most}8"$'\n-1\n'
     fault 't:1: the total of `n` has more than 128 bits' $'n\n'"${most}7"$'\n0.5\n'
-    fault 't:1: the total of `n` has more than 128 bits' $'n\n0.5\n'"-${most}.9"$'\n'
+    fault 't:1: the total of `n` has more than 128 bits' $'n\n-0.5\n'"-${most}.8"$'\n'
     fault 't:1: the total of `n` has more than 128 bits' $'n\n0.3\n'"$next"$'\n'
     fault 't:2: the number of `m` has more than 128 bits' $'t,m\na,'"${most}8"$'\nb,-1\n'
     fault $'t:1: the total of `n` has more than 128 bits\nt:3: the number of `m` has more than 128 bits' \
