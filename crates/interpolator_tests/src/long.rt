@@ -98,14 +98,14 @@ fn many_items(report: &mut Report, digits: &[char], text: &str) -> Result<(), Er
     gives(report, &map, "{l:>100003i}", (text.as_str(), ""))
 }
 
-/// Under a width, a fault of the last of thousands of items leaves no text of the list. By hand, the
-/// item that has no slot is asked at the `}` of `{}`, 9 bytes from the beginning.
+/// Under a width, a fault after thousands of characters leaves no text of the list. By hand, the
+/// first item asks for a slot that it lacks at the `}` of `{:x}`, 21 bytes from the beginning.
 fn a_fault_after_many_items(report: &mut Report, digits: &[char]) -> Result<(), Error> {
-    let mut items = items_of(report.alloc, digits)?;
-    items.push(Formattable::iter(&[]))?;
-    let pairs = Pairs(&[("l", Formattable::iter(&items))]);
-    let fault = "MissingTraitImpl(Display, 9)";
-    gives(report, &pairs, "a{l:>6i({})}", ("a", fault))
+    let items = items_of(report.alloc, digits)?;
+    let mut map = ContextMap::new(report.alloc);
+    map.put("l", Formattable::iter(&items))?;
+    let fault = "MissingTraitImpl(LowerHex, 21)";
+    gives(report, &map, "a{l:>6i..1({}{l:i}{:x})}", ("a", fault))
 }
 
 /// Thousands of rows of twenty items each.
