@@ -1,9 +1,14 @@
 -- What the text of a decimal spells, and how far it is from the decimal.
 use Rattle.std.proofs.Common.{◌≡◌, ℕ, ◌<◌, ◌≤◌, ◌-◌, ◌+◌, ◌*◌, ◌/◌, ◌%◌, ◌^◌, false, List, []}
 use Rattle.std.proofs.Common.{◌∷◌, ◌++◌, length, refl, arith, pow-suc, nat_lt, None}
-use Rattle.std.proofs.Common.{Some, Option, append-nil, Bool}
+use Rattle.std.proofs.Common.{Some, Option, append-nil, Bool, zero, suc, map, replicate, sym, subst}
+use Rattle.std.proofs.Common.{⊎_elim, eq-zero-or-pos}
 use Rattle.std.specs.Char.{digit_value}
-use Rattle.std.specs.Str.Parse.{digits_value, digits_value_after}
+use Rattle.std.specs.Fmt.{digit_glyph}
+use Rattle.std.specs.Int.Digits.{AllBelowBase, digits_of}
+use Rattle.std.specs.Str.Parse.{AllDigits, IsNumeral, digits_value, digits_value_after}
+use Rattle.std.proofs.lemmas.Bool.Decides.{nat_tests}
+use Rattle.std.proofs.lemmas.Int.Digits.{all_below_base_digits_of}
 use Rattle.interpolator_render.specs.Decimals.{SpellsUnits, decimal_exponent_text, decimal_text}
 use Rattle.interpolator_render.specs.Decimals.{placed, units_at, units_text}
 use Rattle.interpolator_render.specs.Digits.{digit_text}
@@ -11,9 +16,40 @@ use Rattle.interpolator_render.specs.Exponent.{IsNearest, exponent_text}
 use Rattle.interpolator_render.proofs.CountLemmas.{value_of_zeros}
 use Rattle.interpolator_render.proofs.DecimalLemmas.{length-placed, placed_none, placed_some}
 use Rattle.interpolator_render.proofs.DecimalLemmas.{remainder_fits}
-use Rattle.interpolator_render.proofs.DigitLemmas.{digit_text_some}
+use Rattle.interpolator_render.proofs.DigitLemmas.{digit_text_map, digit_text_some, digit_text_zero}
 use Rattle.interpolator_render.proofs.ExponentLemmas.{pow_some}
 use Rattle.interpolator_render.proofs.LawLemmas.{digits_read, nearest_is_nearest}
+
+-- ---- texts of digits
+
+glyphs : (ds : List ℕ) → AllBelowBase 10 ds → AllDigits 10 (map (digit_glyph false) ds)
+glyphs [] all = tt
+glyphs (d ∷ ds) all = (
+  let below : d < 10 = all.0 in
+      let value : digit_value (digit_glyph false d) ≡ d = grind (arith, nat_tests) in omega arith,
+  glyphs ds all.1,
+)
+
+pub digits_are : (n : ℕ) → AllDigits 10 (digit_text 10 false n)
+digits_are n = ⊎_elim
+    (λ none. subst (AllDigits 10) (sym (digit_text_zero 10 false n none)) (omega arith, tt))
+    (λ some. subst (AllDigits 10) (sym (digit_text_map 10 n false some))
+    (glyphs (digits_of 10 n) (all_below_base_digits_of 10 n (omega arith))))
+    (eq-zero-or-pos n)
+
+pub numeral : (n : ℕ) → IsNumeral 10 (digit_text 10 false n)
+numeral n = (digit_text_some 10 n false (omega arith), digits_are n)
+
+pub zeros_before : (k : ℕ) (ds : List ℕ) → AllDigits 10 ds → AllDigits 10 (replicate k 48 ++ ds)
+zeros_before zero ds all = all
+zeros_before (suc k) ds all = (omega arith, zeros_before k ds all)
+
+placed_digits : (places part : ℕ) → AllDigits 10 (placed places part)
+placed_digits places part = ⊎_elim
+    (λ none. subst (AllDigits 10) (sym (placed_none places part none)) tt)
+    (λ some. subst (AllDigits 10) (sym (placed_some places part some))
+    (zeros_before _ (digit_text 10 false part) (digits_are part)))
+    (eq-zero-or-pos places)
 
 -- ---- digits after digits
 
@@ -30,7 +66,7 @@ value_over : (n : ℕ) (before after : List ℕ) → digits_value_after 10 n (be
 value_over n [] after = refl
 value_over n (digit ∷ before) after = value_over (n * 10 + digit_value digit) before after
 
-value_both : (before after : List ℕ) → digits_value 10 (before ++ after)
+pub value_both : (before after : List ℕ) → digits_value 10 (before ++ after)
     ≡ digits_value 10 before * 10 ^ length after + digits_value 10 after
 value_both before after = grind (arith, value_over, value_after)
 
@@ -46,14 +82,20 @@ units_spelled places count =
       before = digit_text 10 false (count / 10 ^ places);
       after = placed places part;
       parts = refl;
-      some = digit_text_some 10 (count / 10 ^ places) false (omega arith);
+      before_digits = numeral (count / 10 ^ places);
+      after_digits = placed_digits places part;
       as_many = length-placed places part (remainder_fits count places);
       value = grind (arith, value_both, length-placed, placed_value, digits_read, remainder_fits);
     }
 
+units_same : (scale units : ℕ) → units_at scale scale units ≡ units
+units_same scale units = grind (arith, nat_lt)
+
 pub plain_spelled : (scale units : ℕ) → SpellsUnits scale units (decimal_text None scale units)
 unfolding decimal_text
-plain_spelled scale units = grind (arith, nat_lt scale scale, units_spelled scale units)
+plain_spelled scale units =
+    subst (λ u. SpellsUnits scale units (units_text scale u)) (sym (units_same scale units))
+    (units_spelled scale units)
 
 pub precise_spelled : (places scale units : ℕ) →
     SpellsUnits places (units_at places scale units) (decimal_text (Some places) scale units)

@@ -1,14 +1,15 @@
 -- Decimals, which are units of a power of ten below 1: how they are rounded, and their text.
-use Rattle.std.specs.Prelude.{◌≡◌, ◌<◌, length, ℕ, ◌-◌, ◌*◌, ◌/◌, ◌%◌, ◌^◌, Bool, false, List, [], ◌∷◌, ◌++◌}
-use Rattle.std.specs.Prelude.{replicate, true, Option, Some, None, unwrap_or, if◌then◌else◌, ◌==◌, nat_lt, codes}
-use Rattle.std.specs.Str.Parse.{digits_value}
+use Rattle.std.specs.Prelude.{◌≡◌, ◌+◌, ◌-◌, ◌*◌, ◌/◌, ◌%◌, ◌^◌, ℕ, Bool, false, true, List, []}
+use Rattle.std.specs.Prelude.{◌∷◌, ◌++◌, length, replicate, Option, Some, None, unwrap_or, codes}
+use Rattle.std.specs.Prelude.{if◌then◌else◌, ◌==◌, nat_lt}
+use Rattle.std.specs.Str.Parse.{AllDigits, IsNumeral, digits_value}
 use Rattle.interpolator_render.specs.declared.view.Trait.{Trait}
 use Rattle.interpolator_render.specs.declared.view.Trait.TheVariants.{Debug, Display, LowerExp}
 use Rattle.interpolator_render.specs.declared.view.Trait.TheVariants.{UpperExp}
 use Rattle.interpolator_render.specs.Characters.{point, zero_digit}
 use Rattle.interpolator_render.specs.Digits.{digit_text}
-use Rattle.interpolator_render.specs.Exponent.{exponent_tail, mark, nearest, scientific}
-use Rattle.interpolator_render.specs.Exponent.{with_point, with_zeros}
+use Rattle.interpolator_render.specs.Exponent.{exponent_of, exponent_tail, mark, nearest}
+use Rattle.interpolator_render.specs.Exponent.{scientific, with_point, with_zeros}
 
 -- a number below 10 ^ places by exactly `places` digits
 abbrev pub placed : (places part : ℕ) → List ℕ
@@ -61,9 +62,38 @@ pub record SpellsUnits (places count : ℕ) (text : List ℕ) : Type 0 where
   pub before : List ℕ
   pub after : List ℕ
   pub parts : text ≡ before ++ after_point after
-  pub some : 0 < length before
+  pub before_digits : IsNumeral 10 before
+  pub after_digits : AllDigits 10 after
   pub as_many : length after ≡ places
   pub value : digits_value 10 (before ++ after) ≡ count
+
+-- a minus, if a number is below zero
+abbrev pub minus_if : (below : Bool) → List ℕ
+minus_if below = if below then codes "-" else []
+
+-- a text in exponent form denotes units of 10 ^ -scale: one digit, others after a point if there
+-- are any, and an exponent after its mark. Both sides of the equation are multiplied by powers of ten,
+-- so that no exponent in it is below zero
+pub record DenotesUnits (upper : Bool) (scale units : ℕ) (text : List ℕ) : Type 0 where
+  pub first : ℕ
+  pub after : List ℕ
+  pub below : Bool
+  pub exponent : List ℕ
+  pub parts : text ≡ (first ∷ after_point after) ++ mark upper ∷ (minus_if below ++ exponent)
+  pub digits : AllDigits 10 (first ∷ after)
+  pub exponent_digits : IsNumeral 10 exponent
+  pub value :
+      digits_value 10 (first ∷ after)
+      * 10 ^ (scale + (if below then 0 else digits_value 10 exponent))
+      ≡ units * 10 ^ (length after + (if below then digits_value 10 exponent else 0))
+
+-- units rounded half to even to as many digits after the first as the precision says, if it says
+-- less than they have
+abbrev pub rounded_units : (precision : Option ℕ) → (units : ℕ) → ℕ
+rounded_units None units = units
+rounded_units (Some places) units =
+    let unit = 10 ^ (exponent_of units - places) in
+    if nat_lt places (exponent_of units) then nearest units unit * unit else units
 
 -- a decimal without its sign, in the form that a trait writes, if it writes decimals
 abbrev pub decimal_body : Trait → (precision : Option ℕ) → (scale units : ℕ) → Option (List ℕ)

@@ -7,7 +7,8 @@ ghost use Rattle.std.specs.Prelude.{length, replicate, slice_index, unwrap_or};
 ghost use Rattle.std.specs.Str.Parse.{digits_value};
 ghost use Rattle.interpolator_render.specs.Characters.{zero_digit};
 ghost use Rattle.interpolator_render.specs.Decimals.{SpellsUnits, decimal_text, units_at};
-ghost use Rattle.interpolator_render.specs.Decimals.{decimal_exponent_text};
+ghost use Rattle.interpolator_render.specs.Decimals.{DenotesUnits, decimal_exponent_text};
+ghost use Rattle.interpolator_render.specs.Decimals.{rounded_units};
 ghost use Rattle.interpolator_render.specs.Digits.{digit_text};
 ghost use Rattle.interpolator_render.specs.Exponent.{exponent_of, exponent_text, nearest, scientific};
 ghost use Rattle.interpolator_render.specs.Exponent.{significant_digits};
@@ -99,6 +100,17 @@ pub fn decimals_are_rounded_to_nearest()
         → IsNearest units (10 ^ (scale - places)) (units_at places scale units) }
     ensures exact { (places scale units : ℕ) → scale ≤ places
         → units_at places scale units ≡ units * 10 ^ (places - scale) }
+{}
+
+/// The text of a decimal in exponent form denotes the decimal. With a precision it denotes the
+/// decimal rounded to that many digits after the first.
+///
+/// So `1.5e-3` denotes 15 units at the scale 4.
+#[tactic(auto, using(crate::proofs::DecimalExponentLemmas::exponents_denote))]
+pub fn exponents_denote_decimals()
+    ensures { (upper : Bool) (precision : Option ℕ) (scale units : ℕ)
+        → DenotesUnits upper scale (rounded_units precision units)
+        (decimal_exponent_text upper precision scale units) }
 {}
 
 /// At the scale 0 a decimal has the text of the whole number, in exponent form too.
