@@ -119,10 +119,12 @@ pub(crate) fn put_at(row: &mut Vec<u8>, at: usize, text: &[u8])
     copy_text(&mut row[at..at + text.len()], text);
 }
 
-/// Adds places at the end of a row, as far as it has room for them, and keeps its bytes.
+/// Adds places at the end of a row, no more than it has room for, and keeps its bytes.
 pub(crate) fn make_ready(row: &mut Vec<u8>)
     ensures same { take (length row.old.items) row.new.items ≡ row.old.items }
     ensures longer { length row.old.items ≤ length row.new.items }
+    ensures most { length row.new.items ≤ length row.old.items + 1024 }
+    ensures room { length row.new.items ≤ vec_capacity row.old }
     ensures capacity { vec_capacity row.old ≤ vec_capacity row.new }
 {
     let most = row.len() + READY;
