@@ -3,7 +3,7 @@ ghost use Rattle.std.specs.Prelude.{◌≡◌, ◌≢◌, ◌++◌, IfOk, IfErr,
 ghost use Rattle.std.specs.Prelude.{Err, Ok, if◌then◌else◌, string_bytes};
 ghost use Rattle.std.specs.Str.{chars};
 ghost use Rattle.interpolator_render.specs.declared.view.Bits.TheVariants.{B8, B16, B32, B64, B128};
-ghost use Rattle.interpolator_render.specs.Views.{shown_by, some_text, fits_signed, IsInRange};
+ghost use Rattle.interpolator_render.specs.Views.{shown_by, some_text, IsInRange};
 ghost use Rattle.interpolator.specs.OwnedViews.{owned_shows};
 ghost use Rattle.interpolator.specs.declared.owned_view.OwnedView.TheVariants as owned;
 ghost use Rattle.interpolator_syntax.specs.declared.error.Error.TheVariants.{NoMemory};
@@ -104,19 +104,6 @@ impl OwnedView {
     }
 }
 
-/// Whether a number lies in the range of signed numbers of this width.
-fn fits(number: i128, bits: Bits) -> bool
-    ensures { result ≡ fits_signed number bits }
-{
-    match bits {
-        Bits::B8 => i8::MIN as i128 <= number && number <= i8::MAX as i128,
-        Bits::B16 => i16::MIN as i128 <= number && number <= i16::MAX as i128,
-        Bits::B32 => i32::MIN as i128 <= number && number <= i32::MAX as i128,
-        Bits::B64 => i64::MIN as i128 <= number && number <= i64::MAX as i128,
-        Bits::B128 => true,
-    }
-}
-
 /// The view borrows the text. A signed number outside its width is a failure.
 impl<'a> From<&'a OwnedView> for View<'a> {
     ghost from_gives = { λ value view. (shown_by view ≡ owned_shows value.now)
@@ -125,7 +112,7 @@ impl<'a> From<&'a OwnedView> for View<'a> {
     fn from(value: &'a OwnedView) -> View<'a> {
         match value {
             OwnedView::Signed(number, bits) => {
-                if fits(*number, *bits) {
+                if bits.fits(*number) {
                     View::Signed(*number, *bits)
                 } else {
                     View::Failed

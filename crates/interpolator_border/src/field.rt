@@ -3,7 +3,7 @@ ghost use Rattle.std.specs.Prelude.{◌≡◌, ◌+ℤ◌, ◌*ℤ◌, ◌+◌, 
 ghost use Rattle.std.specs.Option.{option_copied};
 ghost use Rattle.std.specs.List.{find};
 ghost use Rattle.std.specs.Str.{IsAscii};
-ghost use Rattle.interpolator_render.specs.Views.{IsInRange, shown_by, fits_signed, some_text};
+ghost use Rattle.interpolator_render.specs.Views.{IsInRange, shown_by, some_text};
 ghost use Rattle.interpolator_render.specs.Views.{plain_text};
 ghost use Rattle.interpolator_border.specs.Requests.{is_request, request_of};
 ghost use Rattle.interpolator_border.specs.Fields.{character_shows, field_shows, lent_shows};
@@ -135,25 +135,12 @@ fn character_view(code: u64) -> View<'static>
     }
 }
 
-/// Whether a number is in the range of a signed type.
-fn fits(number: i128, bits: Bits) -> bool
-    ensures { result ≡ fits_signed number bits }
-{
-    match bits {
-        Bits::B8 => i8::MIN as i128 <= number && number <= i8::MAX as i128,
-        Bits::B16 => i16::MIN as i128 <= number && number <= i16::MAX as i128,
-        Bits::B32 => i32::MIN as i128 <= number && number <= i32::MAX as i128,
-        Bits::B64 => i64::MIN as i128 <= number && number <= i64::MAX as i128,
-        Bits::B128 => true,
-    }
-}
-
 /// The view of a signed number.
 fn signed_view(number: i128, bits: Bits) -> View<'static>
     ensures shown { shown_by result ≡ signed_shows number bits }
     ensures in_range { IsInRange (shown_by result) }
 {
-    if fits(number, bits) {
+    if bits.fits(number) {
         View::Signed(number, bits)
     } else {
         View::Failed

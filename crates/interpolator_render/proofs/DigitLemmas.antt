@@ -2,7 +2,7 @@
 use Rattle.std.proofs.Common.{◌≡◌, ℕ, ◌<◌, ◌≤◌, ◌+◌, ◌-◌, ◌/◌, ◌%◌, ◌^◌, Bool, false, List, []}
 use Rattle.std.proofs.Common.{◌∷◌, ◌++◌, length, take, drop, map, set, get_or, refl, sym, ◌∙◌, ap}
 use Rattle.std.proofs.Common.{arith, append_assoc, length-append, length-drop, length-set}
-use Rattle.std.proofs.Common.{inl, inr, take-take, IsAscii, mod-eq_of_lt, div-le_self}
+use Rattle.std.proofs.Common.{inl, inr, take-take, IsAscii, mod-eq_of_lt}
 use Rattle.std.proofs.Common.{eq-zero-or-pos, le-div_iff_mul-le, append-nil}
 use Rattle.std.specs.Fmt.{digit_glyph}
 use Rattle.std.specs.Int.Digits.{digits_of, AllBelowBase}
@@ -98,12 +98,6 @@ low_step base n at upper out b h p l = grind (arith, drop-set, digit_text_step, 
 
 pub ruleset last_steps = (low_step, take-set)
 
--- four digits more
-pub four_count : (base n : ℕ) (upper : Bool) → 2 ≤ base → base ≤ n / base / base / base →
-    length (digit_text base upper n) ≡ length
-    (digit_text base upper (n / base / base / base / base)) + 4
-four_count base n upper b h = grind (arith, div-le_self, digit_count_step)
-
 pub led : (text after there : List ℕ) (first : ℕ) → 0 < length text →
     first ∷ there ≡ text ++ after → (text ≡ first ∷ drop 1 text) × (there ≡ drop 1 text ++ after)
 led text after there first h e = grind arith
@@ -190,12 +184,10 @@ text_written base n rest first few many upper low wide old glyph size long some 
     (ap (λ (x : List ℕ). x ++ drop many wide) (sym leads)
     ∙ (w ∙ rw (nothing_after old 128 size) (append-nil _)))
 
--- for digits written two, three or four at a time
+-- for digits written two or three at a time
 pub ruleset pair_texts = (digits_ascii, pair_alone)
 
 pub ruleset pair_steps = (pair_count, length-set, pair_in_front, pair_step)
-
-pub ruleset four_steps = (four_count, take_less)
 
 pub ruleset wide_steps = (digit_count_step, length-set, low_step, take-set, take_less)
 

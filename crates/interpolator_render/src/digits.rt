@@ -61,55 +61,17 @@ fn write_last(n: u64, base: u64, upper: bool, at: usize, out: &mut [u8; 128]) ->
     n / base
 }
 
-/// Writes the last four digits of a number that has more than four, at the places before `at`.
-/// Returns the number without them.
-#[inline(always)]
-fn write_last_four(n: u64, base: u64, upper: bool, at: usize, out: &mut [u8; 128]) -> u64
-    requires lowest { 2 ≤ base }
-    requires highest { base ≤ 16 }
-    requires more { base ≤ n / base / base / base }
-    requires room { 4 ≤ at }
-    requires place { at ≤ 128 }
-    ensures rest { result ≡ n / base / base / base / base }
-    ensures written { digit_text base upper result ++ drop (at - 4) out.new
-        ≡ digit_text base upper n ++ drop at out.old }
-    ensures front { take (at - 4) out.new ≡ take (at - 4) out.old }
-{
-    let tens = write_last(n, base, upper, at, out);
-    let hundreds = write_last(tens, base, upper, at - 1, out);
-    let thousands = write_last(hundreds, base, upper, at - 2, out);
-    write_last(thousands, base, upper, at - 3, out)
-}
-
-/// Writes digits of a number from the last one on, ending at the place `end` and four at a time,
-/// until one to four are left. Returns where the digits begin, and what is left of the number.
-#[tactic(auto, using(crate::proofs::DigitLemmas::four_steps))]
-#[inline(always)]
-fn write_fours(n: u64, base: u64, upper: bool, end: usize, out: &mut [u8; 128]) -> (usize, u64)
-    requires lowest { 2 ≤ base }
-    requires highest { base ≤ 16 }
-    requires place { end ≤ 128 }
-    requires room { length (digit_text base upper n) ≤ end }
-    ensures begins { result.0 + length (digit_text base upper n)
-        ≡ end + length (digit_text base upper result.1) }
-    ensures written { digit_text base upper result.1 ++ drop result.0 out.new
-        ≡ digit_text base upper n ++ drop end out.old }
-    ensures front { take result.0 out.new ≡ take result.0 out.old }
-{
-    let mut at = end;
-    let mut rest = n;
-    while rest / base / base / base >= base {
-        rest = write_last_four(rest, base, upper, at, out);
-        at -= 4;
-    }
-    (at, rest)
-}
-
 /// Writes all digits of a number but the first, ending at the place `end`. Returns where they
 /// begin, and the first digit.
 #[tactic(auto, using(crate::proofs::DigitLemmas::one_steps))]
 #[inline(always)]
-fn write_ones(n: u64, base: u64, upper: bool, end: usize, out: &mut [u8; 128]) -> (usize, u64)
+pub(crate) fn write_low(
+    n: u64,
+    base: u64,
+    upper: bool,
+    end: usize,
+    out: &mut [u8; 128],
+) -> (usize, u64)
     requires lowest { 2 ≤ base }
     requires highest { base ≤ 16 }
     requires place { end ≤ 128 }
@@ -130,32 +92,9 @@ fn write_ones(n: u64, base: u64, upper: bool, end: usize, out: &mut [u8; 128]) -
     (at, rest)
 }
 
-/// As [`write_ones`], four digits at a time while there are more.
-#[tactic(auto, using(crate::proofs::DigitLemmas::low_count))]
-#[inline(always)]
-pub(crate) fn write_low(
-    n: u64,
-    base: u64,
-    upper: bool,
-    end: usize,
-    out: &mut [u8; 128],
-) -> (usize, u64)
-    requires lowest { 2 ≤ base }
-    requires highest { base ≤ 16 }
-    requires place { end ≤ 128 }
-    requires room { length (digit_text base upper n) ≤ end }
-    ensures first { result.1 < base }
-    ensures leads { digit_text base upper n
-        ≡ digit_glyph upper result.1 ∷ drop 1 (digit_text base upper n) }
-    ensures begins { result.0 + length (drop 1 (digit_text base upper n)) ≡ end }
-    ensures written { drop result.0 out.new ≡ drop 1 (digit_text base upper n) ++ drop end out.old }
-    ensures front { take result.0 out.new ≡ take result.0 out.old }
-{
-    let (at, rest) = write_fours(n, base, upper, end, out);
-    write_ones(rest, base, upper, at, out)
-}
-
-/// As [`write_fours`], in base ten: two digits by each division, until one or two are left.
+/// Writes digits of a number from the last one on, ending at the place `end`, in base ten: two by
+/// each division, until one or two are left. Returns where the digits begin, and what is left of
+/// the number.
 #[tactic(auto, using(crate::proofs::DigitLemmas::pair_steps))]
 #[inline(always)]
 fn write_pairs(n: u64, end: usize, out: &mut [u8; 128]) -> (usize, u64)
@@ -180,7 +119,7 @@ fn write_pairs(n: u64, end: usize, out: &mut [u8; 128]) -> (usize, u64)
     (at, rest)
 }
 
-/// As [`write_ones`], in base ten and of a number of any width.
+/// As [`write_low`], in base ten and of a number of any width.
 #[tactic(auto, using(crate::proofs::DigitLemmas::low_decimal_steps))]
 #[inline(always)]
 pub(crate) fn write_low_decimal(n: u128, end: usize, out: &mut [u8; 128]) -> (usize, u64)
@@ -195,7 +134,7 @@ pub(crate) fn write_low_decimal(n: u128, end: usize, out: &mut [u8; 128]) -> (us
 {
     let (many, most) = write_wide(n, 10, false, end, out);
     let (few, rest) = write_pairs(most, many, out);
-    write_ones(rest, 10, false, few, out)
+    write_low(rest, 10, false, few, out)
 }
 
 /// Writes the digits of a number at the end of the buffer. Returns where they begin.

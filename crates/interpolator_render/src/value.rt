@@ -6,7 +6,7 @@ ghost use Rattle.interpolator_render.specs.declared.view.Spec.{Spec};
 ghost use Rattle.interpolator_render.specs.declared.view.Trait.{Trait};
 ghost use Rattle.interpolator_render.specs.Views.{IsInRange, Shown, shown_by, signed_number};
 ghost use Rattle.interpolator_render.specs.Views.{unsigned_number, truth_value, one_character};
-ghost use Rattle.interpolator_render.specs.Views.{some_text, fits_signed, shown_as_value};
+ghost use Rattle.interpolator_render.specs.Views.{some_text, shown_as_value};
 
 use crate::view::{Bits, Spec, Trait, View};
 
@@ -172,7 +172,7 @@ impl<'a> Value for View<'a> {
     fn view(&self, _t: Trait, _spec: &Spec) -> View<'_> {
         match *self {
             View::Signed(number, bits) => {
-                if fits(number, bits) {
+                if bits.fits(number) {
                     View::Signed(number, bits)
                 } else {
                     View::Failed
@@ -180,18 +180,5 @@ impl<'a> Value for View<'a> {
             }
             _ => *self,
         }
-    }
-}
-
-/// Whether a number lies in the range of signed numbers of this width.
-fn fits(number: i128, bits: Bits) -> bool
-    ensures { result ≡ fits_signed number bits }
-{
-    match bits {
-        Bits::B8 => i8::MIN as i128 <= number && number <= i8::MAX as i128,
-        Bits::B16 => i16::MIN as i128 <= number && number <= i16::MAX as i128,
-        Bits::B32 => i32::MIN as i128 <= number && number <= i32::MAX as i128,
-        Bits::B64 => i64::MIN as i128 <= number && number <= i64::MAX as i128,
-        Bits::B128 => true,
     }
 }

@@ -1,4 +1,6 @@
 //! What is to be written, and how: traits, specs and views.
+ghost use Rattle.std.specs.Prelude.{◌≡◌};
+ghost use Rattle.interpolator_render.specs.Views.{fits_signed};
 
 /// A formatting trait: a way of writing a value.
 #[derive(Clone, Copy, Debug, PartialEq, Eq)]
@@ -74,6 +76,26 @@ pub enum Bits {
     B64,
     /// 128 bits, as of an `i128`.
     B128,
+}
+
+impl Bits {
+    /// Whether a number lies in the range of signed numbers of this width.
+    ///
+    /// ```text
+    /// Bits::B8.fits(-128)   // true
+    /// Bits::B8.fits(128)    // false
+    /// ```
+    pub fn fits(self, number: i128) -> bool
+        ensures { result ≡ fits_signed number self }
+    {
+        match self {
+            Bits::B8 => i8::MIN as i128 <= number && number <= i8::MAX as i128,
+            Bits::B16 => i16::MIN as i128 <= number && number <= i16::MAX as i128,
+            Bits::B32 => i32::MIN as i128 <= number && number <= i32::MAX as i128,
+            Bits::B64 => i64::MIN as i128 <= number && number <= i64::MAX as i128,
+            Bits::B128 => true,
+        }
+    }
 }
 
 /// The fill, flags, width and precision under which a value is written. By default nothing is set.

@@ -1,6 +1,6 @@
 use Rattle.std.proofs.Common.{◌≡◌, ◌≤◌, ◌+◌, length, drop, take, ◌++◌}
 use Rattle.interpolator_render.specs.Digits.{digit_text}
-use Rattle.interpolator_render.proofs.digits.write_ones.Given as goal
+use Rattle.interpolator_render.proofs.digits.write_low.Given as goal
 
 abbrev pub invariant-loop-rest : goal.invariant-loop-rest
 invariant-loop-rest l = record {
