@@ -3,36 +3,17 @@ use Rattle.std.specs.Prelude.{ℕ, List, [], ◌∷◌, map, min, take, Option, 
 use Rattle.std.specs.Prelude.{slice_get}
 use Rattle.std.specs.Borrow.{Bor}
 use Rattle.interpolator_render.specs.declared.view.Trait.{Trait}
-use Rattle.interpolator_render.specs.declared.view.Trait.TheVariants.{Binary, Debug, Display}
-use Rattle.interpolator_render.specs.declared.view.Trait.TheVariants.{LowerExp}
-use Rattle.interpolator_render.specs.declared.view.Trait.TheVariants.{LowerHex, Octal, UpperExp}
-use Rattle.interpolator_render.specs.declared.view.Trait.TheVariants.{UpperHex, Iter}
 use Rattle.interpolator_render.specs.declared.view.View.{View}
 use Rattle.interpolator_render.specs.declared.view.Spec.{Spec}
 use Rattle.interpolator_render.specs.Views.{Shown, shown_as_value}
 use Rattle.interpolator_eval.specs.Contexts.{last_under}
 use Rattle.std.specs.Str.{encode_utf8_all}
-use Rattle.interpolator_eval.specs.Slots.{Slots, slots_of, empty_slots, with_iter}
-use Rattle.interpolator_eval.specs.Slots.{with_debug, with_display, with_binary, with_lower_exp}
-use Rattle.interpolator_eval.specs.Slots.{with_lower_hex, with_octal, with_upper_exp}
-use Rattle.interpolator_eval.specs.Slots.{with_upper_hex}
+use Rattle.interpolator_eval.specs.Slots.{Slots, slots_of, empty_slots, with_iter, with_trait}
 use Rattle.interpolator_eval.specs.declared.slots.Formattable.{Formattable}
 use Rattle.interpolator.specs.declared.values.NamedValue.{NamedValue}
 use Rattle.interpolator.specs.declared.values.Values.{Values}
 
 module _ {X : Type 0} where
-  -- the tree with the slot of a trait filled; a value fills no list
-  abbrev pub with_trait : Trait → Slots X → X → Slots X
-  with_trait Binary tree value = with_binary tree value
-  with_trait Debug tree value = with_debug tree value
-  with_trait Display tree value = with_display tree value
-  with_trait LowerExp tree value = with_lower_exp tree value
-  with_trait LowerHex tree value = with_lower_hex tree value
-  with_trait Octal tree value = with_octal tree value
-  with_trait UpperExp tree value = with_upper_exp tree value
-  with_trait UpperHex tree value = with_upper_hex tree value
-  with_trait Iter tree value = tree
-
   -- the tree with the slots of these traits filled
   abbrev pub with_traits : List Trait → Slots X → X → Slots X
   with_traits [] tree value = tree

@@ -5,7 +5,7 @@ ghost use Rattle.std.specs.Option.{option_copied};
 ghost use Rattle.std.specs.Str.{bytes_eq, encode_utf8_all};
 ghost use Rattle.interpolator_eval.specs.Contexts.{last_under};
 ghost use Rattle.interpolator_eval.specs.Slots.{slots_of, empty_slots, with_iter};
-ghost use Rattle.interpolator.specs.NamedValues.{with_trait, with_traits, named_slots, pair_of};
+ghost use Rattle.interpolator.specs.NamedValues.{with_traits, named_slots, pair_of};
 ghost use Rattle.interpolator.specs.NamedValues.{pairs_of};
 
 use crate::interpolate::Interpolate;
@@ -49,30 +49,6 @@ pub fn named_list<'a>(name: &'a str, items: &'a [Formattable<'a, View<'a>>]) -> 
     }
 }
 
-/// No slot, at the lifetime of a value.
-fn no_slots<'a, V>(_value: &'a V) -> Formattable<'a, V>
-    ensures { slots_of result ≡ empty_slots }
-{
-    Formattable::default()
-}
-
-/// Fills the slot of a trait too; there is no value in that of a list.
-fn and_slot<'a, V>(slots: Formattable<'a, V>, filled: Trait, value: &'a V) -> Formattable<'a, V>
-    ensures { slots_of result ≡ with_trait filled (slots_of slots.entry) value.now }
-{
-    match filled {
-        Trait::Binary => slots.and_binary(value),
-        Trait::Debug => slots.and_debug(value),
-        Trait::Display => slots.and_display(value),
-        Trait::LowerExp => slots.and_lower_exp(value),
-        Trait::LowerHex => slots.and_lower_hex(value),
-        Trait::Octal => slots.and_octal(value),
-        Trait::UpperExp => slots.and_upper_exp(value),
-        Trait::UpperHex => slots.and_upper_hex(value),
-        Trait::Iter => slots,
-    }
-}
-
 /// Fills the slots of these traits too.
 pub(crate) fn and_slots<'a, V>(
     before: Formattable<'a, V>,
@@ -83,7 +59,7 @@ pub(crate) fn and_slots<'a, V>(
 {
     let mut slots = before;
     for filled in traits {
-        slots = and_slot(slots, *filled, value);
+        slots = slots.and_slot(*filled, value);
     }
     slots
 }
@@ -92,7 +68,7 @@ pub(crate) fn and_slots<'a, V>(
 fn in_slots<'a, V>(traits: &[Trait], value: &'a V) -> Formattable<'a, V>
     ensures { slots_of result ≡ with_traits traits.now empty_slots value.now }
 {
-    and_slots(no_slots(value), traits, value)
+    and_slots(Formattable::default(), traits, value)
 }
 
 impl<'a> NamedValue<'a> {

@@ -13,10 +13,11 @@ use Rattle.interpolator_render.specs.declared.view.Bits.{Bits}
 use Rattle.interpolator_render.specs.declared.view.Bits.TheVariants.{B8, B16, B32, B64, B128}
 use Rattle.interpolator_render.specs.declared.view.Spec.{Spec}
 use Rattle.interpolator_render.specs.declared.view.Trait.{Trait}
-use Rattle.interpolator_eval.specs.Slots.{Slots, empty_slots, with_debug_display, with_debug}
-use Rattle.interpolator_eval.specs.Slots.{with_display, with_integer, with_binary, with_octal}
-use Rattle.interpolator_eval.specs.Slots.{with_lower_hex, with_upper_hex, with_lower_exp}
-use Rattle.interpolator_eval.specs.Slots.{with_upper_exp, with_iter}
+use Rattle.interpolator_render.specs.declared.view.Trait.TheVariants.{Binary, Debug, Display}
+use Rattle.interpolator_render.specs.declared.view.Trait.TheVariants.{LowerExp, LowerHex, Octal}
+use Rattle.interpolator_render.specs.declared.view.Trait.TheVariants.{UpperExp, UpperHex}
+use Rattle.interpolator_eval.specs.Slots.{Slots, empty_slots, with_debug_display, with_integer}
+use Rattle.interpolator_eval.specs.Slots.{with_iter, with_trait}
 use Rattle.interpolator_border.specs.Requests.{is_request, request_of}
 use Rattle.interpolator_border.specs.declared.field.Field.{Field}
 use Rattle.interpolator_border.specs.declared.field.Lent.{Lent}
@@ -83,14 +84,14 @@ when mask bit fill tree field = if bit_and mask bit == 0 then tree else fill tre
 -- the slots of a mask
 abbrev pub masked_slots : ℕ → Field → Slots Field
 masked_slots mask field =
-    let tree = when mask 1 with_display empty_slots field in
-    let tree = when mask 2 with_debug tree field in
-    let tree = when mask 4 with_binary tree field in
-    let tree = when mask 8 with_octal tree field in
-    let tree = when mask 16 with_lower_hex tree field in
-    let tree = when mask 32 with_upper_hex tree field in
-    let tree = when mask 64 with_lower_exp tree field in
-    when mask 128 with_upper_exp tree field
+    let tree = when mask 1 (with_trait Display) empty_slots field in
+    let tree = when mask 2 (with_trait Debug) tree field in
+    let tree = when mask 4 (with_trait Binary) tree field in
+    let tree = when mask 8 (with_trait Octal) tree field in
+    let tree = when mask 16 (with_trait LowerHex) tree field in
+    let tree = when mask 32 (with_trait UpperHex) tree field in
+    let tree = when mask 64 (with_trait LowerExp) tree field in
+    when mask 128 (with_trait UpperExp) tree field
 
 -- the slots of a kind: a text, a truth value and a character have those of debug and display, all
 -- else each

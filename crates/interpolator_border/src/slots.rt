@@ -1,14 +1,11 @@
 //! Which slots a field fills.
 ghost use Rattle.std.specs.Prelude.{◌≡◌, map, drop, take};
-ghost use Rattle.interpolator_eval.specs.Slots.{slots_of, with_iter, with_display};
-ghost use Rattle.interpolator_eval.specs.Slots.{with_debug, with_binary, with_octal};
-ghost use Rattle.interpolator_eval.specs.Slots.{with_lower_hex};
-ghost use Rattle.interpolator_eval.specs.Slots.{with_upper_hex, with_lower_exp, with_upper_exp};
+ghost use Rattle.interpolator_eval.specs.Slots.{slots_of, with_iter, with_trait};
 ghost use Rattle.interpolator_border.specs.Fields.{field_slots, kind_slots, masked_slots};
 ghost use Rattle.interpolator_border.specs.Fields.{value_slots, when};
 
 use crate::field::{CHARACTER, Field, LIST};
-use interpolator::Formattable;
+use interpolator::{Formattable, Trait};
 
 /// The slots of a kind.
 #[inline(always)]
@@ -22,131 +19,21 @@ fn kind_slots<'a>(field: &'a Field<'a>) -> Formattable<'a, Field<'a>>
     }
 }
 
-/// The display slot too, if the mask has its bit.
+/// The slot of a trait too, if the mask has its bit.
 #[inline(always)]
-fn masked_display<'a>(
-    mask: u32,
+fn and_masked<'a>(
     slots: Formattable<'a, Field<'a>>,
+    mask: u32,
+    bit: u32,
+    filled: Trait,
     field: &'a Field<'a>,
 ) -> Formattable<'a, Field<'a>>
-    ensures { slots_of result ≡ when mask 1 with_display (slots_of slots.entry) field.now }
+    ensures { slots_of result ≡ when mask bit (with_trait filled) (slots_of slots.entry) field.now }
 {
-    if mask & 1 == 0 {
+    if mask & bit == 0 {
         slots
     } else {
-        slots.and_display(field)
-    }
-}
-
-/// The debug slot too.
-#[inline(always)]
-fn masked_debug<'a>(
-    mask: u32,
-    slots: Formattable<'a, Field<'a>>,
-    field: &'a Field<'a>,
-) -> Formattable<'a, Field<'a>>
-    ensures { slots_of result ≡ when mask 2 with_debug (slots_of slots.entry) field.now }
-{
-    if mask & 2 == 0 {
-        slots
-    } else {
-        slots.and_debug(field)
-    }
-}
-
-/// The binary slot too.
-#[inline(always)]
-fn masked_binary<'a>(
-    mask: u32,
-    slots: Formattable<'a, Field<'a>>,
-    field: &'a Field<'a>,
-) -> Formattable<'a, Field<'a>>
-    ensures { slots_of result ≡ when mask 4 with_binary (slots_of slots.entry) field.now }
-{
-    if mask & 4 == 0 {
-        slots
-    } else {
-        slots.and_binary(field)
-    }
-}
-
-/// The octal slot too.
-#[inline(always)]
-fn masked_octal<'a>(
-    mask: u32,
-    slots: Formattable<'a, Field<'a>>,
-    field: &'a Field<'a>,
-) -> Formattable<'a, Field<'a>>
-    ensures { slots_of result ≡ when mask 8 with_octal (slots_of slots.entry) field.now }
-{
-    if mask & 8 == 0 {
-        slots
-    } else {
-        slots.and_octal(field)
-    }
-}
-
-/// The lower_hex slot too.
-#[inline(always)]
-fn masked_lower_hex<'a>(
-    mask: u32,
-    slots: Formattable<'a, Field<'a>>,
-    field: &'a Field<'a>,
-) -> Formattable<'a, Field<'a>>
-    ensures { slots_of result ≡ when mask 16 with_lower_hex (slots_of slots.entry) field.now }
-{
-    if mask & 16 == 0 {
-        slots
-    } else {
-        slots.and_lower_hex(field)
-    }
-}
-
-/// The upper_hex slot too.
-#[inline(always)]
-fn masked_upper_hex<'a>(
-    mask: u32,
-    slots: Formattable<'a, Field<'a>>,
-    field: &'a Field<'a>,
-) -> Formattable<'a, Field<'a>>
-    ensures { slots_of result ≡ when mask 32 with_upper_hex (slots_of slots.entry) field.now }
-{
-    if mask & 32 == 0 {
-        slots
-    } else {
-        slots.and_upper_hex(field)
-    }
-}
-
-/// The lower_exp slot too.
-#[inline(always)]
-fn masked_lower_exp<'a>(
-    mask: u32,
-    slots: Formattable<'a, Field<'a>>,
-    field: &'a Field<'a>,
-) -> Formattable<'a, Field<'a>>
-    ensures { slots_of result ≡ when mask 64 with_lower_exp (slots_of slots.entry) field.now }
-{
-    if mask & 64 == 0 {
-        slots
-    } else {
-        slots.and_lower_exp(field)
-    }
-}
-
-/// The upper_exp slot too.
-#[inline(always)]
-fn masked_upper_exp<'a>(
-    mask: u32,
-    slots: Formattable<'a, Field<'a>>,
-    field: &'a Field<'a>,
-) -> Formattable<'a, Field<'a>>
-    ensures { slots_of result ≡ when mask 128 with_upper_exp (slots_of slots.entry) field.now }
-{
-    if mask & 128 == 0 {
-        slots
-    } else {
-        slots.and_upper_exp(field)
+        slots.and_slot(filled, field)
     }
 }
 
@@ -155,14 +42,14 @@ fn masked_upper_exp<'a>(
 fn masked_slots<'a>(mask: u32, field: &'a Field<'a>) -> Formattable<'a, Field<'a>>
     ensures { slots_of result ≡ masked_slots mask field.now }
 {
-    let slots = masked_display(mask, Formattable::default(), field);
-    let slots = masked_debug(mask, slots, field);
-    let slots = masked_binary(mask, slots, field);
-    let slots = masked_octal(mask, slots, field);
-    let slots = masked_lower_hex(mask, slots, field);
-    let slots = masked_upper_hex(mask, slots, field);
-    let slots = masked_lower_exp(mask, slots, field);
-    masked_upper_exp(mask, slots, field)
+    let slots = and_masked(Formattable::default(), mask, 1, Trait::Display, field);
+    let slots = and_masked(slots, mask, 2, Trait::Debug, field);
+    let slots = and_masked(slots, mask, 4, Trait::Binary, field);
+    let slots = and_masked(slots, mask, 8, Trait::Octal, field);
+    let slots = and_masked(slots, mask, 16, Trait::LowerHex, field);
+    let slots = and_masked(slots, mask, 32, Trait::UpperHex, field);
+    let slots = and_masked(slots, mask, 64, Trait::LowerExp, field);
+    and_masked(slots, mask, 128, Trait::UpperExp, field)
 }
 
 /// The slots of a value.

@@ -175,6 +175,18 @@ module _ {X : Type 0} where
   abbrev pub with_upper_hex : Slots X → X → Slots X
   with_upper_hex tree value = with_values tree (record (values_of tree) { upper_hex = Some value })
 
+  -- the tree with the slot of a trait filled; a value fills no list
+  abbrev pub with_trait : Trait → Slots X → X → Slots X
+  with_trait Binary tree value = with_binary tree value
+  with_trait Debug tree value = with_debug tree value
+  with_trait Display tree value = with_display tree value
+  with_trait LowerExp tree value = with_lower_exp tree value
+  with_trait LowerHex tree value = with_lower_hex tree value
+  with_trait Octal tree value = with_octal tree value
+  with_trait UpperExp tree value = with_upper_exp tree value
+  with_trait UpperHex tree value = with_upper_hex tree value
+  with_trait Iter tree value = tree
+
   -- the tree with these items, and its slots as they were
   abbrev pub with_iter : Slots X → List (Slots X) → Slots X
   with_iter tree others = with_items (values_of tree) (Some others)

@@ -4,9 +4,10 @@ ghost use Rattle.interpolator_eval.specs.Slots.{slots_of, empty_slots};
 ghost use Rattle.interpolator_eval.specs.Slots.{with_debug_display, with_debug, with_display};
 ghost use Rattle.interpolator_eval.specs.Slots.{with_integer, with_float, with_binary, with_iter};
 ghost use Rattle.interpolator_eval.specs.Slots.{with_lower_exp, with_lower_hex, with_octal};
-ghost use Rattle.interpolator_eval.specs.Slots.{with_upper_exp, with_upper_hex};
+ghost use Rattle.interpolator_eval.specs.Slots.{with_trait, with_upper_exp, with_upper_hex};
 
 use crate::slots::Formattable;
+use interpolator_render::Trait;
 
 /// Each constructor fills the slots of its name, and no others.
 impl<'a, V> Formattable<'a, V> {
@@ -149,6 +150,26 @@ impl<'a, V> Formattable<'a, V> {
     {
         self.set_display(value);
         self
+    }
+
+    /// Fills the slot of a trait too. A value fills no list: for [`Trait::Iter`] nothing changes.
+    ///
+    /// `Formattable::display(&n).and_slot(Trait::LowerHex, &n)` of 255: `{n:x}` is `ff`.
+    #[inline(always)]
+    pub fn and_slot(self, filled: Trait, value: &'a V) -> Self
+        ensures { slots_of result ≡ with_trait filled (slots_of self.entry) value.now }
+    {
+        match filled {
+            Trait::Binary => self.and_binary(value),
+            Trait::Debug => self.and_debug(value),
+            Trait::Display => self.and_display(value),
+            Trait::LowerExp => self.and_lower_exp(value),
+            Trait::LowerHex => self.and_lower_hex(value),
+            Trait::Octal => self.and_octal(value),
+            Trait::UpperExp => self.and_upper_exp(value),
+            Trait::UpperHex => self.and_upper_hex(value),
+            Trait::Iter => self,
+        }
     }
 
     /// Fills the eight slots of the formatting traits too.
