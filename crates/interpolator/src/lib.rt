@@ -36,6 +36,7 @@ mod parts;
 mod position;
 mod template;
 mod values;
+mod values_of;
 mod views;
 
 pub use choice::first_if;

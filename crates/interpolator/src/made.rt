@@ -3,10 +3,10 @@ ghost use Rattle.std.specs.Prelude.{◌≡◌, MatchResult, None, Some};
 ghost use Rattle.interpolator_syntax.specs.Faults.{result_answer, fault, fmt};
 
 pub use crate::lent::{Lent, and_lent, lent_list, lent_value, no_names};
-pub use crate::values::{
-    named_list, named_value, values_0, values_1, values_2, values_3, values_4, values_5, values_6,
-    values_7, values_8, values_9, values_10, values_11, values_12, values_13, values_14, values_15,
-    values_16,
+pub use crate::values::{named_list, named_value};
+pub use crate::values_of::{
+    values_0, values_1, values_2, values_3, values_4, values_5, values_6, values_7, values_8,
+    values_9, values_10, values_11, values_12, values_13, values_14, values_15, values_16,
 };
 pub use crate::views::{
     views_1, views_2, views_3, views_4, views_5, views_6, views_7, views_8, views_9, views_10,
