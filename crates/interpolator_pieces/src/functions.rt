@@ -23,7 +23,7 @@ use crate::parse::parse_pieces;
 use crate::piece::Piece;
 use crate::stored_source::Stored;
 use crate::walk::walk_text;
-use interpolator_eval::{Context, Environment, PieceCount, Sink, write_source, write_text};
+use interpolator_eval::{Context, Environment, PieceCount, Sink, write_source, write_uncounted};
 use interpolator_render::{TextBuffer, TextWrite};
 use interpolator_syntax::{Cursor, Error};
 use std::alloc::{AllocError, Global};
@@ -86,7 +86,7 @@ pub fn write<W: TextWrite, C: Context>(
         rest: format,
     };
     let mut sink = Sink::Writer(out);
-    let answer = write_text(&mut sink, &Environment::outermost(alloc, context), text);
+    let answer = write_uncounted(&mut sink, &Environment::outermost(alloc, context), text);
     sink.into_writer();
     answer
 }
@@ -155,7 +155,8 @@ pub fn write_counted<W: TextWrite, C: Context, L: Ledger>(
         pieces: format.pieces,
     };
     let environment = Environment::outermost(alloc, context);
-    let answer = write_source(&mut sink, &environment, source, count);
+    let mut scratch = source.scratch_list();
+    let answer = write_source(&mut sink, &environment, source, &mut scratch, count);
     sink.into_writer();
     answer
 }
