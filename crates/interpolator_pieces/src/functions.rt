@@ -24,7 +24,9 @@ use crate::parse::parse_pieces;
 use crate::piece::Piece;
 use crate::stored_source::Stored;
 use crate::walk::walk_text;
-use interpolator_eval::{Context, Environment, PieceCount, Sink, write_source, write_uncounted};
+use interpolator_eval::{
+    Context, Environment, FormatSource, PieceCount, Sink, write_source, write_uncounted,
+};
 use interpolator_render::{TextBuffer, TextWrite};
 use interpolator_syntax::{Cursor, Error};
 use std::alloc::{AllocError, Global};

@@ -1,6 +1,5 @@
 //! Formats with a newline after them.
 ghost use Rattle.interpolator_syntax.specs.Faults.{result_answer};
-ghost use Rattle.interpolator_eval.specs.Meaning.Meanings.{means};
 ghost use Rattle.interpolator_pieces.specs.Lines.{newline_means};
 ghost use Rattle.interpolator_eval.specs.Meaning.Outcomes.{Outcome};
 ghost use Rattle.interpolator_pieces.specs.Calls.{WritesLine};
