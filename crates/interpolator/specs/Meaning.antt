@@ -1,6 +1,7 @@
 -- What a format means, and what writing it leaves.
 pub use Rattle.interpolator_eval.specs.Meaning.AskedGrammar
 pub use Rattle.interpolator_eval.specs.Meaning.AskedNames
+pub use Rattle.interpolator_pieces.specs.Calls
 pub use Rattle.interpolator_eval.specs.Meaning.Choices
 pub use Rattle.interpolator_eval.specs.Meaning.Environments
 pub use Rattle.interpolator_eval.specs.Meaning.EqualValues

@@ -3,17 +3,16 @@ ghost use Rattle.std.specs.Prelude.{◌≡◌, length, ◌<◌, ◌^◌, map, If
 ghost use Rattle.std.specs.List.{All};
 ghost use Rattle.std.specs.Str.{chars};
 ghost use Rattle.interpolator_syntax.specs.At.{outermost};
-ghost use Rattle.interpolator_eval.specs.Meaning.AskedNames.{asked_names};
-ghost use Rattle.interpolator_eval.specs.Meaning.Environments.{environment, cut};
+ghost use Rattle.interpolator_eval.specs.Meaning.Environments.{environment};
 ghost use Rattle.interpolator_syntax.specs.Faults.{answer_of, result_answer, fault, no_memory};
 ghost use Rattle.interpolator_syntax.specs.Faults.{PlaceWithin};
-ghost use Rattle.interpolator_pieces.specs.Lines.{line_means};
 ghost use Rattle.interpolator_eval.specs.Meaning.Meanings.{means};
-ghost use Rattle.interpolator_eval.specs.Meaning.Outcomes.{Outcome, Formats};
+ghost use Rattle.interpolator_eval.specs.Meaning.Outcomes.{Outcome};
 ghost use Rattle.interpolator.specs.Meaning.Parts.{joined_text, texts_of, bytes_of, parts_mean};
 ghost use Rattle.interpolator.specs.Meaning.Parts.{Clean, FrontsClose};
 ghost use Rattle.interpolator_pieces.specs.NodeSamples.{faults_over};
 ghost use Rattle.interpolator_pieces.specs.Collecting.{AnswersFirst};
+ghost use Rattle.interpolator_pieces.specs.Calls.{MakesText, WritesLine, WritesText};
 
 use crate::parts::write_parts;
 use crate::template::Template;
@@ -39,14 +38,7 @@ pub trait Interpolate: Context {
     /// context.format(alloc, "{n:>3}")?    // with 7 under `n`: "  7"
     /// ```
     fn format(&self, alloc: Global, text: &str) -> Result<String, Error>
-        ensures formats { Formats
-            (means Self.Object.shows (environment (Self.finds self.now))
-            (outermost (chars text.now)))
-            result }
-        ensures asked { let a = outermost (chars text.now) in Formats
-            (means Self.Object.shows (cut (environment (Self.finds self.now)) (asked_names a)) a)
-            result }
-        ensures place { PlaceWithin (length text.now) (result_answer result) }
+        ensures { MakesText Self.Object.shows (Self.finds self.now) text.now result }
     {
         format(alloc, text, self)
     }
@@ -61,14 +53,8 @@ pub trait Interpolate: Context {
     /// context.write_to(alloc, &mut out, "{n};")?    // with 7 under `n`, appends "7;"
     /// ```
     fn write_to<W: TextWrite>(&self, alloc: Global, out: &mut W, text: &str) -> Result<(), Error>
-        ensures outcome { Outcome
-            (means Self.Object.shows (environment (Self.finds self.now))
-            (outermost (chars text.now)))
+        ensures { WritesText Self.Object.shows (Self.finds self.now) text.now
             (W.written out.old) (W.written out.new) (result_answer result) }
-        ensures asked { let a = outermost (chars text.now) in Outcome
-            (means Self.Object.shows (cut (environment (Self.finds self.now)) (asked_names a)) a)
-            (W.written out.old) (W.written out.new) (result_answer result) }
-        ensures place { PlaceWithin (length text.now) (result_answer result) }
     {
         write(alloc, out, text, self)
     }
@@ -89,16 +75,8 @@ pub trait Interpolate: Context {
         out: &mut W,
         text: &str,
     ) -> Result<(), Error>
-        ensures outcome { Outcome
-            (line_means
-            (means Self.Object.shows (environment (Self.finds self.now))
-            (outermost (chars text.now))))
+        ensures { WritesLine Self.Object.shows (Self.finds self.now) text.now
             (W.written out.old) (W.written out.new) (result_answer result) }
-        ensures asked { let a = outermost (chars text.now) in Outcome
-            (line_means
-            (means Self.Object.shows (cut (environment (Self.finds self.now)) (asked_names a)) a))
-            (W.written out.old) (W.written out.new) (result_answer result) }
-        ensures place { PlaceWithin (length text.now) (result_answer result) }
     {
         iwriteln(alloc, out, text, self)
     }
@@ -150,14 +128,8 @@ pub trait Interpolate: Context {
         out: &mut W,
         template: &Template,
     ) -> Result<(), Error>
-        ensures outcome { Outcome
-            (means Self.Object.shows (environment (Self.finds self.now))
-            (outermost (chars template.now)))
+        ensures { WritesText Self.Object.shows (Self.finds self.now) template.now
             (W.written out.old) (W.written out.new) (result_answer result) }
-        ensures asked { let a = outermost (chars template.now) in Outcome
-            (means Self.Object.shows (cut (environment (Self.finds self.now)) (asked_names a)) a)
-            (W.written out.old) (W.written out.new) (result_answer result) }
-        ensures place { PlaceWithin (length template.now) (result_answer result) }
     {
         template.write(alloc, out, self)
     }
@@ -179,16 +151,8 @@ pub trait Interpolate: Context {
         out: &mut W,
         template: &Template,
     ) -> Result<(), Error>
-        ensures outcome { Outcome
-            (line_means
-            (means Self.Object.shows (environment (Self.finds self.now))
-            (outermost (chars template.now))))
+        ensures { WritesLine Self.Object.shows (Self.finds self.now) template.now
             (W.written out.old) (W.written out.new) (result_answer result) }
-        ensures asked { let a = outermost (chars template.now) in Outcome
-            (line_means
-            (means Self.Object.shows (cut (environment (Self.finds self.now)) (asked_names a)) a))
-            (W.written out.old) (W.written out.new) (result_answer result) }
-        ensures place { PlaceWithin (length template.now) (result_answer result) }
     {
         template.write_line(alloc, out, self)
     }
@@ -203,14 +167,7 @@ pub trait Interpolate: Context {
     /// context.format_template(alloc, &template)?    // for `{n:>3}` and 7: "  7"
     /// ```
     fn format_template(&self, alloc: Global, template: &Template) -> Result<String, Error>
-        ensures formats { Formats
-            (means Self.Object.shows (environment (Self.finds self.now))
-            (outermost (chars template.now)))
-            result }
-        ensures asked { let a = outermost (chars template.now) in Formats
-            (means Self.Object.shows (cut (environment (Self.finds self.now)) (asked_names a)) a)
-            result }
-        ensures place { PlaceWithin (length template.now) (result_answer result) }
+        ensures { MakesText Self.Object.shows (Self.finds self.now) template.now result }
     {
         template.format(alloc, self)
     }

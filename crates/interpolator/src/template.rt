@@ -8,15 +8,12 @@ ghost use Rattle.interpolator_syntax.specs.At.{outermost};
 ghost use Rattle.interpolator_syntax.specs.Faults.{answer_of, result_answer, fault, no_memory};
 ghost use Rattle.interpolator_syntax.specs.Faults.{PlaceWithin};
 ghost use Rattle.interpolator_eval.specs.Meaning.AskedNames.{asked_names};
-ghost use Rattle.interpolator_eval.specs.Meaning.Environments.{environment, cut};
+ghost use Rattle.interpolator_eval.specs.Meaning.Environments.{environment};
 ghost use Rattle.interpolator_eval.specs.Meaning.Limits.{IsWithin};
-ghost use Rattle.interpolator_eval.specs.Meaning.Meanings.{means};
-ghost use Rattle.interpolator_eval.specs.Meaning.Outcomes.{Outcome, Formats};
 ghost use Rattle.interpolator_eval.specs.Meaning.Work.{text_work};
 ghost use Rattle.interpolator_eval.specs.Contexts.{found_by_pairs};
 ghost use Rattle.interpolator_prepared.specs.Rows.{pair_names};
 ghost use Rattle.interpolator_pieces.specs.AllArguments.{arguments_of};
-ghost use Rattle.interpolator_pieces.specs.Lines.{line_means};
 ghost use Rattle.interpolator_pieces.specs.NodeChecks.{first_fault, text_faults};
 ghost use Rattle.interpolator_pieces.specs.NodeCosts.{usize_cost, text_cost};
 ghost use Rattle.interpolator_pieces.specs.NodeExtents.{forest_depth, forest_extent};
@@ -29,6 +26,7 @@ ghost use Rattle.interpolator_syntax.specs.Nodes.{as_forest, nodes};
 ghost use Rattle.interpolator_pieces.specs.Stored.{nodes_of};
 ghost use Rattle.interpolator_pieces.specs.Visits.{Walks, text_visits};
 ghost use Rattle.interpolator.specs.NamedValues.{found_by_values, pairs_of, view_shows};
+ghost use Rattle.interpolator_pieces.specs.Calls.{MakesText, WritesLine, WritesText};
 
 use crate::values::Values;
 use interpolator_eval::{Context, Pairs, PieceCount, SampleEnvironment};
@@ -138,13 +136,8 @@ impl Template {
         out: &mut W,
         context: &C,
     ) -> Result<(), Error>
-        ensures outcome { Outcome
-            (means C.Object.shows (environment (C.finds context.now)) (outermost (chars self.now)))
+        ensures { WritesText C.Object.shows (C.finds context.now) self.now
             (W.written out.old) (W.written out.new) (result_answer result) }
-        ensures asked { let a = outermost (chars self.now) in Outcome
-            (means C.Object.shows (cut (environment (C.finds context.now)) (asked_names a)) a)
-            (W.written out.old) (W.written out.new) (result_answer result) }
-        ensures place { PlaceWithin (length self.now) (result_answer result) }
     {
         write_pieces(alloc, out, self.parsed(), context)
     }
@@ -167,15 +160,8 @@ impl Template {
         out: &mut W,
         context: &C,
     ) -> Result<(), Error>
-        ensures outcome { Outcome
-            (line_means (means C.Object.shows (environment (C.finds context.now))
-            (outermost (chars self.now))))
+        ensures { WritesLine C.Object.shows (C.finds context.now) self.now
             (W.written out.old) (W.written out.new) (result_answer result) }
-        ensures asked { let a = outermost (chars self.now) in Outcome
-            (line_means
-            (means C.Object.shows (cut (environment (C.finds context.now)) (asked_names a)) a))
-            (W.written out.old) (W.written out.new) (result_answer result) }
-        ensures place { PlaceWithin (length self.now) (result_answer result) }
     {
         match self.write(alloc, out, context) {
             Ok(()) => write_newline(out),
@@ -210,13 +196,8 @@ impl Template {
         context: &C,
         count: &mut PieceCount<L>,
     ) -> Result<(), Error>
-        ensures outcome { Outcome
-            (means C.Object.shows (environment (C.finds context.now)) (outermost (chars self.now)))
+        ensures written { WritesText C.Object.shows (C.finds context.now) self.now
             (W.written out.old) (W.written out.new) (result_answer result) }
-        ensures asked { let a = outermost (chars self.now) in Outcome
-            (means C.Object.shows (cut (environment (C.finds context.now)) (asked_names a)) a)
-            (W.written out.old) (W.written out.new) (result_answer result) }
-        ensures place { PlaceWithin (length self.now) (result_answer result) }
         ensures exact { IfOk result (λ _. count.new ≡ count.old + (text_work C.Object.shows
             (environment (C.finds context.now)) (outermost (chars self.now))).pieces) }
         ensures gone { count.new ≤ count.old + (text_work C.Object.shows
@@ -242,13 +223,7 @@ impl Template {
     /// let text = template.format(alloc, &context)?;
     /// ```
     pub fn format<C: Context>(&self, alloc: Global, context: &C) -> Result<String, Error>
-        ensures formats { Formats
-            (means C.Object.shows (environment (C.finds context.now)) (outermost (chars self.now)))
-            result }
-        ensures asked { let a = outermost (chars self.now) in Formats
-            (means C.Object.shows (cut (environment (C.finds context.now)) (asked_names a)) a)
-            result }
-        ensures place { PlaceWithin (length self.now) (result_answer result) }
+        ensures { MakesText C.Object.shows (C.finds context.now) self.now result }
     {
         format_pieces(alloc, self.parsed(), context)
     }

@@ -1,10 +1,10 @@
 //! Looks up the values of a format, and writes what the format means.
 //!
 //! A [`Formattable`] has the values that a name stands for, one slot for each trait, and a
-//! [`Context`] finds the `Formattable` of a name. [`write_text`] scans a format text from left to
-//! right, and writes its literals and values as it reads them. [`write_source`] does the same for
-//! any [`FormatSource`]: a text, or pieces that were read before. What a format means is defined in
-//! `specs/Meaning`.
+//! [`Context`] finds the `Formattable` of a name. [`write_uncounted`] writes a format from any
+//! [`FormatSource`]: a text, whose literals and values it writes as it reads them from left to
+//! right, or pieces that were read before. [`write_source`] also counts the pieces. What a format
+//! means is defined in `specs/Meaning`.
 //!
 //! `interpolator` re-exports what its callers name. The rest is for its own templates.
 #![tactic(auto)]
@@ -24,7 +24,7 @@ mod slots;
 pub use context::{ByNames, Context};
 pub use context_map::{ContextMap, NameMap};
 pub use evaluate::environment::Environment;
-pub use evaluate::evaluator::{write_source, write_text, write_uncounted};
+pub use evaluate::evaluator::{write_source, write_uncounted};
 pub use evaluate::list::{chosen, forbids_list};
 pub use evaluate::sample::{Candidates, Items, Need, SampleEnvironment};
 pub use evaluate::scan::{ScannedList, write_before_list};

@@ -1,5 +1,6 @@
 -- The lemmas of stored pieces.
 pub mod AllArgumentLemmas
+pub mod CallLemmas
 pub mod CheckLemmas
 pub mod CheckPlaceLemmas
 pub mod CollectLemmas

@@ -1,8 +1,7 @@
 -- The pieces of a format from its first list on.
 use Rattle.std.proofs.Common.{◌≡◌, ◌∙◌, sym, ap, refl, arith, ℕ, ◌+◌, List, [], length, true}
-use Rattle.std.proofs.Common.{Option, Some, IsSome, append-nil, chars, IsUtf8, ◌⊎◌, inl, inr}
+use Rattle.std.proofs.Common.{Some, IsSome, append-nil, chars, IsUtf8, ◌⊎◌, inl, inr}
 use Rattle.interpolator_syntax.specs.At.{outermost, size}
-use Rattle.interpolator_syntax.specs.Faults.{Answer, no_memory, PlaceWithin}
 use Rattle.interpolator_syntax.specs.Nodes.{as_forest, nodes}
 use Rattle.interpolator_syntax.proofs.CharacterLemmas.{size-chars}
 use Rattle.interpolator_syntax.proofs.LocalityLemmas.{size-append, stands}
@@ -48,14 +47,7 @@ module _ (bs : List ℕ) (utf8 : IsUtf8 bs) (place : ℕ)
     pub rest_fit : forest_whole (as_forest (nodes_of bs xs)) ≡ true
     rest_fit = rw nodes_there (nodes_whole (stands place list.back))
 
--- ---- what is written, or that there was no memory
-
+-- what is written, or that there was no memory
 pub or_else : {A B C : Type 0} → (A → B) → A ⊎ C → B ⊎ C
 or_else f (inl a) = inl (f a)
 or_else f (inr c) = inr c
-
--- the answer that there was no memory has no place
-pub either_lies : {A : Type 0} (n : ℕ) (answer : Option Answer) → (A → PlaceWithin n answer)
-    → A ⊎ (answer ≡ Some no_memory) → PlaceWithin n answer
-either_lies n answer f (inl a) = f a
-either_lies n answer f (inr none) = rw none tt

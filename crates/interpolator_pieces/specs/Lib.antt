@@ -1,5 +1,6 @@
 -- Formats that were read once: how the code stores their pieces, and what is known from them.
 pub mod AllArguments
+pub mod Calls
 pub mod Collecting
 pub mod Lines
 pub mod NodeChecks

@@ -1,17 +1,15 @@
 //! The text of a format in a new `String`.
 
-ghost use Rattle.std.specs.Prelude.{◌≡◌, ◌⊎◌, length, Some};
+ghost use Rattle.std.specs.Prelude.{◌≡◌, ◌⊎◌, Some};
 ghost use Rattle.std.specs.Str.{chars};
 ghost use Rattle.interpolator_syntax.specs.At.{outermost};
-ghost use Rattle.interpolator_syntax.specs.Faults.{result_answer, no_memory, PlaceWithin};
-ghost use Rattle.interpolator_eval.specs.Meaning.AskedNames.{asked_names};
+ghost use Rattle.interpolator_syntax.specs.Faults.{result_answer, no_memory};
 ghost use Rattle.interpolator_eval.specs.Meaning.CodeEnvironments.{environment_of};
-ghost use Rattle.interpolator_eval.specs.Meaning.Environments.{environment, cut};
 ghost use Rattle.interpolator_eval.specs.Meaning.Meanings.{forest_means, means};
-ghost use Rattle.interpolator_eval.specs.Meaning.Outcomes.{Outcome, Formats};
 ghost use Rattle.interpolator_eval.specs.Meaning.ScannedLists.{ListAt, text_forest};
 ghost use Rattle.interpolator_eval.specs.Meaning.Sinks.{SameEnd, Writes};
 ghost use Rattle.interpolator_eval.specs.Meaning.Sources.{from_list};
+ghost use Rattle.interpolator_pieces.specs.Calls.{MakesText, WritesText};
 
 use crate::functions::buffer_for;
 use crate::parse::parse_pieces;
@@ -40,12 +38,7 @@ use std::alloc::Global;
 /// let text = format(alloc, "{{{x}}}", &context)?; // with 1 under `x`: {1}
 /// ```
 pub fn format<C: Context>(alloc: Global, format: &str, context: &C) -> Result<String, Error>
-    ensures formats { Formats
-        (means C.Object.shows (environment (C.finds context.now)) (outermost (chars format.now)))
-        result }
-    ensures asked { let a = outermost (chars format.now) in Formats
-        (means C.Object.shows (cut (environment (C.finds context.now)) (asked_names a)) a) result }
-    ensures place { PlaceWithin (length format.now) (result_answer result) }
+    ensures { MakesText C.Object.shows (C.finds context.now) format.now result }
 {
     let mut out = buffer_for(alloc, format)?;
     let answer = write_once(alloc, &mut out, format, context);
@@ -64,15 +57,9 @@ fn write_once<W: TextWrite, C: Context>(
     format: &str,
     context: &C,
 ) -> Result<(), Error>
-    ensures outcome { (Outcome
-        (means C.Object.shows (environment (C.finds context.now)) (outermost (chars format.now)))
+    ensures { (WritesText C.Object.shows (C.finds context.now) format.now
         (W.written out.old) (W.written out.new) (result_answer result))
         ⊎ (result_answer result ≡ Some no_memory) }
-    ensures asked { let a = outermost (chars format.now) in (Outcome
-        (means C.Object.shows (cut (environment (C.finds context.now)) (asked_names a)) a)
-        (W.written out.old) (W.written out.new) (result_answer result))
-        ⊎ (result_answer result ≡ Some no_memory) }
-    ensures place { PlaceWithin (length format.now) (result_answer result) }
 {
     let mut sink = Sink::Writer(out);
     let answer = write_to_end(

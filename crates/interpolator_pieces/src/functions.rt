@@ -9,7 +9,8 @@ ghost use Rattle.interpolator_eval.specs.Meaning.Environments.{environment, cut}
 ghost use Rattle.interpolator_syntax.specs.Faults.{result_answer, fault, no_memory, PlaceWithin};
 ghost use Rattle.interpolator_eval.specs.Meaning.Limits.{IsWithin};
 ghost use Rattle.interpolator_eval.specs.Meaning.Meanings.{means};
-ghost use Rattle.interpolator_eval.specs.Meaning.Outcomes.{Outcome, Formats};
+ghost use Rattle.interpolator_eval.specs.Meaning.Outcomes.{Outcome};
+ghost use Rattle.interpolator_pieces.specs.Calls.{MakesText, WritesText};
 ghost use Rattle.interpolator_pieces.specs.NodeChecks.{first_fault, text_faults};
 ghost use Rattle.interpolator_pieces.specs.NodeCosts.{text_cost};
 ghost use Rattle.interpolator_eval.specs.Meaning.Work.{text_work};
@@ -23,7 +24,9 @@ use crate::parse::parse_pieces;
 use crate::piece::Piece;
 use crate::stored_source::Stored;
 use crate::walk::walk_text;
-use interpolator_eval::{Context, Environment, PieceCount, Sink, write_source, write_text};
+use interpolator_eval::{
+    Context, Environment, FormatSource, PieceCount, Sink, write_source, write_uncounted,
+};
 use interpolator_render::{TextBuffer, TextWrite};
 use interpolator_syntax::{Cursor, Error};
 use std::alloc::{AllocError, Global};
@@ -86,7 +89,7 @@ pub fn write<W: TextWrite, C: Context>(
         rest: format,
     };
     let mut sink = Sink::Writer(out);
-    let answer = write_text(&mut sink, &Environment::outermost(alloc, context), text);
+    let answer = write_uncounted(&mut sink, &Environment::outermost(alloc, context), text);
     sink.into_writer();
     answer
 }
@@ -129,14 +132,8 @@ pub fn write_counted<W: TextWrite, C: Context, L: Ledger>(
 ) -> Result<(), Error>
     requires pieces { nodes_of format.text.now format.pieces.now
         ≡ nodes (outermost (chars format.text.now)) }
-    ensures outcome { Outcome
-        (means C.Object.shows (environment (C.finds context.now))
-        (outermost (chars format.entry.text.now)))
+    ensures written { WritesText C.Object.shows (C.finds context.now) format.entry.text.now
         (W.written out.old) (W.written out.new) (result_answer result) }
-    ensures asked { let a = outermost (chars format.entry.text.now) in Outcome
-        (means C.Object.shows (cut (environment (C.finds context.now)) (asked_names a)) a)
-        (W.written out.old) (W.written out.new) (result_answer result) }
-    ensures place { PlaceWithin (length format.entry.text.now) (result_answer result) }
     ensures gone { count.new ≤ count.old + (text_work C.Object.shows
         (environment (C.finds context.now))
         (outermost (chars format.entry.text.now))).pieces }
@@ -155,7 +152,8 @@ pub fn write_counted<W: TextWrite, C: Context, L: Ledger>(
         pieces: format.pieces,
     };
     let environment = Environment::outermost(alloc, context);
-    let answer = write_source(&mut sink, &environment, source, count);
+    let mut scratch = source.scratch_list();
+    let answer = write_source(&mut sink, &environment, source, &mut scratch, count);
     sink.into_writer();
     answer
 }
@@ -174,14 +172,8 @@ fn write_on<W: TextWrite, C: Context, L: Ledger>(
     requires some { 0 < blank.parts }
     requires pieces { nodes_of format.text.now format.pieces.now
         ≡ nodes (outermost (chars format.text.now)) }
-    ensures outcome { Outcome
-        (means C.Object.shows (environment (C.finds context.now))
-        (outermost (chars format.entry.text.now)))
+    ensures { WritesText C.Object.shows (C.finds context.now) format.entry.text.now
         (W.written out.old) (W.written out.new) (result_answer result) }
-    ensures asked { let a = outermost (chars format.entry.text.now) in Outcome
-        (means C.Object.shows (cut (environment (C.finds context.now)) (asked_names a)) a)
-        (W.written out.old) (W.written out.new) (result_answer result) }
-    ensures place { PlaceWithin (length format.entry.text.now) (result_answer result) }
 {
     let mut count = PieceCount::<L>::open(blank);
     write_counted(alloc, out, format, context, &mut count)
@@ -196,14 +188,8 @@ pub fn write_pieces<W: TextWrite, C: Context>(
 ) -> Result<(), Error>
     requires pieces { nodes_of format.text.now format.pieces.now
         ≡ nodes (outermost (chars format.text.now)) }
-    ensures outcome { Outcome
-        (means C.Object.shows (environment (C.finds context.now))
-        (outermost (chars format.entry.text.now)))
+    ensures { WritesText C.Object.shows (C.finds context.now) format.entry.text.now
         (W.written out.old) (W.written out.new) (result_answer result) }
-    ensures asked { let a = outermost (chars format.entry.text.now) in Outcome
-        (means C.Object.shows (cut (environment (C.finds context.now)) (asked_names a)) a)
-        (W.written out.old) (W.written out.new) (result_answer result) }
-    ensures place { PlaceWithin (length format.entry.text.now) (result_answer result) }
 {
     write_on::<W, C, Brand>(alloc, out, format, context, Blank::new(1))
 }
@@ -216,13 +202,7 @@ pub fn format_pieces<C: Context>(
 ) -> Result<String, Error>
     requires pieces { nodes_of format.text.now format.pieces.now
         ≡ nodes (outermost (chars format.text.now)) }
-    ensures formats { Formats
-        (means C.Object.shows (environment (C.finds context.now))
-        (outermost (chars format.entry.text.now)))
-        result }
-    ensures asked { let a = outermost (chars format.entry.text.now) in Formats
-        (means C.Object.shows (cut (environment (C.finds context.now)) (asked_names a)) a) result }
-    ensures place { PlaceWithin (length format.entry.text.now) (result_answer result) }
+    ensures { MakesText C.Object.shows (C.finds context.now) format.entry.text.now result }
 {
     let mut out = buffer_for(alloc, format.text)?;
     let answer = write_pieces(alloc, &mut out, format, context);

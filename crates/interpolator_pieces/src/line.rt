@@ -1,13 +1,8 @@
 //! Formats with a newline after them.
-ghost use Rattle.std.specs.Prelude.{length};
-ghost use Rattle.std.specs.Str.{chars};
-ghost use Rattle.interpolator_syntax.specs.At.{outermost};
-ghost use Rattle.interpolator_eval.specs.Meaning.AskedNames.{asked_names};
-ghost use Rattle.interpolator_eval.specs.Meaning.Environments.{environment, cut};
-ghost use Rattle.interpolator_syntax.specs.Faults.{result_answer, PlaceWithin};
-ghost use Rattle.interpolator_eval.specs.Meaning.Meanings.{means};
-ghost use Rattle.interpolator_pieces.specs.Lines.{newline_means, line_means};
+ghost use Rattle.interpolator_syntax.specs.Faults.{result_answer};
+ghost use Rattle.interpolator_pieces.specs.Lines.{newline_means};
 ghost use Rattle.interpolator_eval.specs.Meaning.Outcomes.{Outcome};
+ghost use Rattle.interpolator_pieces.specs.Calls.{WritesLine};
 
 use crate::functions::write;
 use interpolator_eval::{Context, write_char};
@@ -44,15 +39,8 @@ pub fn iwriteln<W: TextWrite, C: Context>(
     format: &str,
     context: &C,
 ) -> Result<(), Error>
-    ensures outcome { Outcome
-        (line_means
-        (means C.Object.shows (environment (C.finds context.now)) (outermost (chars format.now))))
+    ensures { WritesLine C.Object.shows (C.finds context.now) format.now
         (W.written out.old) (W.written out.new) (result_answer result) }
-    ensures asked { let a = outermost (chars format.now) in Outcome
-        (line_means
-        (means C.Object.shows (cut (environment (C.finds context.now)) (asked_names a)) a))
-        (W.written out.old) (W.written out.new) (result_answer result) }
-    ensures place { PlaceWithin (length format.now) (result_answer result) }
 {
     match write(alloc, out, format, context) {
         Ok(()) => write_newline(out),

@@ -1,11 +1,10 @@
 //! Writes what a format means, up to the first fault. Callers come before what they call.
 ghost use Rattle.std.specs.Prelude.{◌≡◌, ◌+◌, ◌-◌, ◌<◌, ◌≤◌, ◌⊎◌, IfOk, None, Some, map, true};
-ghost use Rattle.interpolator_syntax.specs.At.{at};
 ghost use Rattle.interpolator_syntax.specs.Faults.{result_answer};
 ghost use Rattle.interpolator_syntax.specs.Nodes.{no_nodes};
 ghost use Rattle.interpolator_eval.specs.Meaning.CodeEnvironments.{environment_of};
 ghost use Rattle.interpolator_eval.specs.Meaning.Lists.{padded_list_means};
-ghost use Rattle.interpolator_eval.specs.Meaning.Meanings.{means, forest_means};
+ghost use Rattle.interpolator_eval.specs.Meaning.Meanings.{forest_means};
 ghost use Rattle.interpolator_eval.specs.Meaning.Sinks.{Writes};
 ghost use Rattle.interpolator_eval.specs.Meaning.Sources.{empty_counts, first_holds};
 ghost use Rattle.interpolator_eval.specs.Meaning.Sources.{list_with_brace};
@@ -25,23 +24,9 @@ use crate::evaluate::value::{list_buffer, write_plain_item};
 use crate::piece_count::PieceCount;
 use crate::slots::Formattable;
 use interpolator_render::TextWrite;
-use interpolator_syntax::{Cursor, Error, ParseError};
+use interpolator_syntax::{Error, ParseError};
 use std::marker::Brand;
 use std::sync::ledger::{Blank, Ledger};
-
-/// Writes what a text means.
-pub fn write_text<'a, W: TextWrite, C: Context>(
-    sink: &mut Sink<'_, W>,
-    environment: &Environment<'a, C, C::Object>,
-    text: Cursor<'_>,
-) -> Result<(), Error>
-    ensures writes { Writes W.written
-        (means C.Object.shows (environment_of C.finds environment.now) (at text.entry))
-        sink.old sink.new (result_answer result) }
-{
-    write_uncounted(sink, environment, text)?;
-    Ok(())
-}
 
 /// Writes what the pieces of a source mean, for a caller that needs no count of them.
 #[inline(always)]
@@ -54,8 +39,7 @@ pub fn write_uncounted<'a, W: TextWrite, C: Context, S: FormatSource>(
         (forest_means C.Object.shows (environment_of C.finds environment.now) (S.tree source))
         sink.old sink.new (result_answer result) }
 {
-    write_on::<W, C, S, Brand>(sink, environment, source, Blank::new(1))?;
-    Ok(())
+    write_on::<W, C, S, Brand>(sink, environment, source, Blank::new(1))
 }
 
 /// Writes what the pieces of a source mean, and counts from a blank ledger.
@@ -74,35 +58,15 @@ fn write_on<'a, W: TextWrite, C: Context, S: FormatSource, L: Ledger>(
         sink.old sink.new (result_answer result) }
 {
     let mut count = PieceCount::<L>::open(blank);
-    write_source(sink, environment, source, &mut count)?;
-    Ok(())
-}
-
-/// Writes what the pieces of a source mean, in order, and counts those that it goes through.
-#[inline(always)]
-pub fn write_source<'a, W: TextWrite, C: Context, S: FormatSource, L: Ledger>(
-    sink: &mut Sink<'_, W>,
-    environment: &Environment<'a, C, C::Object>,
-    source: S,
-    count: &mut PieceCount<L>,
-) -> Result<(), Error>
-    ensures writes { Writes W.written
-        (forest_means C.Object.shows (environment_of C.finds environment.now) (S.tree source))
-        sink.old sink.new (result_answer result) }
-    ensures gone { count.new ≤ count.old + (forest_work C.Object.shows
-        (environment_of C.finds environment.now) (S.tree source)).pieces }
-    ensures exact { IfOk result (λ _. count.new ≡ count.old + (forest_work C.Object.shows
-        (environment_of C.finds environment.now) (S.tree source)).pieces) }
-{
     let mut scratch = source.scratch_list();
-    write_with::<W, C, S, L>(sink, environment, source, &mut scratch, count)?;
-    Ok(())
+    write_source::<W, C, S, L>(sink, environment, source, &mut scratch, &mut count)
 }
 
-/// Writes what the pieces of a source mean, as [`write_source`] does. Each list that is met is
-/// stored in `scratch`, which is made once for all items of a list, since making it zeroes it.
+/// Writes what the pieces of a source mean, in order, and counts those that it goes through. Each
+/// list that is met is stored in `scratch`, which is made once for all items of a list, since
+/// making it zeroes it.
 #[cycle(evaluate)]
-fn write_with<'a, W: TextWrite, C: Context, S: FormatSource, L: Ledger>(
+pub fn write_source<'a, W: TextWrite, C: Context, S: FormatSource, L: Ledger>(
     sink: &mut Sink<'_, W>,
     environment: &Environment<'a, C, C::Object>,
     source: S,
@@ -171,11 +135,9 @@ fn write_list<'a, W: TextWrite, C: Context, S: FormatSource, L: Ledger>(
 {
     let items = S::items(list, environment)?;
     if S::has_width(list) {
-        write_padded_list::<W, C, S, L>(sink, environment, list, items, count)?;
-        Ok(())
+        write_padded_list::<W, C, S, L>(sink, environment, list, items, count)
     } else {
-        write_items::<W, C, S, L>(sink, environment, list, items, count)?;
-        Ok(())
+        write_items::<W, C, S, L>(sink, environment, list, items, count)
     }
 }
 
@@ -270,13 +232,11 @@ fn write_item<'a, W: TextWrite, C: Context, S: FormatSource, L: Ledger>(
     match S::item(list) {
         Some(format) => {
             count_empty(format, count);
-            write_with::<W, C, S, L>(sink, &environment.bind(item), format, scratch, count)?;
-            Ok(())
+            write_source::<W, C, S, L>(sink, &environment.bind(item), format, scratch, count)
         }
         None => {
             count.tick();
-            write_plain_item(sink, item, S::end(list))?;
-            Ok(())
+            write_plain_item(sink, item, S::end(list))
         }
     }
 }
@@ -311,10 +271,7 @@ fn write_join<'a, W: TextWrite, C: Context, S: FormatSource, L: Ledger>(
         (environment_of C.finds environment.now) (S.asks list.now)).pieces) }
 {
     match S::join(list) {
-        Some(format) => {
-            write_with::<W, C, S, L>(sink, environment, format, scratch, count)?;
-            Ok(())
-        }
+        Some(format) => { write_source::<W, C, S, L>(sink, environment, format, scratch, count) }
         None => Ok(()),
     }
 }

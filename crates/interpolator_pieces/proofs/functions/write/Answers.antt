@@ -11,7 +11,8 @@ returns-clause-place g c =
     outcome_lies_from g.C.Object.Value.shows (environment (g.C.Context.finds c.args.context.now)) 0
     (chars c.args.format.now) (length c.args.format.now) _ _ _
     (omega (arith, size-chars c.args.format.now c.utf8.format))
-    (rw (c.outermost.ensures, c.into_writer.ensures) at c.write_text-answer.ensures.writes.outcome)
+    (rw (c.outermost.ensures, c.into_writer.ensures)
+    at c.write_uncounted-answer.ensures.writes.outcome)
 
 pub returns-clause-asked : goal.returns-clause-asked
 returns-clause-asked g c =

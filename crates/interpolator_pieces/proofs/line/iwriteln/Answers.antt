@@ -1,21 +1,11 @@
-use Rattle.std.proofs.Common.{length}
-use Rattle.interpolator_pieces.proofs.LineLemmas.{line_done, line_fault, newline_place}
+use Rattle.interpolator_pieces.proofs.CallLemmas.{line_written, no_line, text_written}
 use Rattle.interpolator_pieces.proofs.line.iwriteln.Goals as goal
 
-pub returns-in-Ok-clause-outcome : goal.returns-in-Ok-clause-outcome
-returns-in-Ok-clause-outcome g c =
-    line_done _ _ _ _ _ c.in-Ok.ensures.outcome c.write_newline.ensures.outcome
+pub returns-in-Ok : goal.returns-in-Ok
+returns-in-Ok g c =
+    line_written _ _ _ _ _ _ _ (text_written _ _ _ _ _ _ c.utf8.format c.in-Ok.ensures.outcome)
+    c.write_newline.ensures.outcome
 
-pub returns-in-Ok-clause-place : goal.returns-in-Ok-clause-place
-returns-in-Ok-clause-place g c =
-    newline_place (length c.args.format.now) _ _ _ c.write_newline.ensures.outcome
-
-pub returns-in-Err-clause-outcome : goal.returns-in-Err-clause-outcome
-returns-in-Err-clause-outcome g c = line_fault _ _ _ _ c.in-Err.ensures.outcome
-
-pub returns-in-Ok-clause-asked : goal.returns-in-Ok-clause-asked
-returns-in-Ok-clause-asked g c =
-    line_done _ _ _ _ _ c.in-Ok.ensures.asked c.write_newline.ensures.outcome
-
-pub returns-in-Err-clause-asked : goal.returns-in-Err-clause-asked
-returns-in-Err-clause-asked g c = line_fault _ _ _ _ c.in-Err.ensures.asked
+pub returns-in-Err : goal.returns-in-Err
+returns-in-Err g c =
+    no_line _ _ _ _ _ _ (text_written _ _ _ _ _ _ c.utf8.format c.in-Err.ensures.outcome)

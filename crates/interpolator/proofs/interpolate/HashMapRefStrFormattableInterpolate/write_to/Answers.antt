@@ -1,7 +1,6 @@
+use Rattle.interpolator_pieces.proofs.CallLemmas.{text_written}
 use Rattle.interpolator.proofs.interpolate.HashMapRefStrFormattableInterpolate.write_to.Goals as goal
 
-pub returns-clause-outcome : goal.returns-clause-outcome
-returns-clause-outcome g c = rw (c.new.ensures) at c.write.ensures.outcome
-
-pub returns-clause-asked : goal.returns-clause-asked
-returns-clause-asked g c = rw (c.new.ensures) at c.write.ensures.asked
+pub returns : goal.returns
+returns g c =
+    text_written _ _ _ _ _ _ c.utf8.text (rw (c.new.ensures) at c.write.ensures.outcome)

@@ -92,16 +92,16 @@ write_argument-returns-in_err-write_list-clause-writes g t c =
 
 -- ---- a source, list by list
 
-pub write_with-returns-in_err-write_to_list : goal.write_with-returns-in_err-write_to_list
-write_with-returns-in_err-write_to_list g t c =
+pub write_source-returns-in_err-write_to_list : goal.write_source-returns-in_err-write_to_list
+write_source-returns-in_err-write_to_list g t c =
     let err = err_from_is_err_and c.from_residual.result c.from_residual.ensures.1 in
     let before = c.in_err-write_to_list.ensures in
     let ends = before_ends c.loop-sink.invariant.passed before.writes
     (omega (arith, before.gone)) in
     rw (err.1, err.2) (record { writes = ends.0; gone = ends.1; exact = tt })
 
-pub write_with-write_argument-requires : goal.write_with-write_argument-requires
-write_with-write_argument-requires g t c κs within =
+pub write_source-write_argument-requires : goal.write_source-write_argument-requires
+write_source-write_argument-requires g t c κs within =
     let met = rw c.if-branch.true at c.in_ok-write_to_list.ensures.met in
     let xs = g.S.FormatSource.tree c.loop-sink.here in
     let smaller = first_smaller _ _ xs met.1 in
@@ -122,8 +122,8 @@ write_with-write_argument-requires g t c κs within =
       ),
     )
 
-pub write_with-returns-in_err-here : goal.write_with-returns-in_err-here
-write_with-returns-in_err-here g t c =
+pub write_source-returns-in_err-here : goal.write_source-returns-in_err-here
+write_source-returns-in_err-here g t c =
     let residual = c.from_residual-in_err-here in
     let err = err_from_is_err_and residual.result residual.ensures.1 in
     let before = rw c.if-branch.true at c.in_ok-write_to_list.ensures in
@@ -131,13 +131,13 @@ write_with-returns-in_err-here g t c =
     c.in_err-here.ensures.writes c.in_err-here.ensures.gone in
     rw (err.1, err.2) (record { writes = ends.0; gone = ends.1; exact = tt })
 
-pub write_with-loop-sink-smaller : goal.write_with-loop-sink-smaller
-write_with-loop-sink-smaller g t c =
+pub write_source-loop-sink-smaller : goal.write_source-loop-sink-smaller
+write_source-loop-sink-smaller g t c =
     let met = rw c.if-branch.true at c.in_ok-write_to_list.ensures.met in
     rest_smaller _ _ _ _ met.1 c.in_ok-here.ensures.rest
 
-pub write_with-loop-sink-preserved : goal.write_with-loop-sink-preserved
-write_with-loop-sink-preserved g t c =
+pub write_source-loop-sink-preserved : goal.write_source-loop-sink-preserved
+write_source-loop-sink-preserved g t c =
     let before = rw c.if-branch.true at c.in_ok-write_to_list.ensures in
     let here = c.in_ok-here.ensures in
     let xs = g.S.FormatSource.tree c.loop-sink.here in
@@ -148,8 +148,8 @@ write_with-loop-sink-preserved g t c =
           here.rest here.writes here.exact;
     }
 
-pub write_with-returns : goal.write_with-returns
-write_with-returns g t c =
+pub write_source-returns : goal.write_source-returns
+write_source-returns g t c =
     let before = rw c.if-branch.false at c.in_ok-write_to_list.ensures in
     let done = all_done c.loop-sink.invariant.passed before.writes before.met
     (omega (arith, before.exact)) in

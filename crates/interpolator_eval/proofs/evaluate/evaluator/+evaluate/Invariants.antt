@@ -9,8 +9,8 @@ use Rattle.interpolator_eval.proofs.MeaningLemmas.SourceLemmas.{forest_size}
 use Rattle.interpolator_eval.proofs.evaluate.evaluator.+evaluate.Given as goal
 
 -- eight times the pieces that are left, those of groups among them
-abbrev pub decreases-write_with : goal.decreases-write_with
-decreases-write_with g l = 8 * forest_size (g.S.FormatSource.tree l.source) + 6
+abbrev pub decreases-write_source : goal.decreases-write_source
+decreases-write_source g l = 8 * forest_size (g.S.FormatSource.tree l.source) + 6
 
 abbrev pub decreases-write_argument : goal.decreases-write_argument
 decreases-write_argument g l = 8 * asked_size (g.S.FormatSource.asks l.list.now) + 5
@@ -31,8 +31,8 @@ abbrev pub decreases-write_join : goal.decreases-write_join
 decreases-write_join g l = 8 * asked_size (g.S.FormatSource.asks l.list.now) + 1
 
 -- the pieces left are no more than all of them, and the others have been written
-abbrev pub invariant-write_with-loop-sink : goal.invariant-write_with-loop-sink
-invariant-write_with-loop-sink g l =
+abbrev pub invariant-write_source-loop-sink : goal.invariant-write_source-loop-sink
+invariant-write_source-loop-sink g l =
     let tree = g.S.FormatSource.tree in
     record {
       within : forest_size (tree l.here) ≤ forest_size (tree l.fn.source);
@@ -41,8 +41,8 @@ invariant-write_with-loop-sink g l =
           l.count;
     }
 
-abbrev pub decreases-write_with-loop-sink : goal.decreases-write_with-loop-sink
-decreases-write_with-loop-sink g l = forest_size (g.S.FormatSource.tree l.here)
+abbrev pub decreases-write_source-loop-sink : goal.decreases-write_source-loop-sink
+decreases-write_source-loop-sink g l = forest_size (g.S.FormatSource.tree l.here)
 
 -- the items before those left have been written
 abbrev pub invariant-write_items-loop-item : goal.invariant-write_items-loop-item
