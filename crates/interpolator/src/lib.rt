@@ -21,6 +21,7 @@
 mod choice;
 mod decimal;
 mod escaping;
+mod examining;
 mod excerpt;
 mod explaining;
 mod interpolate;
