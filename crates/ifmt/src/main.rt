@@ -5,7 +5,6 @@
 mod binding;
 mod command;
 mod run;
-mod words;
 
 use interpolator::Error;
 use std::process::ExitCode;

@@ -7,9 +7,9 @@ use Rattle.std.specs.List.{after_first, before_first, ends_with, position_or_len
 use Rattle.std.specs.Str.Parse.{IsNumeral, digits_value}
 use Rattle.interpolator.specs.DecimalTexts.{Spells as IsDecimal}
 use Rattle.interpolator.specs.declared.Decimal.{Decimal}
-use Rattle.ifmt.specs.declared.words.Word.{Word}
-use Rattle.ifmt.specs.declared.words.Word.TheVariants.{Text, Number, Decimal as DecimalWord}
-use Rattle.ifmt.specs.declared.words.Word.TheVariants.{List as ListWord, Bad}
+use Rattle.words.specs.declared.reading.Word.{Word}
+use Rattle.words.specs.declared.reading.Word.TheVariants.{Text, Number, Decimal as DecimalWord}
+use Rattle.words.specs.declared.reading.Word.TheVariants.{List as ListWord, Bad}
 
 -- what a word that is not bad puts under a name: a text, a whole number, a decimal or the items of
 -- a list

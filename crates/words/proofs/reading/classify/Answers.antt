@@ -1,6 +1,6 @@
 use Rattle.std.proofs.Common.{arith, lit<, None, Some}
 use Rattle.std.proofs.lemmas.Str.Pattern.{split_once_first}
-use Rattle.ifmt.proofs.words.classify.Goals as goal
+use Rattle.words.proofs.reading.classify.Goals as goal
 
 pub returns-in-None : goal.returns-in-None
 returns-in-None c assignment =

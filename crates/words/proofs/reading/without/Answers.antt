@@ -5,8 +5,8 @@ use Rattle.std.proofs.lemmas.Slice.Eq.{ends_is}
 use Rattle.std.specs.Borrow.{Bor}
 use Rattle.std.specs.Option.{option_map}
 use Rattle.std.specs.Str.Pattern.{FindsTextSuffix, StripsSuffix}
-use Rattle.ifmt.specs.Words.{without}
-use Rattle.ifmt.proofs.words.without.Goals as goal
+use Rattle.words.specs.Words.{without}
+use Rattle.words.proofs.reading.without.Goals as goal
 
 -- what `strip_suffix` returns
 stripped : (ending text : List ℕ) (r : Option (Bor (List ℕ)))

@@ -2,9 +2,9 @@ use Rattle.std.proofs.Common.{None, Some, refl}
 use Rattle.std.specs.Int.{w128}
 use Rattle.std.proofs.lemmas.Int.{to_z-of_z}
 use Rattle.interpolator.specs.DecimalTexts.{Spells as IsDecimal}
-use Rattle.ifmt.specs.Words.{Spells, decimal, list, number, text}
-use Rattle.ifmt.proofs.PartLemmas.{alone, spelled_alone}
-use Rattle.ifmt.proofs.words.classify_parts.Goals as goal
+use Rattle.words.specs.Words.{Spells, decimal, list, number, text}
+use Rattle.words.proofs.PartLemmas.{alone, spelled_alone}
+use Rattle.words.proofs.reading.classify_parts.Goals as goal
 
 pub returns-in-None : goal.returns-in-None
 returns-in-None c = rw (← c.in-Some.ensures)

@@ -2,10 +2,10 @@
 use Rattle.std.proofs.Common.{◌≡◌, ◌↔◌, refl, List, ℕ, Option, None, Some, option_map}
 use Rattle.std.proofs.Common.{Result, Ok, Err}
 use Rattle.std.specs.Result.{result_ok}
-use Rattle.ifmt.specs.declared.words.Word.{Word}
-use Rattle.ifmt.specs.declared.words.Word.TheVariants.{Text, Number, Decimal as DecimalWord}
-use Rattle.ifmt.specs.declared.words.Word.TheVariants.{List as ListWord, Bad}
-use Rattle.ifmt.specs.Words.{Assignment, Classifies, IsGood, IsSpelled}
+use Rattle.words.specs.declared.reading.Word.{Word}
+use Rattle.words.specs.declared.reading.Word.TheVariants.{Text, Number, Decimal as DecimalWord}
+use Rattle.words.specs.declared.reading.Word.TheVariants.{List as ListWord, Bad}
+use Rattle.words.specs.Words.{Assignment, Classifies, IsGood, IsSpelled}
 
 -- parts mean what the second spells, if it spells anything
 pub spelled_alone : {A : Type 0} (Spelled : A → Type 0) (made : A → Assignment) (found : Option A)

@@ -2,7 +2,7 @@
 use Rattle.std.proofs.Common.{◌≡◌, ◌≢◌, refl, ℕ, List, [], ◌∷◌, eqb, length}
 use Rattle.std.specs.List.{join_with_byte, slice_split}
 use Rattle.std.proofs.lemmas.List.Splits.{join_with_byte-slice_split}
-use Rattle.ifmt.specs.Items.{comma, items_of}
+use Rattle.words.specs.Items.{comma, items_of}
 
 -- joined by commas the items are the text
 pub items_joined : (text : List ℕ) → join_with_byte comma (items_of text) ≡ text

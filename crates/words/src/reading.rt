@@ -1,17 +1,16 @@
-//! The words of the command line.
+//! How a word is read.
 
-ghost use Rattle.std.specs.Prelude.{◌≡◌, ◌↔◌, ℤ, IfErr, IfOk, Some};
+ghost use Rattle.std.specs.Prelude.{◌≡◌, ◌↔◌, ℤ, IfOk, Some};
 ghost use Rattle.std.specs.List.{join_with_byte};
 ghost use Rattle.std.specs.Option.{option_map};
 ghost use Rattle.interpolator.specs.DecimalTexts.{Spells as IsDecimal};
 ghost use Rattle.interpolator.specs.declared.Decimal.{Decimal};
-ghost use Rattle.interpolator.specs.declared.Error.TheVariants.{NoMemory};
-ghost use Rattle.ifmt.specs.Items.{comma, items_of, texts_of};
-ghost use Rattle.ifmt.specs.Words.{Assignment, Classifies, PartsMean, Spells, assignment_of};
-ghost use Rattle.ifmt.specs.Words.{without};
+ghost use Rattle.words.specs.Items.{comma, items_of, texts_of};
+ghost use Rattle.words.specs.Words.{Assignment, Classifies, PartsMean, Spells, assignment_of};
+ghost use Rattle.words.specs.Words.{without};
 
-use interpolator::{Decimal, Error};
-use std::alloc::Global;
+use interpolator::Decimal;
+use std::alloc::{AllocError, Global};
 
 const EQUALS: char = '=';
 
@@ -115,12 +114,11 @@ fn decimal_of(text: &str) -> Option<Decimal>
 ///
 /// # Errors
 ///
-/// `NoMemory`.
-pub fn items(alloc: Global, text: &str) -> Result<Vec<&str>, Error>
+/// Memory ran out.
+pub fn items(alloc: Global, text: &str) -> Result<Vec<&str>, AllocError>
     ensures ok { IfOk result (λ items. texts_of items.items ≡ items_of text.now) }
     ensures joined { IfOk result (λ items.
         join_with_byte comma (texts_of items.items) ≡ text.now) }
-    ensures err { IfErr result (λ error. error ≡ NoMemory) }
 {
     if text.is_empty() {
         return Ok(Vec::new(alloc));

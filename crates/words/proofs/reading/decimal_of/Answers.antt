@@ -1,6 +1,6 @@
 use Rattle.interpolator.specs.DecimalTexts.{Spells as IsDecimal}
-use Rattle.ifmt.proofs.PartLemmas.{parsed_alone}
-use Rattle.ifmt.proofs.words.decimal_of.Goals as goal
+use Rattle.words.proofs.PartLemmas.{parsed_alone}
+use Rattle.words.proofs.reading.decimal_of.Goals as goal
 
 pub returns : goal.returns
 returns c = rw c.ok.ensures.value

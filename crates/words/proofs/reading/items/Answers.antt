@@ -1,8 +1,8 @@
 use Rattle.std.proofs.Common.{◌≢◌, ◌∙◌, Ok, length, lit<, rules}
 use Rattle.std.proofs.lemmas.Iterator.Consumers.{map_from_collect}
 use Rattle.std.proofs.lemmas.Iterator.Splits.{YieldsList-from_str_split}
-use Rattle.ifmt.proofs.ItemLemmas.{items_joined, some_items}
-use Rattle.ifmt.proofs.words.items.Goals as goal
+use Rattle.words.proofs.ItemLemmas.{items_joined, some_items}
+use Rattle.words.proofs.reading.items.Goals as goal
 
 pub returns-clause-ok : goal.returns-clause-ok
 returns-clause-ok c =

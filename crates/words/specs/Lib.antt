@@ -1,0 +1,3 @@
+-- What a word means.
+pub mod Words
+pub mod Items
