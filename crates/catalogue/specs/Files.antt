@@ -1,6 +1,5 @@
 -- Files of messages and their lines. Texts are bytes.
-use Rattle.std.specs.Prelude.{ℕ, ◌+◌, List, [], ◌∷◌, drop, if◌then◌else◌, map, string_bytes, take}
-use Rattle.std.specs.Borrow.{Bor}
+use Rattle.std.specs.Prelude.{ℕ, ◌+◌, List, [], ◌∷◌, drop, if◌then◌else◌, string_bytes, take}
 use Rattle.std.specs.Str.{bytes_eq}
 use Rattle.std.specs.Str.Lines.{lines}
 use Rattle.catalogue.specs.declared.files.File.{File}
@@ -15,10 +14,6 @@ pub record Line : Type 0 where
 -- a line, borrows aside
 abbrev pub as_line : LentLine → Line
 as_line line = record { file = line.file.now; number = line.number; text = line.text.now }
-
--- texts, borrows aside
-abbrev pub texts_of : List (Bor (List ℕ)) → List (List ℕ)
-texts_of texts = map (λ text. text.now) texts
 
 -- a file: its name and its text
 abbrev pub as_file : File → List ℕ × List ℕ

@@ -1,7 +1,8 @@
 //! Files of messages, and their lines.
 
 ghost use Rattle.std.specs.Prelude.{◌≡◌, IfOk};
-ghost use Rattle.catalogue.specs.Files.{as_file, plain_lines, texts_of, without_mark};
+ghost use Rattle.catalogue.specs.Files.{as_file, plain_lines, without_mark};
+ghost use Rattle.words.specs.Items.{texts_of};
 
 use std::alloc::{AllocError, Global};
 

@@ -34,10 +34,10 @@ mod keys;
 mod line_faults;
 mod lines;
 mod messages;
+mod objects;
 mod picks;
 mod reports;
 mod rules;
-mod words;
 
 use checks::check;
 use files::File;

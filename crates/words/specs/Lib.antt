@@ -1,3 +1,4 @@
 -- What a word means.
+pub mod Declarations
 pub mod Words
 pub mod Items

@@ -1,12 +1,14 @@
 -- The words of the command line: what each means, by its bytes.
-use Rattle.std.specs.Prelude.{◌≡◌, ◌⊎◌, ◌↔◌, ◌==◌, ◌-◌, ◌<◌, ℕ, ℤ, pos, neg_ℤ, Bool, List, ◌++◌}
-use Rattle.std.specs.Prelude.{codes, eqb, length, take, FitsSigned, if◌then◌else◌}
-use Rattle.std.specs.Prelude.{Option, None, Some}
+use Rattle.std.specs.Prelude.{◌≡◌, ◌⊎◌, ◌↔◌, ◌==◌, ◌<◌, ℕ, ℤ, pos, neg_ℤ, Bool, List, ◌++◌}
+use Rattle.std.specs.Prelude.{codes, length, FitsSigned, Option, None, Some}
 use Rattle.std.specs.Int.{w128}
-use Rattle.std.specs.List.{after_first, before_first, ends_with, position_or_len}
+use Rattle.std.specs.List.{after_first, before_first, position_or_len}
 use Rattle.std.specs.Str.Parse.{IsNumeral, digits_value}
 use Rattle.interpolator.specs.DecimalTexts.{Spells as IsDecimal}
 use Rattle.interpolator.specs.declared.Decimal.{Decimal}
+use Rattle.words.specs.Declarations.{declaration_of}
+use Rattle.words.specs.declared.kinds.Kind.{Kind}
+use Rattle.words.specs.declared.kinds.Kind.TheVariants as kinds
 use Rattle.words.specs.declared.reading.Word.{Word}
 use Rattle.words.specs.declared.reading.Word.TheVariants.{Text, Number, Decimal as DecimalWord}
 use Rattle.words.specs.declared.reading.Word.TheVariants.{List as ListWord, Bad}
@@ -35,11 +37,6 @@ is_equals b = b == 61
 abbrev pub HasEquals : List ℕ → Type 0
 HasEquals word = position_or_len is_equals word < length word
 
--- a text without an ending, if it ends so
-abbrev pub without : (ending whole : List ℕ) → Option (List ℕ)
-without ending whole =
-    if ends_with eqb whole ending then Some (take (length whole - length ending) whole) else None
-
 -- an optional `-`, then one or more ASCII digits, which write this number of 128 bits
 pub record Spells (whole : List ℕ) (value : ℤ) : Type 0 where
   pub digits : List ℕ
@@ -53,21 +50,19 @@ abbrev pub IsSpelled : {A : Type 0} → (Spelled : A → Type 0) → (made : A �
     → Assignment → Type 0
 IsSpelled {A} Spelled made assignment = (value : A) × Spelled value × (assignment ≡ made value)
 
--- what the parts before and after the `=` mean, by the first without `:`, without `:.` and without
--- `[]` at its end: a whole number, a decimal, the items of a list, or else a text
-abbrev pub MeanBy : (left right : List ℕ) → (number_name decimal_name list_name : Option (List ℕ))
-    → Assignment → Type 0
-MeanBy left right (Some name) _ _ assignment =
+-- what a name of a kind means before a text: what it spells, the items of a list, or the text
+abbrev pub MeanAs : Kind → (name right : List ℕ) → Assignment → Type 0
+MeanAs kinds.Text name right assignment = assignment ≡ text name right
+MeanAs kinds.Number name right assignment =
     IsSpelled (Spells right) (λ value. number name value) assignment
-MeanBy left right None (Some name) _ assignment =
+MeanAs kinds.Decimal name right assignment =
     IsSpelled (IsDecimal right) (λ value. decimal name value) assignment
-MeanBy left right None None (Some name) assignment = assignment ≡ list name right
-MeanBy left right None None None assignment = assignment ≡ text left right
+MeanAs kinds.List name right assignment = assignment ≡ list name right
 
+-- what the parts before and after the `=` mean
 abbrev pub PartsMean : (left right : List ℕ) → Assignment → Type 0
 PartsMean left right assignment =
-    MeanBy left right (without (codes ":") left) (without (codes ":.") left)
-    (without (codes "[]") left) assignment
+    MeanAs (declaration_of left).1 (declaration_of left).0 right assignment
 
 -- what a word means, by the parts around its first `=`
 abbrev pub Means : (word : List ℕ) → Assignment → Type 0

@@ -2,6 +2,8 @@
 //! `NAME[]=ITEM,ITEM..`. One rule for all programs: see [`classify`].
 #![tactic(auto)]
 
+mod kinds;
 mod reading;
 
+pub use kinds::{Declaration, Kind, declaration_of};
 pub use reading::{Word, classify, items};

@@ -2,23 +2,16 @@
 
 ghost use Rattle.std.specs.Prelude.{◌≡◌, ◌↔◌, ℤ, IfOk, Some};
 ghost use Rattle.std.specs.List.{join_with_byte};
-ghost use Rattle.std.specs.Option.{option_map};
 ghost use Rattle.interpolator.specs.DecimalTexts.{Spells as IsDecimal};
 ghost use Rattle.interpolator.specs.declared.Decimal.{Decimal};
 ghost use Rattle.words.specs.Items.{comma, items_of, texts_of};
 ghost use Rattle.words.specs.Words.{Assignment, Classifies, PartsMean, Spells, assignment_of};
-ghost use Rattle.words.specs.Words.{without};
 
+use crate::kinds::{Declaration, Kind, declaration_of};
 use interpolator::Decimal;
 use std::alloc::{AllocError, Global};
 
 const EQUALS: char = '=';
-
-const NUMBER_MARK: &str = ":";
-
-const DECIMAL_MARK: &str = ":.";
-
-const LIST_MARK: &str = "[]";
 
 const PLUS: char = '+';
 
@@ -41,11 +34,10 @@ pub enum Word<'a> {
 
 /// Classifies a word.
 ///
-/// It is split at its first `=`. If the part before ends in `:`, the part after is a whole number:
-/// an optional `-` and one or more ASCII digits within `i128`. If it ends in `:.`, the part after
-/// is a decimal, as [`Decimal::parse`] reads it. If it ends in `[]`, the part after has the
-/// [`items`] of a list. Else the part after is a text. The name is what comes before the ending,
-/// and may be empty. A word without an `=`, or with no such number, is `Bad`.
+/// It is split at its first `=`. The part before is a name with a kind ([`declaration_of`]). The
+/// part after is a whole number, an optional `-` and one or more ASCII digits within `i128`; a
+/// decimal, as [`Decimal::parse`] reads it; the [`items`] of a list; or a text. A word without an
+/// `=`, or with no such number, is `Bad`.
 ///
 /// `a=b=c` is the text `b=c` under `a`, `n:=-12` the number -12 under `n`, `p:.=12.50` the decimal
 /// 12.50 under `p`, and `l[]=a,b` the list of `a` and `b` under `l`.
@@ -63,32 +55,19 @@ fn classify_parts<'a>(left: &'a str, right: &'a str) -> Word<'a>
     ensures { (assignment : Assignment) → PartsMean left.now right.now assignment
         ↔ (assignment_of result ≡ Some assignment) }
 {
-    if let Some(name) = without(NUMBER_MARK, left) {
-        return match number_of(right) {
+    let Declaration { name, kind } = declaration_of(left);
+    match kind {
+        Kind::Text => Word::Text { name, text: right },
+        Kind::Number => match number_of(right) {
             None => Word::Bad,
             Some(value) => Word::Number { name, value },
-        };
-    }
-    if let Some(name) = without(DECIMAL_MARK, left) {
-        return match decimal_of(right) {
+        },
+        Kind::Decimal => match decimal_of(right) {
             None => Word::Bad,
             Some(value) => Word::Decimal { name, value },
-        };
+        },
+        Kind::List => Word::List { name, items: right },
     }
-    if let Some(name) = without(LIST_MARK, left) {
-        return Word::List { name, items: right };
-    }
-    Word::Text {
-        name: left,
-        text: right,
-    }
-}
-
-// A text without an ending, if it ends so.
-fn without<'a>(ending: &str, text: &'a str) -> Option<&'a str>
-    ensures { option_map (λ x. x.now) result ≡ without ending.now text.now }
-{
-    text.strip_suffix(ending)
 }
 
 // The number that a text spells, if any: one that std parses, without a leading `+`.

@@ -2,7 +2,7 @@ use Rattle.std.proofs.Common.{refl}
 use Rattle.std.proofs.lemmas.Bool.{false_from_ne_true}
 use Rattle.std.proofs.lemmas.Bool.Decides.{Decides-eqb}
 use Rattle.std.proofs.lemmas.Slice.Eq.{ends_is}
-use Rattle.catalogue.proofs.declarations.with_ending.Goals as goal
+use Rattle.words.proofs.kinds.with_ending.Goals as goal
 
 pub returns-in-None : goal.returns-in-None
 returns-in-None c =

@@ -1,8 +1,7 @@
 use Rattle.std.proofs.Common.{string_bytes}
-use Rattle.catalogue.specs.Words.{IsGood}
+use Rattle.words.specs.Words.{IsGood}
 use Rattle.catalogue.proofs.ZipLemmas.{first_without, zip_more}
-use Rattle.catalogue.proofs.WordLemmas.{gives_good}
-use Rattle.catalogue.proofs.words.objects_of.Goals as goal
+use Rattle.catalogue.proofs.objects.objects_of.Goals as goal
 
 pub loop-word-preserved : goal.loop-word-preserved
 loop-word-preserved c =
@@ -13,7 +12,7 @@ loop-word-preserved c =
 
 pub returns-in-None-clause-given : goal.returns-in-None-clause-given
 returns-in-None-clause-given c = rw c.as_str-in-None.ensures.value
-    (first_without string_bytes IsGood _ (λ word object. gives_good (string_bytes word) object)
+    (first_without string_bytes IsGood _ (λ word object gives. (gives.0, gives.1.0))
     c.args.words.now c.loop-word.word-index c.word-item.result c.loop-word.objects.items
     c.loop-word-test.true c.word-item.is c.loop-word.invariant
     (rw c.as_str.ensures.value at (rw c.in-None.is at c.in_ok-object.ensures.given)))
