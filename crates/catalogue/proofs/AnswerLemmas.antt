@@ -9,7 +9,7 @@ use Rattle.catalogue.specs.Files.{Line}
 use Rattle.catalogue.specs.Messages.{Answers, IsMadeOrTold, OfLine, Replies}
 use Rattle.catalogue.specs.Picks.{ArePicked}
 use Rattle.catalogue.specs.Sound.{IsSoundOver}
-use Rattle.catalogue.specs.Words.{IsGiven}
+use Rattle.catalogue.specs.Objects.{IsGiven}
 use Rattle.catalogue.specs.declared.entries.Object.{Object}
 use Rattle.catalogue.specs.declared.messages.Answer.{Answer}
 use Rattle.catalogue.specs.declared.messages.Answer.TheVariants.{Message, Faults, BadWord}

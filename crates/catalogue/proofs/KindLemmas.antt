@@ -1,5 +1,5 @@
 -- Values of declared kinds resemble the examples of these: a sound format has no fault over them.
-use Rattle.std.proofs.Common.{◌≡◌, arith, refl, sym, inl, ℕ, List, [], ◌∷◌, map, None, Option}
+use Rattle.std.proofs.Common.{◌≡◌, ap, arith, refl, sym, inl, ℕ, List, [], ◌∷◌, map, None, Option}
 use Rattle.std.proofs.lemmas.List.Elements.{All-nil, All-cons}
 use Rattle.std.proofs.lemmas.Slice.Eq.{bytes_eq-Decides}
 use Rattle.std.specs.List.{All, AllZip}
@@ -26,9 +26,11 @@ use Rattle.catalogue.specs.Examples.{example, example_of, example_slots, faults_
 use Rattle.catalogue.specs.Examples.{view_shows}
 use Rattle.catalogue.specs.Messages.{message_means}
 use Rattle.catalogue.specs.Picks.{HoldsPick}
-use Rattle.catalogue.specs.Words.{Gives, IsGiven, ShowsAs, items_in, items_of, texts_show}
-use Rattle.catalogue.specs.declared.declarations.Kind.{Kind}
-use Rattle.catalogue.specs.declared.declarations.Kind.TheVariants as kinds
+use Rattle.catalogue.specs.Objects.{Gives, IsGiven, Showing, shown_by, shown_of, texts_show}
+use Rattle.words.specs.Items.{items_of}
+use Rattle.words.specs.Words.{Assignment, text, number, decimal, list}
+use Rattle.words.specs.declared.Kind.{Kind}
+use Rattle.words.specs.declared.Kind.TheVariants as kinds
 use Rattle.catalogue.specs.declared.entries.Object.{Object}
 use Rattle.catalogue.proofs.HeldLemmas.{IsLike, found_alike, last_holds}
 
@@ -76,6 +78,16 @@ slots_alike : (kind : Kind) (value : View) (t : Trait) → HasTextsOf value (exa
     (slot_at t (values_of (example_slots kind)))
 slots_alike kind value t h = grind (arith, h, list_slots)
 
+-- the kind, what the value shows and what the items show
+kind_in : Showing → Kind
+kind_in s = s.0.1
+
+value_in : Showing → Shown
+value_in s = s.1.0
+
+items_in : Showing → List Shown
+items_in s = s.1.1
+
 -- an item of a list resembles the one of its example
 abbrev IsLikeItem : Slots View → Type 0
 IsLikeItem item =
@@ -105,17 +117,28 @@ module _ (by_kind : ByKind) (means_none : MeansNone) where
       (slots_listed (listed_slots (item_slots vs))) (inl (text_alike v (chars t) cc))
       (items_alike vs ts cc)
 
-  -- a value of a kind resembles its example
-  value_alike : (kind : Kind) (value : View) (items : List View) (text : List ℕ)
-      → ShowsAs kind text value → map shown_as_value items ≡ items_in kind text
-      → Resembles view_shows view_shows (slots_by kind value (item_slots items))
-      (example_slots kind)
-  value_alike kinds.Text value items text h k = text_alike value (chars text) h
-  value_alike kinds.Number value items text h k = λ t. slots_alike kinds.Number value t
-      (texts_alike value (example kinds.Number) (signed_number h.0 B128) t h.2 refl refl)
-  value_alike kinds.Decimal value items text h k = λ t. slots_alike kinds.Decimal value t
-      (texts_alike value (example kinds.Decimal) (decimal_number h.0.units h.0.scale) t h.2 refl refl)
-  value_alike kinds.List value items text h k = (list_slots, items_alike items (items_of text) k)
+  -- an object that shows what an assignment does resembles the example of its kind
+  object_alike : (assignment : Assignment) (object : Object)
+      → shown_of object ≡ shown_by assignment
+      → Resembles view_shows view_shows
+      (slots_by object.kind object.value (item_slots object.items.items))
+      (example_slots object.kind)
+  object_alike (text name cs) object h =
+      let kind : object.kind ≡ kinds.Text = ap kind_in h in
+      rw kind (text_alike object.value (chars cs) (ap value_in h))
+  object_alike (number name n) object h =
+      let kind : object.kind ≡ kinds.Number = ap kind_in h in
+      rw kind (λ t. slots_alike kinds.Number object.value t
+      (texts_alike object.value (example kinds.Number) (signed_number n B128) t
+      (ap value_in h) refl refl))
+  object_alike (decimal name d) object h =
+      let kind : object.kind ≡ kinds.Decimal = ap kind_in h in
+      rw kind (λ t. slots_alike kinds.Decimal object.value t
+      (texts_alike object.value (example kinds.Decimal) (decimal_number d.units d.scale) t
+      (ap value_in h) refl refl))
+  object_alike (list name items) object h =
+      let kind : object.kind ≡ kinds.List = ap kind_in h in
+      rw kind (list_slots, items_alike object.items.items (items_of items) (ap items_in h))
 
   -- what is picked of given values resembles the examples
   pick_alike : (objects : List Object) (declared : List ℕ × Kind) (held : Held)
@@ -125,8 +148,7 @@ module _ (by_kind : ByKind) (means_none : MeansNone) where
       h.object given h.is.last in
       rw (h.holds, ← h.is.of_kind) (
         sym ((bytes_eq-Decides declared.0 h.object.name.now).0 found.0),
-        value_alike h.object.kind h.object.value h.object.items.items found.1.1.text
-            found.1.1.value found.1.1.items,
+        object_alike found.1.1.0 h.object found.1.1.1.1,
       )
 
   all_alike : (objects : List Object) (ds : List (List ℕ × Kind)) (held : List Held)

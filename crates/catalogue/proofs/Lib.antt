@@ -6,5 +6,4 @@ pub mod KindLemmas
 pub mod OwnLemmas
 pub mod RuleLemmas
 pub mod SoundLemmas
-pub mod WordLemmas
 pub mod ZipLemmas

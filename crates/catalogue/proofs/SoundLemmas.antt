@@ -18,7 +18,7 @@ use Rattle.catalogue.specs.Sought.{Known, found_among, found_in, line_for, sough
 use Rattle.catalogue.specs.Sound.{AreSound, IsSound, IsSoundFile, IsSoundOver}
 use Rattle.catalogue.specs.Told.{told_of_faults, told_of_file, told_of_files, told_of_line}
 use Rattle.catalogue.specs.Told.{told_of_broken, told_of_lines, told_of_message, told_of_rule}
-use Rattle.catalogue.specs.Words.{is_equals}
+use Rattle.words.specs.Words.{is_equals}
 use Rattle.catalogue.specs.declared.entries.Object.{Object}
 use Rattle.catalogue.proofs.FirstLemmas.{given_holds}
 

@@ -1,18 +1,16 @@
 -- What the head of a line declares: names, each with a kind of value. Texts are bytes.
 use Rattle.std.specs.Prelude.{ℕ, Bool, not, ◌&&◌, ◌==◌, ◌-◌, nat_lt, List, [], ◌∷◌, ◌++◌}
-use Rattle.std.specs.Prelude.{eqb, length, map, take}
-use Rattle.std.specs.Prelude.{codes, if◌then◌else◌, Option, None, Some}
+use Rattle.std.specs.Prelude.{length, map, if◌then◌else◌, Option, None, Some}
 use Rattle.std.specs.Option.{option_or}
-use Rattle.std.specs.List.{before_first, after_first, ends_with, list_any, position_or_len}
+use Rattle.std.specs.List.{before_first, after_first, list_any, position_or_len}
 use Rattle.std.specs.List.{slice_split}
 use Rattle.std.specs.Char.{is_whitespace}
 use Rattle.std.specs.Str.{bytes_eq, chars, trim, trim_start}
 use Rattle.interpolator.specs.Explained.{usize_sum}
-use Rattle.catalogue.specs.declared.declarations.Declaration.{Declaration}
+use Rattle.words.specs.Declarations.{as_declaration, declaration_of}
+use Rattle.words.specs.declared.Kind.{Kind}
 use Rattle.catalogue.specs.declared.declarations.Heading.{Heading}
 use Rattle.catalogue.specs.declared.declarations.Heading.TheVariants as headings
-use Rattle.catalogue.specs.declared.declarations.Kind.{Kind}
-use Rattle.catalogue.specs.declared.declarations.Kind.TheVariants as kinds
 
 -- the characters `(`, `)` and `,`
 abbrev pub is_open : ℕ → Bool
@@ -28,32 +26,9 @@ is_comma b = b == 44
 abbrev pub has : (ℕ → Bool) → List ℕ → Bool
 has is_such text = nat_lt (position_or_len is_such text) (length text)
 
--- a name and the kind of value under it, borrows aside
-abbrev pub as_declaration : Declaration → List ℕ × Kind
-as_declaration declared = (declared.name.now, declared.kind)
-
 -- a declaration, if nothing is wrong with it
 abbrev pub if_whole : Bool → List ℕ × Kind → Option (List ℕ × Kind)
 if_whole whole declared = if whole then Some declared else None
-
--- a text without an ending, if it ends so
-abbrev pub without : (ending text : List ℕ) → Option (List ℕ)
-without ending text =
-    if ends_with eqb text ending then Some (take (length text - length ending) text) else None
-
--- the name and the kind by what is before `:`, before `:.`, and before `[]`, at the end of a text
-abbrev pub by_ending : List ℕ → (number decimal list : Option (List ℕ)) → List ℕ × Kind
-by_ending text (Some name) decimal list = (name, kinds.Number)
-by_ending text None (Some name) list = (name, kinds.Decimal)
-by_ending text None None (Some name) = (name, kinds.List)
-by_ending text None None None = (text, kinds.Text)
-
--- the name and the kind that a text gives: `name:` of a whole number, `name:.` of a decimal,
--- `name[]` of a list, else `name` of a text
-abbrev pub declaration_of : List ℕ → List ℕ × Kind
-declaration_of text =
-    by_ending text (without (codes ":") text) (without (codes ":.") text)
-    (without (codes "[]") text)
 
 -- a text can be a declared name: it is not empty, and has no white space
 abbrev pub is_name : List ℕ → Bool

@@ -8,8 +8,8 @@ use Rattle.interpolator.specs.Slots.{Slots, empty_slots, slots_of, with_debug_di
 use Rattle.interpolator.specs.Slots.{with_integer, with_iter}
 use Rattle.interpolator.specs.declared.Formattable.{Formattable}
 use Rattle.interpolator.specs.declared.View.{View}
-use Rattle.catalogue.specs.declared.declarations.Kind.{Kind}
-use Rattle.catalogue.specs.declared.declarations.Kind.TheVariants as kinds
+use Rattle.words.specs.declared.Kind.{Kind}
+use Rattle.words.specs.declared.Kind.TheVariants as kinds
 use Rattle.catalogue.specs.declared.entries.Entry.{Entry}
 use Rattle.catalogue.specs.declared.entries.Object.{Object}
 

@@ -14,8 +14,8 @@ use Rattle.interpolator.specs.declared.View.{View}
 use Rattle.interpolator.specs.declared.View.TheVariants.{Character, Decimal, Signed}
 use Rattle.catalogue.specs.Declarations.{Declared, nothing, these, broken}
 use Rattle.catalogue.specs.Entries.{Held, found_by, item_slots, slots_by}
-use Rattle.catalogue.specs.declared.declarations.Kind.{Kind}
-use Rattle.catalogue.specs.declared.declarations.Kind.TheVariants as kinds
+use Rattle.words.specs.declared.Kind.{Kind}
+use Rattle.words.specs.declared.Kind.TheVariants as kinds
 
 -- what a view shows as a value, whatever the trait and the spec
 abbrev pub view_shows : View → Trait → Spec → Shown

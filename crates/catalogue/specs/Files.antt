@@ -1,8 +1,7 @@
 -- Files of messages and their lines. Texts are bytes.
-use Rattle.std.specs.Prelude.{ℕ, ◌+◌, List, [], ◌∷◌, drop, if◌then◌else◌, map, string_bytes, take}
-use Rattle.std.specs.Borrow.{Bor}
-use Rattle.std.specs.Str.{bytes_eq}
+use Rattle.std.specs.Prelude.{ℕ, ◌+◌, List, [], ◌∷◌, string_bytes}
 use Rattle.std.specs.Str.Lines.{lines}
+use Rattle.words.specs.Programs.{without_mark}
 use Rattle.catalogue.specs.declared.files.File.{File}
 use Rattle.catalogue.specs.declared.files.Line.{Line as LentLine}
 
@@ -16,21 +15,9 @@ pub record Line : Type 0 where
 abbrev pub as_line : LentLine → Line
 as_line line = record { file = line.file.now; number = line.number; text = line.text.now }
 
--- texts, borrows aside
-abbrev pub texts_of : List (Bor (List ℕ)) → List (List ℕ)
-texts_of texts = map (λ text. text.now) texts
-
 -- a file: its name and its text
 abbrev pub as_file : File → List ℕ × List ℕ
 as_file file = (string_bytes file.name, string_bytes file.text)
-
--- the byte order mark, which some editors write at the head of a file
-abbrev pub mark : List ℕ
-mark = 239 ∷ 187 ∷ 191 ∷ []
-
--- a text without it
-abbrev pub without_mark : List ℕ → List ℕ
-without_mark text = if bytes_eq (take 3 text) mark then drop 3 text else text
 
 -- the texts of the lines of a file
 abbrev pub plain_lines : List ℕ → List (List ℕ)

@@ -8,7 +8,7 @@ pub mod Files
 pub mod Declarations
 pub mod Examples
 pub mod Entries
-pub mod Words
+pub mod Objects
 pub mod Picks
 pub mod Reports
 pub mod Keys

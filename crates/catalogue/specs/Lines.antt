@@ -5,7 +5,7 @@ use Rattle.std.specs.List.{after_first, before_first, slice_index}
 use Rattle.std.specs.Str.{bytes_eq, trim, trim_start}
 use Rattle.catalogue.specs.Declarations.{Declared, declared_in, has, key_in}
 use Rattle.catalogue.specs.Rules.{rule_head, rule_in}
-use Rattle.catalogue.specs.Words.{is_equals}
+use Rattle.words.specs.Words.{is_equals}
 
 -- `#`
 abbrev pub hash : ℕ

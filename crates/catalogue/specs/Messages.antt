@@ -18,9 +18,9 @@ use Rattle.catalogue.specs.Picks.{ArePicked, IsLacking, told_of_lacking}
 use Rattle.catalogue.specs.Sought.{Known, found_among}
 use Rattle.catalogue.specs.Sound.{IsSoundFile}
 use Rattle.catalogue.specs.Told.{told_of_absent, told_of_fault, told_of_files}
-use Rattle.catalogue.specs.Words.{Gives, IsFirstBad}
-use Rattle.catalogue.specs.declared.declarations.Kind.{Kind}
-use Rattle.catalogue.specs.declared.declarations.Kind.TheVariants as kinds
+use Rattle.catalogue.specs.Objects.{Gives, IsFirstBad}
+use Rattle.words.specs.declared.Kind.{Kind}
+use Rattle.words.specs.declared.Kind.TheVariants as kinds
 use Rattle.catalogue.specs.declared.entries.Object.{Object}
 use Rattle.catalogue.specs.declared.messages.Answer.{Answer}
 use Rattle.catalogue.specs.declared.messages.Answer.TheVariants.{Message, Faults, BadWord}

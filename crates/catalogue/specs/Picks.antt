@@ -3,12 +3,13 @@ use Rattle.std.specs.Prelude.{◌≡◌, ℕ, List, ◌++◌, codes, Option, Som
 use Rattle.std.specs.Fmt.{decimal}
 use Rattle.std.specs.List.{AllZip, find}
 use Rattle.std.specs.Str.{bytes_eq}
-use Rattle.catalogue.specs.Declarations.{Declared, nothing, these, broken, as_declaration}
+use Rattle.words.specs.Declarations.{as_declaration}
+use Rattle.catalogue.specs.Declarations.{Declared, nothing, these, broken}
 use Rattle.catalogue.specs.Entries.{Held, held_by, held_by_entry}
 use Rattle.catalogue.specs.Files.{Line}
 use Rattle.catalogue.specs.Firsts.{IsFirstWithout}
-use Rattle.catalogue.specs.declared.declarations.Kind.{Kind}
-use Rattle.catalogue.specs.declared.declarations.Kind.TheVariants as kinds
+use Rattle.words.specs.declared.Kind.{Kind}
+use Rattle.words.specs.declared.Kind.TheVariants as kinds
 use Rattle.catalogue.specs.declared.entries.Object.{Object}
 use Rattle.catalogue.specs.declared.picks.Picked.{Picked}
 use Rattle.catalogue.specs.declared.picks.Picked.TheVariants.{Values, Lacks}

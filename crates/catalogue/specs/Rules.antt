@@ -7,7 +7,7 @@ use Rattle.std.specs.Option.{option_or}
 use Rattle.std.specs.Str.{bytes_eq, trim}
 use Rattle.std.specs.Str.Parse.{digits_value}
 use Rattle.catalogue.specs.Declarations.{after_part, begin_of, has, is_name}
-use Rattle.catalogue.specs.Words.{is_equals}
+use Rattle.words.specs.Words.{is_equals}
 use Rattle.catalogue.specs.declared.rules.Test.{Test}
 
 -- the characters `:` and `?`

@@ -6,7 +6,7 @@ use Rattle.catalogue.specs.Files.{Line, lines_of}
 use Rattle.catalogue.specs.Keys.{IsNew, with_key}
 use Rattle.catalogue.specs.Lines.{declared_of, format_of, is_passed_over, key_of, key_with}
 use Rattle.catalogue.specs.Rules.{broken_in, rule_in}
-use Rattle.catalogue.specs.Words.{HasEquals}
+use Rattle.words.specs.Words.{HasEquals}
 
 -- a format has no fault: by itself, if nothing is declared, or with examples of what is declared
 abbrev pub IsSoundOver : Declared → List ℕ → Type 0

@@ -13,7 +13,7 @@ use Rattle.catalogue.specs.Keys.{told_of_key, with_key}
 use Rattle.catalogue.specs.Lines.{declared_of, format_of, head_of, is_passed_over, key_of, key_with}
 use Rattle.catalogue.specs.Reports.{lent, told_at}
 use Rattle.catalogue.specs.Rules.{broken_in, rule_in}
-use Rattle.catalogue.specs.Words.{is_equals}
+use Rattle.words.specs.Words.{is_equals}
 use Rattle.catalogue.specs.declared.entries.Object.{Object}
 
 -- a line of a file that ends with its format

@@ -5,34 +5,15 @@ ghost use Rattle.std.specs.Option.{option_map};
 ghost use Rattle.std.specs.List.{list_any, slice_split};
 ghost use Rattle.std.specs.Char.{is_whitespace};
 ghost use Rattle.std.specs.Str.{chars, trim};
-ghost use Rattle.catalogue.specs.Declarations.{as_declaration, as_list};
-ghost use Rattle.catalogue.specs.Declarations.{declaration_of, if_whole, without};
+ghost use Rattle.catalogue.specs.Declarations.{as_list, if_whole};
 ghost use Rattle.catalogue.specs.Declarations.{is_name, part_of, begin_of, after_part, broken_at};
 ghost use Rattle.catalogue.specs.Declarations.{declared_by, declared_between, declared_after};
 ghost use Rattle.catalogue.specs.Declarations.{declared_in, is_among, key_in};
-ghost use Rattle.catalogue.specs.Files.{texts_of};
+ghost use Rattle.words.specs.Declarations.{as_declaration};
+ghost use Rattle.words.specs.Items.{texts_of};
 
 use std::alloc::{AllocError, Global};
-
-/// What kind of value is under a name.
-#[derive(Clone, Copy, Debug, PartialEq, Eq)]
-pub enum Kind {
-    /// A text.
-    Text,
-    /// A whole number.
-    Number,
-    /// A decimal.
-    Decimal,
-    /// A list of texts.
-    List,
-}
-
-/// A name, and the kind of value under it.
-#[derive(Clone, Copy, Debug)]
-pub struct Declaration<'a> {
-    pub name: &'a str,
-    pub kind: Kind,
-}
+use words::{Declaration, Kind, declaration_of};
 
 /// What the head of a line declares.
 #[derive(Drop)]
@@ -53,39 +34,6 @@ fn if_whole(name: &str, kind: Kind, whole: bool) -> Option<Declaration<'_>>
         Some(Declaration { name, kind })
     } else {
         None
-    }
-}
-
-/// The name before an ending, and the kind that the ending is of, if a text ends so.
-#[tactic(auto, using(std::proofs::lemmas::Slice::Eq::ends_is))]
-fn with_ending<'a>(ending: &str, kind: Kind, text: &'a str) -> Option<Declaration<'a>>
-    ensures { option_map as_declaration result
-        ≡ option_map (λ name. (name, kind)) (without ending.now text.now) }
-{
-    match text.strip_suffix(ending) {
-        Some(name) => Some(Declaration { name, kind }),
-        None => None,
-    }
-}
-
-/// The name and the kind that a text gives: `NAME:` is a whole number, `NAME:.` a decimal, `NAME[]`
-/// a list of texts, and any other text is the name of a text. A word has such a text before its
-/// first `=`, and the head of a line such texts between its brackets.
-pub fn declaration_of(text: &str) -> Declaration<'_>
-    ensures { as_declaration result ≡ declaration_of text.now }
-{
-    if let Some(declared) = with_ending(":", Kind::Number, text) {
-        return declared;
-    }
-    if let Some(declared) = with_ending(":.", Kind::Decimal, text) {
-        return declared;
-    }
-    if let Some(declared) = with_ending("[]", Kind::List, text) {
-        return declared;
-    }
-    Declaration {
-        name: text,
-        kind: Kind::Text,
     }
 }
 

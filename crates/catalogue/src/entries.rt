@@ -6,9 +6,9 @@ ghost use Rattle.interpolator.specs.Slots.{slots_of};
 ghost use Rattle.catalogue.specs.Entries.{entry_slots, held_by, held_by_entry, held_by_pair};
 ghost use Rattle.catalogue.specs.Entries.{item_slots};
 
-use crate::declarations::Kind;
 use interpolator::{Error, Formattable, View};
 use std::alloc::Global;
+use words::Kind;
 
 /// A name, and the views of the value under it.
 #[derive(Drop)]

@@ -6,15 +6,17 @@ ghost use Rattle.std.specs.Str.{chars};
 ghost use Rattle.interpolator.specs.At.{outermost};
 ghost use Rattle.interpolator.specs.Faults.{answer_of, fault, no_memory};
 ghost use Rattle.interpolator.specs.Template.NodeChecks.{text_faults};
-ghost use Rattle.catalogue.specs.Declarations.{as_declaration, declared_by};
+ghost use Rattle.catalogue.specs.Declarations.{declared_by};
+ghost use Rattle.words.specs.Declarations.{as_declaration};
 ghost use Rattle.catalogue.specs.Entries.{held_by};
 ghost use Rattle.catalogue.specs.Examples.{example_faults, example_of, faults_of, is_own_reply};
 
-use crate::declarations::{Declaration, Heading, Kind};
+use crate::declarations::Heading;
 use crate::entries::{Object, entries_of, pairs_of};
 use interpolator::{Bits, Error, Interpolate, Pairs, Template, View};
 use interpolator_laws::checks::a_fault_of_its_own_is_that_of_some_piece;
 use std::alloc::Global;
+use words::{Declaration, Kind};
 
 /// An example of a text: a character, which can be formatted under the same traits as any text.
 const TEXT: View<'static> = View::Character('a');

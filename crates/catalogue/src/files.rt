@@ -1,9 +1,11 @@
 //! Files of messages, and their lines.
 
 ghost use Rattle.std.specs.Prelude.{◌≡◌, IfOk};
-ghost use Rattle.catalogue.specs.Files.{as_file, plain_lines, texts_of, without_mark};
+ghost use Rattle.catalogue.specs.Files.{as_file, plain_lines};
+ghost use Rattle.words.specs.Items.{texts_of};
 
 use std::alloc::{AllocError, Global};
+use words::program::without_mark;
 
 /// A file of messages: its name, and what it holds.
 #[derive(Drop)]
@@ -20,16 +22,6 @@ pub struct Line<'a> {
     /// Counted from 1.
     pub number: usize,
     pub text: &'a str,
-}
-
-/// The byte order mark, which some editors write at the head of a file.
-const MARK: &str = "\u{feff}";
-
-/// A text without a byte order mark at its head.
-fn without_mark(text: &str) -> &str
-    ensures { result.now ≡ without_mark text.now }
-{
-    text.strip_prefix(MARK).unwrap_or(text)
 }
 
 /// The lines of a file.

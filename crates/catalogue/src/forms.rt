@@ -3,7 +3,7 @@
 ghost use Rattle.std.specs.Prelude.{◌≡◌, IfOk, pos, string_bytes};
 ghost use Rattle.std.specs.Option.{option_map};
 ghost use Rattle.std.specs.Ordering.{int_eq};
-ghost use Rattle.catalogue.specs.Files.{texts_of};
+ghost use Rattle.words.specs.Items.{texts_of};
 ghost use Rattle.catalogue.specs.Forms.{as_choice, as_sought, choice_at, choice_by, choice_of};
 ghost use Rattle.catalogue.specs.Forms.{choice_with, key_by, key_of_form, number_of, number_under};
 ghost use Rattle.catalogue.specs.Forms.{or_form, rule_of};

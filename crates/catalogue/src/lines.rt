@@ -3,11 +3,11 @@
 ghost use Rattle.std.specs.Prelude.{◌≡◌, IfOk, IfSome, MatchOption};
 ghost use Rattle.std.specs.Option.{option_map};
 ghost use Rattle.std.specs.Str.{bytes_eq};
-ghost use Rattle.catalogue.specs.Files.{texts_of};
+ghost use Rattle.words.specs.Items.{texts_of};
 ghost use Rattle.catalogue.specs.Forms.{as_choice, as_sought};
 ghost use Rattle.catalogue.specs.Lines.{format_of, head_of, is_passed_over, is_under};
 ghost use Rattle.catalogue.specs.Sought.{choice_for, has_key, sought};
-ghost use Rattle.catalogue.specs.Words.{HasEquals};
+ghost use Rattle.words.specs.Words.{HasEquals};
 
 use crate::declarations::key_in;
 use crate::entries::Object;

@@ -34,28 +34,21 @@ mod keys;
 mod line_faults;
 mod lines;
 mod messages;
+mod objects;
 mod picks;
 mod reports;
 mod rules;
-mod words;
 
 use checks::check;
 use files::File;
 use interpolator::Error;
 use messages::{Answer, look_up};
 use std::process::ExitCode;
-use std::{env, fs, io};
+use std::{fs, io};
+use words::program::{BAD_USE, FAULT, REFUSED, WRITTEN, arguments};
 
 const USAGE: &str = "usage: catalogue [--fallback FILE] FILE KEY \
     [NAME=TEXT | NAME:=NUMBER | NAME:.=DECIMAL | NAME[]=ITEM,ITEM..] | catalogue --check FILE..";
-
-const WRITTEN: u8 = 0;
-
-const FAULT: u8 = 1;
-
-const BAD_USE: u8 = 2;
-
-const REFUSED: u8 = 3;
 
 /// What a command line asks for.
 #[derive(Clone, Copy)]
@@ -193,13 +186,12 @@ fn check_files(rt: &HostRuntime, names: &[String]) -> io::Result<u8> {
 
 /// Runs a command line, and returns the status.
 fn run(rt: &HostRuntime) -> io::Result<u8> {
-    let words = match env::args(rt) {
-        Ok(words) => words,
+    let line = match arguments(rt) {
+        Ok(line) => line,
         Err(error) if error.kind() == io::ErrorKind::OutOfMemory => return Err(error),
         // A word that is not UTF-8 is a wrong use.
         Err(_) => return tell_usage(rt),
     };
-    let line = words.skip(1).collect::<Vec<String>>(rt.alloc())?;
     match asked_by(line.as_slice()) {
         Some(Asked::Check(files)) => check_files(rt, files),
         Some(Asked::Message(wanted)) => answer(rt, &wanted),

@@ -10,19 +10,19 @@ ghost use Rattle.catalogue.specs.Files.{as_file, as_line};
 ghost use Rattle.catalogue.specs.Messages.{Answers, IsMadeOrTold, Replies, given};
 ghost use Rattle.catalogue.specs.Sound.{IsSoundOver};
 ghost use Rattle.catalogue.specs.Told.{told_absent, told_of_absent};
-ghost use Rattle.catalogue.specs.Words.{IsGiven};
+ghost use Rattle.catalogue.specs.Objects.{IsGiven};
 
 use crate::checks::{Found, Verdict, checked};
-use crate::declarations::{Declaration, Kind};
 use crate::entries::{Entry, Object, pairs_of};
 use crate::files::{File, lines_of};
 use crate::forms::{choice_in, or_form};
 use crate::line_faults::told_of_fault;
+use crate::objects::objects_of;
 use crate::picks::{Picked, picks_of, told_of_lacking};
-use crate::words::objects_of;
 use interpolator::{Error, Interpolate, Pairs, View};
 use interpolator_laws::samples::{a_checked_format_means_no_fault, a_view_has_a_text_by_its_kind};
 use std::alloc::Global;
+use words::{Declaration, Kind};
 
 /// What the program prints.
 #[derive(Drop)]

@@ -4,16 +4,18 @@ ghost use Rattle.std.specs.Prelude.{◌≡◌, ◌↔◌, IfOk, IfErr, IsTrue, M
 ghost use Rattle.std.specs.Prelude.{string_bytes};
 ghost use Rattle.std.specs.Option.{option_copied};
 ghost use Rattle.interpolator.specs.Faults.{answer_of, no_memory};
-ghost use Rattle.catalogue.specs.Declarations.{as_declaration, declared_by, these};
+ghost use Rattle.catalogue.specs.Declarations.{declared_by, these};
+ghost use Rattle.words.specs.Declarations.{as_declaration};
 ghost use Rattle.catalogue.specs.Files.{as_line};
 ghost use Rattle.catalogue.specs.Picks.{HasPick, IsPicked, IsPickedOrLacks, last_named};
 ghost use Rattle.catalogue.specs.Picks.{shape_of, told_of_lacking};
 
-use crate::declarations::{Declaration, Heading, Kind};
+use crate::declarations::Heading;
 use crate::entries::{Entry, Object, entries_of, entry_of};
 use crate::files::Line;
 use interpolator::Error;
 use std::alloc::{AllocError, Global};
+use words::{Declaration, Kind};
 
 /// The values that a format gets.
 #[derive(Drop)]

@@ -4,7 +4,7 @@ ghost use Rattle.std.specs.Prelude.{◌≡◌, ◌==◌, ◌+◌, IfOk, length};
 ghost use Rattle.std.specs.Option.{option_map};
 ghost use Rattle.std.specs.Char.{is_ascii_digit};
 ghost use Rattle.std.specs.List.{list_all};
-ghost use Rattle.catalogue.specs.Files.{texts_of};
+ghost use Rattle.words.specs.Items.{texts_of};
 ghost use Rattle.catalogue.specs.Rules.{as_test, broken_in, broken_part, is_numeral, is_whole};
 ghost use Rattle.catalogue.specs.Rules.{number_in, parts_of, rule_in, test_after, test_by, test_in};
 ghost use Rattle.catalogue.specs.Rules.{whole_test};

@@ -21,17 +21,13 @@ use interpolator::{
 };
 use rows::{Rows, place_of, rows_of_table};
 use std::alloc::Global;
+use std::fs;
 use std::process::ExitCode;
-use std::{env, fs, io};
+use words::program::{
+    FAULT, REFUSED, WRITTEN, arguments, ended, is_flag, usage, without_mark, without_words,
+};
 
-const WRITTEN: u8 = 0;
-
-const FAULT: u8 = 1;
-
-const BAD_USE: u8 = 2;
-
-/// The status of a refused write, and of a file that cannot be read.
-const REFUSED: u8 = 3;
+const USAGE: &str = "usage: chart FORMAT FILE";
 
 /// What a table is drawn as.
 #[derive(Drop)]
@@ -124,44 +120,6 @@ fn chart_of(alloc: Global, files: Files<'_>) -> Result<Chart, Error> {
     }
 }
 
-/// The text without the byte order mark at its head.
-fn without_mark(text: &str) -> &str {
-    text.strip_prefix('\u{feff}').unwrap_or(text)
-}
-
-/// The words after the program's name.
-fn arguments(rt: &HostRuntime) -> io::Result<Vec<String>> {
-    let words = env::args(rt)?.skip(1).collect::<Vec<String>>(rt.alloc())?;
-    Ok(words)
-}
-
-/// Whether a word looks like a flag, of which there are none.
-fn is_flag(word: &str) -> bool {
-    word.starts_with('-')
-}
-
-/// The usage, on standard error.
-fn usage(rt: &HostRuntime) -> ExitCode {
-    ended(eprintln!(rt; "usage: chart FORMAT FILE"), BAD_USE)
-}
-
-/// The status of a run that ends with this write.
-fn ended(written: io::Result<()>, status: u8) -> ExitCode {
-    match written {
-        Ok(()) => ExitCode::from(status),
-        Err(_) => ExitCode::from(REFUSED),
-    }
-}
-
-/// Ends a run whose words cannot be read: memory ran out, or a word is not UTF-8, which is a wrong
-/// use.
-fn without_words(rt: &HostRuntime, error: &io::Error) -> ExitCode {
-    if error.kind() == io::ErrorKind::OutOfMemory {
-        return ended(eprintln!(rt; "{}", Error::NoMemory), FAULT);
-    }
-    usage(rt)
-}
-
 /// Draws the chart of two files.
 fn draw(rt: &HostRuntime, format_name: &str, table_name: &str) -> ExitCode {
     let format = match fs::read_to_string(rt, format_name) {
@@ -188,13 +146,13 @@ fn draw(rt: &HostRuntime, format_name: &str, table_name: &str) -> ExitCode {
 fn main(rt: HostRuntime) -> ExitCode {
     let words = match arguments(&rt) {
         Ok(words) => words,
-        Err(error) => return without_words(&rt, &error),
+        Err(error) => return without_words(&rt, &error, USAGE),
     };
     let [format, table] = words.as_slice() else {
-        return usage(&rt);
+        return usage(&rt, USAGE);
     };
     if is_flag(format.as_str()) || is_flag(table.as_str()) {
-        return usage(&rt);
+        return usage(&rt, USAGE);
     }
     draw(&rt, format.as_str(), table.as_str())
 }

@@ -14,12 +14,12 @@ use Rattle.interpolator.specs.declared.NameMap.{NameMap}
 use Rattle.interpolator.specs.NameMaps.{under, stored_slots}
 use Rattle.interpolator.specs.Slots.{Slots, slots_of}
 use Rattle.interpolator.specs.Views.{shown_as_value}
-use Rattle.ifmt.specs.declared.words.Word.{Word}
-use Rattle.ifmt.specs.declared.words.Word.TheVariants.{Text, Number, Decimal as DecimalWord}
-use Rattle.ifmt.specs.declared.words.Word.TheVariants.{List as ListWord, Bad}
+use Rattle.words.specs.declared.Word.{Word}
+use Rattle.words.specs.declared.Word.TheVariants.{Text, Number, Decimal as DecimalWord}
+use Rattle.words.specs.declared.Word.TheVariants.{List as ListWord, Bad}
 use Rattle.ifmt.specs.declared.binding.Object.{Object}
 use Rattle.ifmt.specs.declared.binding.Entry.{Entry}
-use Rattle.ifmt.specs.Words.{IsGood, Classifies}
+use Rattle.words.specs.Words.{IsGood, Classifies}
 use Rattle.ifmt.specs.Binding.{Binds, Fills, HasObject, Lends}
 use Rattle.ifmt.specs.Binding.{items_show, item_slots, object_shows}
 use Rattle.ifmt.specs.Command.{AllGood}

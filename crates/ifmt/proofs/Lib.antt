@@ -1,5 +1,3 @@
 -- The lemmas of the program.
-pub mod PartLemmas
-pub mod ItemLemmas
 pub mod BindLemmas
 pub mod ReportLemmas

@@ -10,13 +10,13 @@ use Rattle.interpolator.specs.Slots.{Slots, slots_of, empty_slots, with_debug_di
 use Rattle.interpolator.specs.Slots.{with_float, with_iter}
 use Rattle.interpolator.specs.Views.{Shown, shown_as_value, some_text, signed_number}
 use Rattle.interpolator.specs.Views.{decimal_number, nothing_implemented}
-use Rattle.ifmt.specs.declared.words.Word.{Word}
-use Rattle.ifmt.specs.declared.words.Word.TheVariants.{Text, Number, Decimal as DecimalWord}
-use Rattle.ifmt.specs.declared.words.Word.TheVariants.{List as ListWord, Bad}
+use Rattle.words.specs.declared.Word.{Word}
+use Rattle.words.specs.declared.Word.TheVariants.{Text, Number, Decimal as DecimalWord}
+use Rattle.words.specs.declared.Word.TheVariants.{List as ListWord, Bad}
 use Rattle.ifmt.specs.declared.binding.Object.{Object}
 use Rattle.ifmt.specs.declared.binding.Entry.{Entry}
-use Rattle.ifmt.specs.Items.{items_of}
-use Rattle.ifmt.specs.Words.{Assignment, text, number, decimal, list, Means, Classifies}
+use Rattle.words.specs.Items.{items_of}
+use Rattle.words.specs.Words.{Assignment, text, number, decimal, list, Means, Classifies}
 
 -- the name of an assignment, by its characters
 abbrev pub assigned_name : Assignment → List ℕ

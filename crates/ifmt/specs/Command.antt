@@ -10,7 +10,7 @@ use Rattle.interpolator.specs.Faults.{no_memory}
 use Rattle.interpolator.specs.Meaning.Meanings.{means}
 use Rattle.interpolator.specs.Slots.{Slots}
 use Rattle.interpolator.specs.Views.{shown_as_value}
-use Rattle.ifmt.specs.Words.{IsGood}
+use Rattle.words.specs.Words.{IsGood}
 use Rattle.ifmt.specs.Binding.{AreBound}
 use Rattle.ifmt.specs.Run.{Puts, Runs, Tells, complaint, usage_line}
 

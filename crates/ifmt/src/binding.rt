@@ -6,13 +6,13 @@ ghost use Rattle.interpolator.specs.Views.{shown_as_value};
 ghost use Rattle.interpolator.specs.Slots.{slots_of};
 ghost use Rattle.interpolator.specs.NameMaps.{stored_slots};
 ghost use Rattle.interpolator.specs.declared.Error.TheVariants.{NoMemory};
-ghost use Rattle.ifmt.specs.Items.{texts_of};
+ghost use Rattle.words.specs.Items.{texts_of};
 ghost use Rattle.ifmt.specs.Binding.{Fills, HasObject, Lends, item_slots, items_show};
 ghost use Rattle.ifmt.specs.Binding.{object_shows, texts_show};
 
-use crate::words::{Word, classify, items};
 use interpolator::{Bits, ContextMap, Error, Formattable, View};
 use std::alloc::Global;
+use words::{Word, classify, items};
 
 /// A word, and the views of its value.
 #[derive(Drop)]

@@ -2,15 +2,15 @@
 
 ghost use Rattle.std.specs.Prelude.{◌≡◌, IfErr, IfOk, MatchBool, MatchOption, OnErr};
 ghost use Rattle.interpolator.specs.declared.Error.TheVariants.{NoMemory};
-ghost use Rattle.ifmt.specs.Words.{IsGood};
+ghost use Rattle.words.specs.Words.{IsGood};
 ghost use Rattle.ifmt.specs.Command.{AllGood, Answers, IsFirstBad, RunsOver};
 
 use crate::binding::{entries_of, fill, objects_of};
 use crate::run::{complain, report, run, usage};
-use crate::words::{Word, classify};
 use interpolator::{ContextMap, Error};
 use std::alloc::Global;
 use std::io::Write;
+use words::{Word, classify};
 
 /// Runs a command line: a format and the words after it.
 ///

@@ -5,11 +5,11 @@
 mod binding;
 mod command;
 mod run;
-mod words;
 
 use interpolator::Error;
+use std::io;
 use std::process::ExitCode;
-use std::{env, io};
+use words::program::arguments;
 
 fn main(rt: HostRuntime) -> ExitCode {
     let mut out = rt.stdout();
@@ -23,10 +23,4 @@ fn main(rt: HostRuntime) -> ExitCode {
         Err(_) => run::usage(&mut err),
     };
     ExitCode::from(status)
-}
-
-// The words after the program's name.
-fn arguments(rt: &HostRuntime) -> io::Result<Vec<String>> {
-    let words = env::args(rt)?.skip(1).collect(rt.alloc())?;
-    Ok(words)
 }

@@ -31,18 +31,14 @@ use interpolator::{Error, Source, explain_with_names};
 use letters::{Fault, merged};
 use records::{BadByte, Field, Problem, ReadError, Reader, Separator, latin1, text_in};
 use std::alloc::Global;
+use std::fs;
 use std::process::ExitCode;
-use std::{env, fs, io};
 use table::{LineFault, Trouble};
+use words::program::{
+    FAULT, REFUSED, WRITTEN, arguments, ended, is_flag, usage, without_mark, without_words,
+};
 
-const WRITTEN: u8 = 0;
-
-const FAULT: u8 = 1;
-
-const BAD_USE: u8 = 2;
-
-/// The status of a refused write, and of a file that cannot be read.
-const REFUSED: u8 = 3;
+const USAGE: &str = "usage: merge [--separator , | ; | tab] [--latin1] TEMPLATE TABLE";
 
 /// What the command line asks for.
 #[derive(Clone, Copy)]
@@ -162,17 +158,6 @@ fn told(alloc: Global, files: Files<'_>, fault: &Fault) -> Result<String, Error>
     }
 }
 
-/// The text without the byte order mark at its head.
-fn without_mark(text: &str) -> &str {
-    text.strip_prefix('\u{feff}').unwrap_or(text)
-}
-
-/// The words after the program's name.
-fn arguments(rt: &HostRuntime) -> io::Result<Vec<String>> {
-    let words = env::args(rt)?.skip(1).collect::<Vec<String>>(rt.alloc())?;
-    Ok(words)
-}
-
 /// The separator that a word names.
 fn separator_in(word: &str) -> Option<Separator> {
     match word {
@@ -209,36 +194,6 @@ fn asked_by<'a>(words: &'a [String]) -> Option<Asked<'a>> {
             _ => return None,
         }
     }
-}
-
-/// Whether a word looks like a flag.
-fn is_flag(word: &str) -> bool {
-    word.starts_with('-')
-}
-
-/// The usage, on standard error.
-fn usage(rt: &HostRuntime) -> ExitCode {
-    ended(
-        eprintln!(rt; "usage: merge [--separator , | ; | tab] [--latin1] TEMPLATE TABLE"),
-        BAD_USE,
-    )
-}
-
-/// The status of a run that ends with this write.
-fn ended(written: io::Result<()>, status: u8) -> ExitCode {
-    match written {
-        Ok(()) => ExitCode::from(status),
-        Err(_) => ExitCode::from(REFUSED),
-    }
-}
-
-/// Ends a run whose words cannot be read: memory ran out, or a word is not UTF-8, which is a wrong
-/// use.
-fn without_words(rt: &HostRuntime, error: &io::Error) -> ExitCode {
-    if error.kind() == io::ErrorKind::OutOfMemory {
-        return ended(eprintln!(rt; "{}", Error::NoMemory), FAULT);
-    }
-    usage(rt)
 }
 
 /// Writes the letters of a template and a table, or why there are none.
@@ -314,10 +269,10 @@ fn merge(rt: &HostRuntime, asked: Asked<'_>) -> ExitCode {
 fn main(rt: HostRuntime) -> ExitCode {
     let words = match arguments(&rt) {
         Ok(words) => words,
-        Err(error) => return without_words(&rt, &error),
+        Err(error) => return without_words(&rt, &error, USAGE),
     };
     match asked_by(words.as_slice()) {
         Some(asked) => merge(&rt, asked),
-        None => usage(&rt),
+        None => usage(&rt, USAGE),
     }
 }

@@ -20,18 +20,14 @@ use faults::Faults;
 use interpolator::Error;
 use layout::{Column, table_of};
 use std::alloc::Global;
+use std::fs;
 use std::process::ExitCode;
-use std::{env, fs, io};
 use totals::{NoTotal, is_numeric, total_of};
+use words::program::{
+    FAULT, REFUSED, WRITTEN, arguments, ended, is_flag, usage, without_mark, without_words,
+};
 
-const WRITTEN: u8 = 0;
-
-const FAULT: u8 = 1;
-
-const BAD_USE: u8 = 2;
-
-/// The status of a refused write, and of a file that cannot be read.
-const REFUSED: u8 = 3;
+const USAGE: &str = "usage: report FILE";
 
 /// What a file is reported as.
 #[derive(Drop)]
@@ -144,44 +140,6 @@ fn report_on(alloc: Global, file: &str, text: &str) -> Result<Report, Error> {
     Ok(Report::Table(table_of(alloc, &columns, &all)?))
 }
 
-/// The text without the byte order mark at its head.
-fn without_mark(text: &str) -> &str {
-    text.strip_prefix('\u{feff}').unwrap_or(text)
-}
-
-/// The words after the program's name.
-fn arguments(rt: &HostRuntime) -> io::Result<Vec<String>> {
-    let words = env::args(rt)?.skip(1).collect::<Vec<String>>(rt.alloc())?;
-    Ok(words)
-}
-
-/// Whether a word looks like a flag, of which there are none.
-fn is_flag(word: &str) -> bool {
-    word.starts_with('-')
-}
-
-/// The usage, on standard error.
-fn usage(rt: &HostRuntime) -> ExitCode {
-    ended(eprintln!(rt; "usage: report FILE"), BAD_USE)
-}
-
-/// The status of a run that ends with this write.
-fn ended(written: io::Result<()>, status: u8) -> ExitCode {
-    match written {
-        Ok(()) => ExitCode::from(status),
-        Err(_) => ExitCode::from(REFUSED),
-    }
-}
-
-/// Ends a run whose words cannot be read: memory ran out, or a word is not UTF-8, which is a wrong
-/// use.
-fn without_words(rt: &HostRuntime, error: &io::Error) -> ExitCode {
-    if error.kind() == io::ErrorKind::OutOfMemory {
-        return ended(eprintln!(rt; "{}", Error::NoMemory), FAULT);
-    }
-    usage(rt)
-}
-
 /// Prints the table of a file, or what is wrong with it.
 fn print_report(rt: &HostRuntime, file: &str) -> ExitCode {
     let text = match fs::read_to_string(rt, file) {
@@ -198,10 +156,10 @@ fn print_report(rt: &HostRuntime, file: &str) -> ExitCode {
 fn main(rt: HostRuntime) -> ExitCode {
     let words = match arguments(&rt) {
         Ok(words) => words,
-        Err(error) => return without_words(&rt, &error),
+        Err(error) => return without_words(&rt, &error, USAGE),
     };
     match words.as_slice() {
         [file] if !is_flag(file.as_str()) => print_report(&rt, file.as_str()),
-        _ => usage(&rt),
+        _ => usage(&rt, USAGE),
     }
 }

@@ -3,4 +3,3 @@ pub mod ReadingLemmas
 pub mod ServingLemmas
 pub mod ValueLemmas
 pub mod WithinLemmas
-pub mod WordLemmas

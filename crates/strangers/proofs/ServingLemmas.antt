@@ -1,8 +1,9 @@
 -- What rejects a format, and that nothing is left to fail if nothing does.
-use Rattle.std.proofs.Common.{◌≡◌, refl, inl, inr, ℕ, ◌-◌, ◌^◌, false, List, [], ◌∷◌, min, arith}
-use Rattle.std.proofs.Common.{Option, Some, None}
+use Rattle.std.proofs.Common.{◌≡◌, ◌∙◌, ap, refl, inl, inr, ℕ, ◌-◌, ◌^◌, Bool, true, false, List}
+use Rattle.std.proofs.Common.{[], ◌∷◌, min, arith, if◌then◌else◌, Option, Some, None}
 use Rattle.std.proofs.lemmas.Bool.Decides.{nat_tests}
 use Rattle.std.specs.Option.{option_or}
+use Rattle.interpolator_render.specs.Bounds.{BoundedText, bounded, bounded_writer}
 use Rattle.interpolator.specs.Faults.{Answer, Fault, no_memory}
 use Rattle.interpolator.specs.Meaning.Meanings.{Meaning}
 use Rattle.interpolator.specs.Meaning.Outcomes.{Outcome}
@@ -19,6 +20,25 @@ pub only_memory : (m : Meaning) (old new : Written) (answer : Answer) → m.faul
 only_memory m old new answer sound down (inl done) = let told = rw sound at done.told in cc
 only_memory m old new answer sound down (inr (inl refusal)) = let flag = refusal.flag in cc
 only_memory m old new answer sound down (inr (inr wants)) = let told = wants.told in cc
+
+-- each outcome keeps the bound, if the memory for it is ready
+origin_kept : (m : Meaning) (old new : Written) (told : Option Answer) → Outcome m old new told
+    → new.origin ≡ old.origin
+origin_kept m old new told (inl finished) = finished.all.same_origin
+origin_kept m old new told (inr (inl refused)) = refused.same_origin
+origin_kept m old new told (inr (inr wants)) = wants.begun.same_origin
+
+bound_by : (ready : Bool) (most bytes : ℕ) → (if ready then Some most else None) ≡ Some bytes
+    → most ≡ bytes
+bound_by true most bytes is = grind arith
+bound_by false most bytes is = grind arith
+
+pub bound_kept : (m : Meaning) (old new : BoundedText) (told : Option Answer) (bytes : ℕ)
+    → (bounded_writer old).origin ≡ bounded bytes true
+    → Outcome m (bounded_writer old) (bounded_writer new) told → new.most ≡ bytes
+bound_kept m old new told bytes begun outcome =
+    bound_by new.ready new.most bytes (ap (λ origin. origin.bound)
+    (origin_kept m (bounded_writer old) (bounded_writer new) told outcome ∙ begun))
 
 -- no first fault is no fault
 pub no_first : (fs : List Fault) → first_fault fs ≡ None → fs ≡ []

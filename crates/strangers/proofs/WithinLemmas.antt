@@ -27,7 +27,7 @@ use Rattle.interpolator.specs.declared.Limits.{Limits}
 use Rattle.interpolator.specs.declared.Trait.{Trait}
 use Rattle.interpolator.specs.declared.Trait.TheVariants.{Iter}
 use Rattle.strangers.specs.Serving.{IsServed, IsWhole, Rejects, first_why, format_why, given_why}
-use Rattle.strangers.specs.Serving.{meaning_over, shows, words_why}
+use Rattle.strangers.specs.Serving.{bytes_for, meaning_over, shows, told_cost, words_why}
 use Rattle.strangers.specs.Values.{AreInRange, IsInRange, Row, characters_of, found_by_words}
 use Rattle.strangers.specs.Values.{given_slots, longest_of, pair_named, word_named}
 use Rattle.strangers.proofs.ServingLemmas.{afforded, neither}
@@ -159,20 +159,22 @@ module _ (allowed : Allowed) (format : List ℕ) (words : List Word) (pairs : Ro
   -- a format that nothing rejects is served
   pub served_whole : KeepsToCost allowed.values → (text : List ℕ)
       → All (λ word. AreInRange word.given) words → words_why allowed.values words ≡ None
-      → IsWhole format (found_by_pairs pairs) text
+      → IsWhole format (found_by_pairs pairs) (chars text)
       × (format_why allowed format (found_by_pairs pairs) ≡ None)
+      × (length text ≤ bytes_for (told_cost allowed.values format).characters)
       → IsServed allowed format words text
   served_whole costs text range good done =
-      let (whole, accepted) = rw same at done in
+      let (whole, accepted, short) = rw same at done in
       let most = costs (environment (found_by_words words)) (outermost (chars format))
       (names_within allowed.values words _ range good) in
       let affords = afforded allowed.most _ (neither _ _ accepted).1 in
-      let as_long : length text ≡ length (meaning_over format (found_by_words words)).text =
+      let as_long : length (chars text) ≡ length (meaning_over format (found_by_words words)).text =
       rw (whole.whole) (length-map (meaning_over format (found_by_words words)).text _) in
       record {
         accepted = rw good accepted;
         written = whole;
         characters = rw as_long (as_told _ _ most.0 affords.characters.1);
+        bytes = short;
         pieces = as_told _ _ most.1 affords.pieces.1;
         buffered = as_told _ _ most.2 affords.buffered.1;
         afforded = affords;

@@ -1,6 +1,5 @@
--- The answer to a command line. Texts are bytes; the text that is printed is characters.
+-- The answer to a command line. Texts are bytes.
 use Rattle.std.specs.Prelude.{◌≡◌, ℕ, List, None, Some, string_bytes}
-use Rattle.std.specs.Str.{chars}
 use Rattle.strangers.specs.Reading.{Asked, asked_by}
 use Rattle.strangers.specs.Serving.{IsServed, Rejects, first_why}
 use Rattle.strangers.specs.Words.{GiveAll, IsFirstBad}
@@ -17,7 +16,7 @@ IsRead line asked read = (asked_by line ≡ Some asked) × GiveAll asked.2 read
 abbrev pub IsAnswer : List (List ℕ) → Answer → Type 0
 IsAnswer line (Text text) =
     (asked : Asked) × (read : List Word) × IsRead line asked read
-    × IsServed asked.0 asked.1 read (chars (string_bytes text))
+    × IsServed asked.0 asked.1 read (string_bytes text)
 IsAnswer line (Refused refused) =
     (asked : Asked) × (read : List Word) × IsRead line asked read
     × Rejects (first_why asked.0 asked.1 read) refused

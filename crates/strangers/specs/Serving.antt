@@ -1,7 +1,6 @@
--- When a format that is not trusted is written, and why another is not. A format is bytes, and the
--- text that it is written as is characters.
-use Rattle.std.specs.Prelude.{◌≡◌, ◌⊎◌, ◌≤◌, ◌-◌, ◌^◌, ◌==◌, ◌||◌, ◌<◌, nat_lt, ℕ, Bool, List, []}
-use Rattle.std.specs.Prelude.{◌∷◌, length, if◌then◌else◌, Option, None, Some, Result, Ok, Err}
+-- When a format that is not trusted is written, and why another is not. Formats and texts are bytes.
+use Rattle.std.specs.Prelude.{◌≡◌, ◌⊎◌, ◌≤◌, ◌-◌, ◌*◌, ◌^◌, ◌==◌, ◌||◌, ◌<◌, nat_lt, ℕ, Bool, List}
+use Rattle.std.specs.Prelude.{[], ◌∷◌, length, min, if◌then◌else◌, Option, None, Some, Result, Ok, Err}
 use Rattle.std.specs.Option.{option_map, option_or}
 use Rattle.std.specs.Str.{chars}
 use Rattle.interpolator.specs.At.{outermost, text_of}
@@ -124,7 +123,11 @@ Rejects why refused = (why_of refused ≡ failed no_memory) ⊎ (why ≡ Some (w
 
 -- ---- when it is written
 
--- the whole text of a format, without fault
+-- the bytes that so many characters have at most; the greatest `usize` means as many or more
+abbrev pub bytes_for : (characters : ℕ) → ℕ
+bytes_for characters = min (characters * 4) (2 ^ 64 - 1)
+
+-- the whole text of a format, by its characters, without fault
 pub record IsWhole (format : List ℕ) (finds : Names) (text : List ℕ) : Type 0 where
   pub faultless : (meaning_over format finds).fault ≡ None
   pub whole : text ≡ text_of (meaning_over format finds).text
@@ -140,12 +143,13 @@ pub record Affords (most cost : Cost) : Type 0 where
   pub buffered : IsWithin cost.buffered most.buffered
 
 -- a format is served: nothing rejects it, and its text is written whole, within the cost that is
--- reported of it, which is within the limits
+-- reported of it, which is within the limits; its bytes are within the memory for that cost
 pub record IsServed (allowed : Allowed) (format : List ℕ) (words : List Word) (text : List ℕ)
     : Type 0 where
   pub accepted : first_why allowed format words ≡ None
-  pub written : IsWhole format (found_by_words words) text
-  pub characters : length text ≤ (told_cost allowed.values format).characters
+  pub written : IsWhole format (found_by_words words) (chars text)
+  pub characters : length (chars text) ≤ (told_cost allowed.values format).characters
+  pub bytes : length text ≤ bytes_for (told_cost allowed.values format).characters
   pub pieces : (work_over format (found_by_words words)).pieces
       ≤ (told_cost allowed.values format).pieces
   pub buffered : (work_over format (found_by_words words)).held

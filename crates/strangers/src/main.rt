@@ -17,8 +17,9 @@ mod values;
 use answering::{Answer, answered};
 use interpolator::Error;
 use serving::{Count, Refused};
+use std::io;
 use std::process::ExitCode;
-use std::{env, io};
+use words::program::arguments;
 
 const USAGE: &str = "usage: strangers [FLAG NUMBER..] FORMAT \
     [NAME=TEXT | NAME:=NUMBER | NAME:.=DECIMAL | NAME[]=ITEM,ITEM..]";
@@ -75,12 +76,6 @@ fn tell(rt: &HostRuntime, answer: &Answer) -> io::Result<u8> {
             Ok(BAD_USE)
         }
     }
-}
-
-/// The words after the program's name.
-fn arguments(rt: &HostRuntime) -> io::Result<Vec<String>> {
-    let words = env::args(rt)?.skip(1).collect::<Vec<String>>(rt.alloc())?;
-    Ok(words)
 }
 
 fn main(rt: HostRuntime) -> ExitCode {

@@ -1,21 +1,18 @@
 //! The arguments of the command line: limits, a format, and words.
-ghost use Rattle.std.specs.Prelude.{◌≡◌, ◌↔◌, ℤ, IfOk, MatchOption, MatchResult, Some, map};
-ghost use Rattle.std.specs.Prelude.{string_bytes};
-ghost use Rattle.std.specs.List.{slice_split};
+ghost use Rattle.std.specs.Prelude.{◌≡◌, IfOk, MatchOption, MatchResult, map, string_bytes};
 ghost use Rattle.std.specs.Option.{option_map};
 ghost use Rattle.strangers.specs.Reading.{as_asked, asked_by, is_flag, limit_of, with_flag};
 ghost use Rattle.strangers.specs.Reading.{with_limit};
-ghost use Rattle.interpolator.specs.DecimalTexts.{Spells as IsDecimal};
-ghost use Rattle.interpolator.specs.declared.Decimal.{Decimal};
-ghost use Rattle.strangers.specs.Words.{ArePartsGood, GiveAll, Gives, IsDecimalOf, IsFirstBad};
-ghost use Rattle.strangers.specs.Words.{IsGood, IsNumber};
-ghost use Rattle.strangers.specs.Words.{PartsGive, Spells, are_texts, is_comma, items_of, text_in};
-ghost use Rattle.strangers.specs.Words.{texts_of, without};
+ghost use Rattle.strangers.specs.Words.{GiveAll, Gives, IsFirstBad, are_texts, text_in};
+ghost use Rattle.strangers.specs.declared.values.Given.TheVariants.{One};
+ghost use Rattle.words.specs.Items.{texts_of};
+ghost use Rattle.words.specs.Words.{IsGood};
 
 use crate::serving::Allowed;
 use crate::values::{Datum, Given, Word};
-use interpolator::{Cost, Decimal, Limits};
+use interpolator::{Cost, Limits};
 use std::alloc::{AllocError, Global};
+use words::{Word as Assigned, classify, items};
 
 /// The limits by default.
 const USUAL: Allowed = Allowed {
@@ -137,33 +134,6 @@ pub fn asked_by(line: &[String]) -> Option<Request<'_>>
     }
 }
 
-/// The number that a text spells, if any: an optional `-` and digits, within `i128`.
-fn number_of(text: &str) -> Option<i128>
-    ensures { (value : ℤ) → Spells text.now value ↔ (result ≡ Some value) }
-{
-    if text.starts_with('+') {
-        return None;
-    }
-    text.parse::<i128>().ok()
-}
-
-/// The parts of a text, between its commas.
-fn between_commas(alloc: Global, text: &str) -> Result<Vec<&str>, AllocError>
-    ensures { IfOk result (λ parts. texts_of parts.items ≡ slice_split is_comma text.now) }
-{
-    text.split(',').collect(alloc)
-}
-
-/// The texts of the items of a list: the parts of its text between commas. The empty text has none.
-fn items_of(alloc: Global, text: &str) -> Result<Vec<&str>, AllocError>
-    ensures { IfOk result (λ items. texts_of items.items ≡ items_of text.now) }
-{
-    if text.is_empty() {
-        return Ok(Vec::new(alloc));
-    }
-    between_commas(alloc, text)
-}
-
 /// Each text as a value.
 fn values_of<'a>(alloc: Global, texts: &[&'a str]) -> Result<Vec<Datum<'a>>, AllocError>
     ensures { IfOk result (λ values. map text_in values.items ≡ are_texts (texts_of texts.now)) }
@@ -175,80 +145,32 @@ fn values_of<'a>(alloc: Global, texts: &[&'a str]) -> Result<Vec<Datum<'a>>, All
     Ok(values)
 }
 
-/// A text without an ending, if it ends so.
-fn without<'a>(ending: &str, text: &'a str) -> Option<&'a str>
-    ensures { option_map (λ x. x.now) result ≡ without ending.now text.now }
+/// The word that gives one value.
+fn single<'a>(name: &'a str, value: Datum<'a>) -> Word<'a>
+    ensures { result ≡ record { name = name; given = One value } }
 {
-    text.strip_suffix(ending)
-}
-
-/// The word of a whole number, if a text spells one.
-fn numbered<'a>(name: &'a str, text: &str) -> Option<Word<'a>>
-    ensures { MatchOption result (¬ ((value : ℤ) × Spells text.now value))
-        (λ word. (word.name.now ≡ name.now) × IsNumber text.now word.given) }
-{
-    match number_of(text) {
-        None => None,
-        Some(number) => Some(Word {
-            name,
-            given: Given::One(Datum::Number(number)),
-        }),
+    Word {
+        name,
+        given: Given::One(value),
     }
 }
 
-/// The word of a decimal, if a text spells one.
-fn decimal_word<'a>(name: &'a str, text: &str) -> Option<Word<'a>>
-    ensures { MatchOption result (¬ ((value : Decimal) × IsDecimal text.now value))
-        (λ word. (word.name.now ≡ name.now) × IsDecimalOf text.now word.given) }
-{
-    match Decimal::parse(text) {
-        Ok(decimal) => Some(Word {
-            name,
-            given: Given::One(Datum::Decimal(decimal)),
-        }),
-        Err(_) => None,
-    }
-}
-
-/// The word whose first `=` is between these parts.
-fn parts_give<'a>(
-    alloc: Global,
-    left: &'a str,
-    right: &'a str,
-) -> Result<Option<Word<'a>>, AllocError>
-    ensures { IfOk result (λ found. MatchOption found (¬ ArePartsGood left.now right.now)
-        (λ word. PartsGive left.now right.now word)) }
-{
-    if let Some(name) = without(":", left) {
-        return Ok(numbered(name, right));
-    }
-    if let Some(name) = without(":.", left) {
-        return Ok(decimal_word(name, right));
-    }
-    if let Some(name) = without("[]", left) {
-        let texts = items_of(alloc, right)?;
-        let values = values_of(alloc, texts.as_slice())?;
-        return Ok(Some(Word {
-            name,
-            given: Given::Many(values),
-        }));
-    }
-    Ok(Some(Word {
-        name: left,
-        given: Given::One(Datum::Text(right)),
-    }))
-}
-
-/// Reads a word: `NAME=TEXT`, `NAME:=NUMBER`, `NAME:.=DECIMAL` or `NAME[]=ITEM,ITEM..`; `None` for
-/// any other.
+/// Reads a word; `None` for one that gives nothing.
 fn word_of(alloc: Global, word: &str) -> Result<Option<Word<'_>>, AllocError>
     ensures { IfOk result (λ found. MatchOption found (¬ IsGood word.now)
         (λ given. Gives word.now given)) }
 {
-    let Some((left, right)) = word.split_once('=') else {
-        return Ok(None);
-    };
-    parts_give(alloc, left, right)
+    match classify(word) {
+        Assigned::Bad => Ok(None),
+        Assigned::Text { name, text } => Ok(Some(single(name, Datum::Text(text)))),
+        Assigned::Number { name, value } => Ok(Some(single(name, Datum::Number(value)))),
+        Assigned::Decimal { name, value } => Ok(Some(single(name, Datum::Decimal(value)))),
+        Assigned::List { name, items: text } => {
+            let texts = items(alloc, text)?;
+            let given = Given::Many(values_of(alloc, texts.as_slice())?);
+            Ok(Some(Word { name, given }))
+        }
+    }
 }
 
 /// Reads the words, or returns the first that gives no value.

@@ -1,10 +1,12 @@
 //! A format that is not trusted: checked, weighed and written.
-ghost use Rattle.std.specs.Prelude.{◌≡◌, IfErr, IfOk, None, OnOk, All, [], string_bytes};
+ghost use Rattle.std.specs.Prelude.{◌≡◌, ◌≤◌, IfErr, IfOk, None, OnOk, All, [], length};
+ghost use Rattle.std.specs.Prelude.{false, string_bytes, true};
 ghost use Rattle.std.specs.Str.{chars};
+ghost use Rattle.interpolator_render.specs.Bounds.{bounded, bounded_writer};
 ghost use Rattle.interpolator.specs.Contexts.{found_by_pairs};
 ghost use Rattle.interpolator.specs.Faults.{answer_of, no_memory};
 ghost use Rattle.strangers.specs.Values.{AreInRange};
-ghost use Rattle.strangers.specs.Serving.{IsServed, IsWhole, Rejects, cost_why, count_why};
+ghost use Rattle.strangers.specs.Serving.{IsServed, IsWhole, Rejects, bytes_for, cost_why, count_why};
 ghost use Rattle.strangers.specs.Serving.{faults_with, first_why, format_why, given_why, is_past};
 ghost use Rattle.strangers.specs.Serving.{told_cost, value_why, why_in, words_why};
 ghost use Rattle.strangers.specs.declared.serving.Refused.TheVariants.{Format};
@@ -16,7 +18,7 @@ use interpolator::{
 };
 use interpolator_laws::costs::a_format_costs_no_more_than_it_is_said_to;
 use interpolator_laws::samples::a_context_resembles_itself;
-use std::alloc::Global;
+use std::alloc::{AllocError, Global};
 
 /// How many bytes a character has at most.
 const CHARACTER: usize = 4;
@@ -128,8 +130,17 @@ fn check_cost(cost: &Cost, most: &Cost) -> Result<(), Refused>
     check(Count::Buffered, cost.buffered, most.buffered)
 }
 
-/// Writes a template that has no fault with these pairs to a writer that has room for so many
-/// characters, whatever they are.
+/// An empty writer for so many characters: it has the memory for the bytes that they have at most,
+/// all of it taken here, and takes no more.
+fn writer_for(alloc: Global, characters: usize) -> Result<Bounded, AllocError>
+    ensures most { IfOk result (λ out. out.most ≡ bytes_for characters) }
+    ensures ready { IfOk result (λ out. bounded_writer out
+        ≡ record { text = []; refused = false; origin = bounded (bytes_for characters) true }) }
+{
+    Bounded::with_room(alloc, characters.saturating_mul(CHARACTER))
+}
+
+/// Writes a template that has no fault with these pairs to a writer for so many characters.
 fn written<'a>(
     alloc: Global,
     characters: usize,
@@ -139,10 +150,11 @@ fn written<'a>(
     requires { faults_with template.now (found_by_pairs pairs.now) ≡ [] }
     ensures ok { IfOk result (λ text.
         IsWhole template.now (found_by_pairs pairs.now) (chars (string_bytes text))) }
+    ensures bytes { IfOk result (λ text. length (string_bytes text) ≤ bytes_for characters) }
     ensures err { IfErr result (λ error. answer_of error ≡ no_memory) }
 {
     a_context_resembles_itself::<Datum<'a>>();
-    let mut out = Bounded::new(alloc, characters.saturating_mul(CHARACTER));
+    let mut out = writer_for(alloc, characters)?;
     let answer = Pairs(pairs).write_template_to(alloc, &mut out, template);
     if out.refused() {
         return Err(Error::NoMemory);
@@ -162,7 +174,9 @@ fn decided<'a>(
 ) -> Result<String, Refused>
     ensures ok { IfOk result (λ text.
         IsWhole template.now (found_by_pairs pairs.now) (chars (string_bytes text))
-        × (format_why allowed.now template.now (found_by_pairs pairs.now) ≡ None)) }
+        × (format_why allowed.now template.now (found_by_pairs pairs.now) ≡ None)
+        × (length (string_bytes text)
+        ≤ bytes_for (told_cost allowed.now.values template.now).characters)) }
     ensures err { IfErr result (λ refused.
         Rejects (format_why allowed.now template.now (found_by_pairs pairs.now)) refused) }
 {
@@ -176,7 +190,8 @@ fn decided<'a>(
 }
 
 /// The text of a format with the values of words, if it has no fault with them and costs no more
-/// than is allowed: then it is whole, and within that cost. The values are the format's sample. Of
+/// than is allowed: then it is whole, and within that cost. It is written into memory for that cost,
+/// whatever the values are: four bytes for each character. The values are the format's sample. Of
 /// two words of one name the last counts.
 ///
 /// Format, words and limits determine the answer, unless memory runs out. What is rejected comes in
@@ -201,7 +216,7 @@ pub fn served(
     words: &[Word<'_>],
 ) -> Result<String, Refused>
     ensures ok { IfOk result (λ text.
-        IsServed allowed.now format.now words.now (chars (string_bytes text))) }
+        IsServed allowed.now format.now words.now (string_bytes text)) }
     ensures err { IfErr result (λ refused.
         Rejects (first_why allowed.now format.now words.now) refused) }
 {

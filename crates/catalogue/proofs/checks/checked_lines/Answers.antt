@@ -1,7 +1,8 @@
 use Rattle.std.proofs.Common.{◌≡◌, ℕ, ◌+◌, List, ◌∷◌, ◌++◌, append_assoc, arith}
 use Rattle.std.proofs.lemmas.List.{at_drop_more}
 use Rattle.std.specs.Borrow.{Bor}
-use Rattle.catalogue.specs.Files.{Line, numbered, texts_of}
+use Rattle.catalogue.specs.Files.{Line, numbered}
+use Rattle.words.specs.Items.{texts_of}
 use Rattle.catalogue.specs.Forms.{as_sought}
 use Rattle.catalogue.specs.Keys.{with_key}
 use Rattle.catalogue.specs.Lines.{key_with}

@@ -1,6 +1,7 @@
 use Rattle.std.proofs.Common.{◌≡◌, ◌+◌, ℕ, List, [], ◌++◌, drop, string_bytes}
 use Rattle.std.specs.Option.{option_map, option_or}
-use Rattle.catalogue.specs.Files.{numbered, texts_of}
+use Rattle.catalogue.specs.Files.{numbered}
+use Rattle.words.specs.Items.{texts_of}
 use Rattle.catalogue.specs.Forms.{as_sought, first_given}
 use Rattle.catalogue.specs.Keys.{Remembers}
 use Rattle.catalogue.specs.Sought.{as_found, line_for}

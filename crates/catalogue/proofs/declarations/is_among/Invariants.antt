@@ -1,5 +1,6 @@
 use Rattle.std.proofs.Common.{◌≡◌, drop, map}
-use Rattle.catalogue.specs.Declarations.{as_declaration, is_among}
+use Rattle.words.specs.Declarations.{as_declaration}
+use Rattle.catalogue.specs.Declarations.{is_among}
 use Rattle.catalogue.proofs.declarations.is_among.Given as goal
 
 abbrev pub invariant-loop-one : goal.invariant-loop-one

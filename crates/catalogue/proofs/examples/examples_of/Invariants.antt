@@ -1,5 +1,5 @@
 use Rattle.std.proofs.Common.{◌≡◌, map, take}
-use Rattle.catalogue.specs.Declarations.{as_declaration}
+use Rattle.words.specs.Declarations.{as_declaration}
 use Rattle.catalogue.specs.Entries.{held_by}
 use Rattle.catalogue.specs.Examples.{example_of}
 use Rattle.catalogue.proofs.examples.examples_of.Given as goal

@@ -1,5 +1,5 @@
 use Rattle.std.proofs.Common.{◌≡◌, drop}
-use Rattle.catalogue.specs.Files.{texts_of}
+use Rattle.words.specs.Items.{texts_of}
 use Rattle.catalogue.specs.Forms.{rule_of}
 use Rattle.catalogue.proofs.forms.rule_of.Given as goal
 

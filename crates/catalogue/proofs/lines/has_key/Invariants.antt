@@ -1,5 +1,5 @@
 use Rattle.std.proofs.Common.{◌≡◌, drop}
-use Rattle.catalogue.specs.Files.{texts_of}
+use Rattle.words.specs.Items.{texts_of}
 use Rattle.catalogue.specs.Sought.{has_key}
 use Rattle.catalogue.proofs.lines.has_key.Given as goal
 

@@ -1,5 +1,5 @@
 use Rattle.std.proofs.lemmas.List.{get_or_default, take_all}
-use Rattle.catalogue.specs.Declarations.{as_declaration}
+use Rattle.words.specs.Declarations.{as_declaration}
 use Rattle.catalogue.specs.Entries.{held_by_entry}
 use Rattle.catalogue.specs.Picks.{HasPick, HoldsPick}
 use Rattle.catalogue.proofs.ZipLemmas.{first_without, zip_mapped, zip_more}

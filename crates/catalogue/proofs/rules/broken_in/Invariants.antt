@@ -1,5 +1,5 @@
 use Rattle.std.proofs.Common.{◌≡◌, ◌+◌, drop, length}
-use Rattle.catalogue.specs.Files.{texts_of}
+use Rattle.words.specs.Items.{texts_of}
 use Rattle.catalogue.specs.Rules.{broken_from, broken_in}
 use Rattle.catalogue.proofs.rules.broken_in.Given as goal
 

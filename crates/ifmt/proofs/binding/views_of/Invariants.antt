@@ -1,6 +1,6 @@
 use Rattle.std.proofs.Common.{◌≡◌, map, take}
 use Rattle.interpolator.specs.Views.{shown_as_value}
-use Rattle.ifmt.specs.Items.{texts_of}
+use Rattle.words.specs.Items.{texts_of}
 use Rattle.ifmt.specs.Binding.{texts_show}
 use Rattle.ifmt.proofs.binding.views_of.Given as goal
 

@@ -1,7 +1,7 @@
 use Rattle.std.proofs.Common.{inl, inr, string_bytes, sym}
 use Rattle.std.proofs.lemmas.List.{drop_more, take_all}
 use Rattle.std.proofs.lemmas.List.Elements.{All-more}
-use Rattle.ifmt.specs.Words.{IsGood}
+use Rattle.words.specs.Words.{IsGood}
 use Rattle.ifmt.proofs.command.first_bad.Goals as goal
 
 pub returns-then-is_bad : goal.returns-then-is_bad

@@ -1,4 +1,4 @@
-use Rattle.ifmt.proofs.PartLemmas.{bad_is_not_good, good_unless_bad}
+use Rattle.words.proofs.PartLemmas.{bad_is_not_good, good_unless_bad}
 use Rattle.ifmt.proofs.command.is_bad.Goals as goal
 
 pub returns-in-Bad : goal.returns-in-Bad

@@ -1,5 +1,6 @@
 use Rattle.std.proofs.Common.{◌≡◌, map, take}
-use Rattle.strangers.specs.Words.{are_texts, text_in, texts_of}
+use Rattle.strangers.specs.Words.{are_texts, text_in}
+use Rattle.words.specs.Items.{texts_of}
 use Rattle.strangers.proofs.reading.values_of.Given as goal
 
 abbrev pub invariant-loop-text : goal.invariant-loop-text

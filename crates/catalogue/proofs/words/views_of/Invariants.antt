@@ -1,9 +1,0 @@
-use Rattle.std.proofs.Common.{◌≡◌, map, take}
-use Rattle.interpolator.specs.Views.{shown_as_value}
-use Rattle.catalogue.specs.Files.{texts_of}
-use Rattle.catalogue.specs.Words.{texts_show}
-use Rattle.catalogue.proofs.words.views_of.Given as goal
-
-abbrev pub invariant-loop-text : goal.invariant-loop-text
-invariant-loop-text l =
-    map shown_as_value l.views.items ≡ texts_show (texts_of (take l.text-index l.texts))

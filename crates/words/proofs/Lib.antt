@@ -1,0 +1,3 @@
+-- The lemmas of words.
+pub mod PartLemmas
+pub mod ItemLemmas

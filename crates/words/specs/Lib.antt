@@ -1,0 +1,5 @@
+-- What a word means, and what programs ask besides.
+pub mod Declarations
+pub mod Words
+pub mod Items
+pub mod Programs

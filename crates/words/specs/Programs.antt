@@ -1,0 +1,16 @@
+-- What programs ask of words, and of the texts of files. Texts are bytes.
+use Rattle.std.specs.Prelude.{ℕ, Bool, List, [], ◌∷◌, codes, drop, eqb, take, if◌then◌else◌}
+use Rattle.std.specs.List.{starts_with}
+use Rattle.std.specs.Str.{bytes_eq}
+
+-- a word begins as flags do
+abbrev pub is_flag : List ℕ → Bool
+is_flag word = starts_with eqb word (codes "-")
+
+-- the byte order mark, which some editors write at the head of a file
+abbrev pub mark : List ℕ
+mark = 239 ∷ 187 ∷ 191 ∷ []
+
+-- a text without it
+abbrev pub without_mark : List ℕ → List ℕ
+without_mark text = if bytes_eq (take 3 text) mark then drop 3 text else text
