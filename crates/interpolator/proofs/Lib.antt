@@ -7,6 +7,7 @@ pub mod SamplePlaceLemmas
 -- of this crate alone
 mod DecimalDigitLemmas
 mod DecimalReadLemmas
+mod DecimalSumLemmas
 mod DecimalTextLemmas
 mod EndingLemmas
 mod LentLemmas

@@ -23,3 +23,4 @@ pub mod NamedValues
 pub mod Lent
 pub mod OwnedViews
 pub mod DecimalTexts
+pub mod DecimalSums

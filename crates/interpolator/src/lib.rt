@@ -20,6 +20,7 @@
 
 mod choice;
 mod decimal;
+mod decimal_sums;
 mod escaping;
 mod examining;
 mod excerpt;

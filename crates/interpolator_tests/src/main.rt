@@ -10,6 +10,7 @@
 mod contexts;
 mod costs;
 mod counting;
+mod decimal_sums;
 mod decimals;
 mod depth;
 mod explained;
@@ -37,6 +38,7 @@ use std::{env, io};
 fn run_others(report: &mut Report) -> Result<(), Error> {
     contexts::run(report)?;
     costs::run(report)?;
+    decimal_sums::run(report)?;
     decimals::run(report)?;
     depth::run(report)?;
     explained::run(report)?;
