@@ -5,7 +5,7 @@ use Rattle.interpolator_eval.specs.Meaning.AskedNames.{asked_names}
 use Rattle.interpolator_pieces.specs.NodeNames.{name_texts}
 use Rattle.interpolator_pieces.specs.declared.names.Names.{Names}
 use Rattle.interpolator_pieces.proofs.StoredNameLemmas.{text_names}
-use Rattle.interpolator.proofs.examining.Template.names.Goals as goal
+use Rattle.interpolator.proofs.template.Template.names.Goals as goal
 
 pub returns-clause-names : goal.returns-clause-names
 returns-clause-names c =

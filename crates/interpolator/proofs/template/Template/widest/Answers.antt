@@ -5,7 +5,7 @@ use Rattle.interpolator_pieces.specs.NodeExtents.{visit_extent}
 use Rattle.interpolator_pieces.specs.declared.extent.Widest.{Widest}
 use Rattle.interpolator_pieces.proofs.ExtentLemmas.{text_greatest}
 use Rattle.interpolator_pieces.proofs.VisitLemmas.{text_extent}
-use Rattle.interpolator.proofs.examining.Template.widest.Goals as goal
+use Rattle.interpolator.proofs.template.Template.widest.Goals as goal
 
 pub returns : goal.returns
 returns c =

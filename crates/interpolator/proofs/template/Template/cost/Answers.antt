@@ -5,7 +5,7 @@ use Rattle.interpolator_syntax.specs.At.{outermost}
 use Rattle.interpolator_syntax.specs.Nodes.{nodes}
 use Rattle.interpolator_pieces.specs.Stored.{nodes_of}
 use Rattle.interpolator_pieces.proofs.WholeLemmas.{nodes_whole}
-use Rattle.interpolator.proofs.examining.Template.cost.Goals as goal
+use Rattle.interpolator.proofs.template.Template.cost.Goals as goal
 
 pub cost_of-requires : goal.cost_of-requires
 cost_of-requires c =

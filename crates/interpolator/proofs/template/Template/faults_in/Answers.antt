@@ -12,7 +12,7 @@ use Rattle.interpolator_pieces.specs.Stored.{nodes_of}
 use Rattle.interpolator.proofs.SampleWalkLemmas.{walk_whole, walk_deep, walk_tells}
 use Rattle.interpolator.proofs.SamplePlaceLemmas.{told_lie_over}
 use Rattle.interpolator_pieces.proofs.CollectLemmas.{all_kept, only_memory}
-use Rattle.interpolator.proofs.examining.Template.faults_in.Goals as goal
+use Rattle.interpolator.proofs.template.Template.faults_in.Goals as goal
 
 pub collect_pieces-requires : goal.collect_pieces-requires
 collect_pieces-requires g c =

@@ -5,7 +5,7 @@ use Rattle.interpolator_syntax.specs.Faults.{fault, result_answer}
 use Rattle.interpolator_pieces.specs.NodeChecks.{first_fault, text_faults}
 use Rattle.interpolator_pieces.proofs.CheckLemmas.{text_told}
 use Rattle.interpolator_pieces.proofs.CheckPlaceLemmas.{first_lies}
-use Rattle.interpolator.proofs.examining.Template.check.Goals as goal
+use Rattle.interpolator.proofs.template.Template.check.Goals as goal
 
 -- the first fault of the stored pieces is that of the text
 first_is : (c : goal.After-walk)

@@ -4,7 +4,7 @@ use Rattle.std.specs.Str.{chars}
 use Rattle.interpolator_syntax.specs.At.{outermost}
 use Rattle.interpolator_syntax.specs.Nodes.{nodes}
 use Rattle.interpolator_pieces.specs.Stored.{nodes_of}
-use Rattle.interpolator.proofs.examining.Template.argument_at.Goals as goal
+use Rattle.interpolator.proofs.template.Template.argument_at.Goals as goal
 
 pub returns : goal.returns
 returns c =

@@ -5,7 +5,7 @@ use Rattle.interpolator_pieces.specs.NodeExtents.{visit_depth}
 use Rattle.interpolator_pieces.specs.declared.extent.Deepest.{Deepest}
 use Rattle.interpolator_pieces.proofs.ExtentLemmas.{text_greatest}
 use Rattle.interpolator_pieces.proofs.VisitLemmas.{text_depth}
-use Rattle.interpolator.proofs.examining.Template.depth.Goals as goal
+use Rattle.interpolator.proofs.template.Template.depth.Goals as goal
 
 pub returns : goal.returns
 returns c =

@@ -11,7 +11,7 @@ use Rattle.interpolator_pieces.specs.Stored.{nodes_of}
 use Rattle.interpolator.proofs.SamplePlaceLemmas.{first_lies_over}
 use Rattle.interpolator.proofs.SampleWalkLemmas.{walk_whole, walk_deep, walk_tells}
 use Rattle.interpolator_pieces.proofs.CollectLemmas.{answers_first}
-use Rattle.interpolator.proofs.examining.Template.check_in.Goals as goal
+use Rattle.interpolator.proofs.template.Template.check_in.Goals as goal
 
 pub collect_pieces-requires : goal.collect_pieces-requires
 collect_pieces-requires g c =
