@@ -36,6 +36,13 @@ use interpolator_syntax::{
 use std::marker::Brand;
 use std::sync::ledger::{Blank, Ledger};
 
+/// The loop over all tokens of a text. Each loop has a copy of what it calls, by a type parameter,
+/// since a function with one caller is inlined: a call for each argument costs a fifth more.
+struct WholeText;
+
+/// The loop over the tokens before the first list.
+struct BeforeList;
+
 /// A list argument that the scan has met.
 #[derive(Clone, Copy)]
 pub struct ScannedList<'t> {
@@ -79,7 +86,7 @@ impl<'t> FormatSource for Cursor<'t> {
         list: &mut ScannedList<'t>,
         count: &mut PieceCount<L>,
     ) -> Result<bool, Error> {
-        write_tokens(sink, environment, *self, list, count)
+        write_tokens::<W, C, L, WholeText>(sink, environment, *self, list, count)
     }
 
     #[inline(always)]
@@ -166,7 +173,7 @@ fn write_before_list_on<'a, W: TextWrite, C: Context, L: Ledger>(
 {
     let mut count = PieceCount::<L>::open(blank);
     let mut list = text.scratch_list();
-    if write_tokens(sink, environment, text, &mut list, &mut count)? {
+    if write_tokens::<W, C, L, BeforeList>(sink, environment, text, &mut list, &mut count)? {
         return Ok(Some(list.start - 1));
     }
     Ok(None)
@@ -186,7 +193,7 @@ fn group_start(group: Option<Group<'_>>) -> Option<Cursor<'_>>
 
 /// Writes what a text means up to its first list, token by token, and returns whether there is one.
 #[inline(always)]
-fn write_tokens<'t, 'a, W: TextWrite, C: Context, L: Ledger>(
+fn write_tokens<'t, 'a, W: TextWrite, C: Context, L: Ledger, Loop>(
     sink: &mut Sink<'_, W>,
     environment: &Environment<'a, C, C::Object>,
     text: Cursor<'t>,
@@ -222,7 +229,7 @@ fn write_tokens<'t, 'a, W: TextWrite, C: Context, L: Ledger>(
                 sink.put_char('}', here.place)?;
                 rest
             }
-            Token::Argument => match write_argument(sink, environment, rest, list)? {
+            Token::Argument => match write_argument::<W, C, Loop>(sink, environment, rest, list)? {
                 Some(after) => after,
                 None => return Ok(true),
             },
@@ -235,10 +242,9 @@ fn write_tokens<'t, 'a, W: TextWrite, C: Context, L: Ledger>(
 /// closing one. If the argument is a list, nothing is written; it is stored in `list`, and the
 /// result is `None`.
 ///
-/// A name alone has a function of its own, in which the compiler knows the trait and the spec. This
-/// function is inlined into each loop over tokens: a call for each argument costs a fifth more.
+/// A name alone has a function of its own, in which the compiler knows the trait and the spec.
 #[inline(always)]
-fn write_argument<'t, 'a, W: TextWrite, C: Context>(
+fn write_argument<'t, 'a, W: TextWrite, C: Context, Loop>(
     sink: &mut Sink<'_, W>,
     environment: &Environment<'a, C, C::Object>,
     here: Cursor<'t>,
