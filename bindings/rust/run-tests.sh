@@ -1,6 +1,7 @@
 #!/usr/bin/env bash
 # Runs the tests of bindings/rust against libinterpolator.a: without a warning, the documentation's
-# examples too, and without the network.
+# examples too, and without the network. With valgrind, it runs src/sys.rs over a library of which a
+# caller gets nothing but what the C header says, with each allocation refused (tests/filled).
 #
 # The library is looked for in the folder that INTERPOLATOR_LIB names, else in ../c/build, where
 # bindings/c builds it. If it or cargo is missing the run fails, but for CI_SKIP_BINDINGS=1, by which
@@ -27,18 +28,76 @@ INTERPOLATOR_LIB=$(cd "$folder" && pwd)
 export INTERPOLATOR_LIB
 export RUSTFLAGS="${RUSTFLAGS:-} -D warnings" RUSTDOCFLAGS="${RUSTDOCFLAGS:-} -D warnings"
 
-log=$(mktemp)
-trap 'rm -f "$log"' EXIT
+scratch=$(mktemp -d)
+trap 'rm -rf -- "$scratch"' EXIT
 # step NAME COMMAND..: runs the command, and ends the run with what it wrote if it fails.
 step() {
     local name=$1
     shift
-    if ! "$@" >"$log" 2>&1; then
-        tail -n 40 "$log"
+    if ! "$@" >"$scratch/log" 2>&1; then
+        tail -n 40 "$scratch/log"
         echo "bindings/rust: FAILED: $name"
         exit 1
     fi
     echo "bindings/rust: $name: ok"
+}
+
+has_valgrind() {
+    command -v valgrind && cc -E -include valgrind/memcheck.h -x c /dev/null
+}
+
+# Copies the library, to take its memory from tests/filled/refusing.c: into plain/, and into filled/
+# with the calls of tests/filled/filled.c over its own.
+copies() {
+    local object library=$INTERPOLATOR_LIB/libinterpolator.a
+    local calls=(format write check check_alone faults explain rows cost arguments)
+    printf '%s\n' malloc realloc free | sed 's/.*/& refusing_&/' >"$scratch/memory"
+    printf 'interpolator_%s\n' "${calls[@]}" | sed 's/.*/& plain_&/' >"$scratch/calls"
+    for object in refusing filled; do
+        cc -std=c99 -O1 -g -Wall -Wextra -pedantic -Werror -I../c -c "tests/filled/$object.c" \
+            -o "$scratch/$object.o" || return 1
+    done
+    mkdir "$scratch/plain" "$scratch/filled" &&
+        objcopy --redefine-syms="$scratch/memory" "$library" "$scratch/plain/libinterpolator.a" &&
+        objcopy --redefine-syms="$scratch/memory" --redefine-syms="$scratch/calls" "$library" \
+            "$scratch/filled/libinterpolator.a" &&
+        ar rs "$scratch/plain/libinterpolator.a" "$scratch/refusing.o" &&
+        ar rs "$scratch/filled/libinterpolator.a" "$scratch/refusing.o" "$scratch/filled.o"
+}
+
+# Builds tests/filled/program.rs over each copy, and writes what it prints over the first.
+programs() {
+    local copy rust=(rustc --edition 2021 -D warnings -C opt-level=1 -C debug-assertions)
+    rust+=(-C debuginfo=line-tables-only)
+    "${rust[@]}" --crate-type rlib --crate-name interpolator src/lib.rs --out-dir "$scratch" ||
+        return 1
+    for copy in plain filled; do
+        "${rust[@]}" tests/filled/program.rs --extern "interpolator=$scratch/libinterpolator.rlib" \
+            -C "link-arg=$scratch/$copy/libinterpolator.a" --out-dir "$scratch/$copy" || return 1
+    done
+    "$scratch/plain/program" >"$scratch/plain/out"
+}
+
+valgrind_of=(valgrind --quiet --error-exitcode=9)
+
+# Whether the program prints the same over the other copy, and valgrind finds no error.
+does_not_differ() {
+    "${valgrind_of[@]}" --leak-check=full "$scratch/filled/program" >"$scratch/filled/out" &&
+        diff "$scratch/plain/out" "$scratch/filled/out"
+}
+
+filled() {
+    # a backtrace takes large blocks, which the program refuses itself
+    export RUST_BACKTRACE=0
+    step 'a library that is 0xAA where the header says nothing' copies
+    step 'src/sys.rs over the library, each allocation refused' programs
+    step 'it does not differ over the filled one, under valgrind' does_not_differ
+    export FILL_UNNAMED=1
+    step 'nor if it is 0xAA also where src/sys.rs names nothing' does_not_differ
+    export INTERPOLATOR_LIB=$scratch/filled CARGO_TARGET_DIR=$scratch/target
+    export CARGO_TARGET_X86_64_UNKNOWN_LINUX_GNU_RUNNER="${valgrind_of[*]}"
+    step 'tests over the filled one, under valgrind' cargo test --offline --quiet --test calls --test checks \
+        --test faults --test lists --test values
 }
 
 origin=${INTERPOLATOR_ORIGIN:+$(cd "$INTERPOLATOR_ORIGIN" && pwd)}
@@ -49,10 +108,15 @@ step 'tests, optimized' cargo test --offline --quiet --all-targets --release
 step 'tests of the feature pointer' cargo test --offline --quiet --features pointer --test pointers --test faults
 step 'examples of the documentation' cargo test --offline --quiet --doc
 step 'documentation' cargo doc --offline --quiet --no-deps
+if has_valgrind >/dev/null 2>&1; then
+    (filled)
+else
+    echo 'bindings/rust: src/sys.rs over a filled library: skipped (valgrind or memcheck.h is missing)'
+fi
 if [[ -n $origin ]]; then
     step 'comparison with the crate of origin' env INTERPOLATOR_ORIGIN="$origin" \
         cargo test --offline --quiet --release --test origin -- --nocapture
-    grep -E '^ +[0-9]+ |: of [0-9]' "$log"
+    grep -E '^ +[0-9]+ |: of [0-9]' "$scratch/log"
 else
     echo 'bindings/rust: comparison with the crate of origin: skipped (INTERPOLATOR_ORIGIN is not set)'
 fi

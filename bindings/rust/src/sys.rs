@@ -6,7 +6,8 @@
 //! What a call wrote is read by what the header says of its answer. Its part "Answers" is what the
 //! contracts of `crates/interpolator_c` say for every code: `Told`, by which a text or a sentence lies
 //! in a room if it fits; `Put`, by which what `interpolator_write` counts fits; and `FillsFront`, by
-//! which an array begins with as many as it has places for. They are named where it is read.
+//! which an array begins with as many as it has places for. They are named where it is read. That
+//! nothing else is relied on is tested by `tests/filled`.
 use std::marker::PhantomData;
 use std::ptr;
 
