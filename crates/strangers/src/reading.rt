@@ -147,7 +147,8 @@ fn values_of<'a>(alloc: Global, texts: &[&'a str]) -> Result<Vec<Datum<'a>>, All
 
 /// The word that gives one value.
 fn single<'a>(name: &'a str, value: Datum<'a>) -> Word<'a>
-    ensures { result ≡ record { name = name; given = One value } }
+    ensures name { result.name.now ≡ name.now }
+    ensures given { result.given ≡ One value.entry }
 {
     Word {
         name,

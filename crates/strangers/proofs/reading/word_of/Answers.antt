@@ -1,5 +1,12 @@
-use Rattle.std.proofs.Common.{refl}
+use Rattle.std.proofs.Common.{◌∙◌, ap, refl, rules}
+use Rattle.std.specs.Int.{w128}
+use Rattle.std.specs.Prelude.{FitsSigned}
+use Rattle.std.proofs.lemmas.Int.{to_z-of_z}
+use Rattle.words.specs.Items.{texts_of}
 use Rattle.words.proofs.PartLemmas.{bad_is_not_good}
+use Rattle.strangers.specs.Words.{are_texts}
+use Rattle.strangers.specs.declared.values.Datum.TheVariants.{Number}
+use Rattle.strangers.specs.declared.values.Given.TheVariants.{One}
 use Rattle.strangers.proofs.reading.word_of.Goals as goal
 
 pub returns-in-Bad : goal.returns-in-Bad
@@ -7,12 +14,23 @@ returns-in-Bad c = bad_is_not_good c.args.word.now (rw c.in-Bad.is at c.classify
 
 pub returns-in-Text : goal.returns-in-Text
 returns-in-Text c =
-    (_, ((rw c.in-Text.is at c.classify.ensures) _).1 refl, rw c.single.ensures (refl, refl))
+    let made = c.single.ensures in
+    (_, ((rw c.in-Text.is at c.classify.ensures) _).1 refl, (made.name, rw made.given refl))
 
 pub returns-in-Number : goal.returns-in-Number
 returns-in-Number c =
-    (_, ((rw c.in-Number.is at c.classify.ensures) _).1 refl, rw c.single.ensures (refl, refl))
+    let made = c.single-in-Number.ensures in
+    let fits : FitsSigned w128 c.in-Number.value = search rules in
+    let value = ap (λ v. One (Number v)) (to_z-of_z w128 c.in-Number.value fits) in
+    (_, ((rw c.in-Number.is at c.classify.ensures) _).1 refl, (made.name, made.given ∙ value))
 
 pub returns-in-Decimal : goal.returns-in-Decimal
 returns-in-Decimal c =
-    (_, ((rw c.in-Decimal.is at c.classify.ensures) _).1 refl, rw c.single.ensures (refl, refl))
+    let made = c.single-in-Decimal.ensures in
+    (_, ((rw c.in-Decimal.is at c.classify.ensures) _).1 refl, (made.name, made.given))
+
+pub returns-in_ok-values_of-in-List : goal.returns-in_ok-values_of-in-List
+returns-in_ok-values_of-in-List c =
+    let items = ap texts_of c.as_slice.ensures.value ∙ c.in_ok-texts-in-List.ensures.ok in
+    let values = c.in_ok-values_of-in-List.ensures ∙ ap are_texts items in
+    (_, ((rw c.in-List.is at c.classify.ensures) _).1 refl, (refl, values))
