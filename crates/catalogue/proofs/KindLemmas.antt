@@ -79,13 +79,13 @@ slots_alike : (kind : Kind) (value : View) (t : Trait) → HasTextsOf value (exa
 slots_alike kind value t h = grind (arith, h, list_slots)
 
 -- the kind, what the value shows and what the items show
-kind_in : Showing → Kind
+abbrev kind_in : Showing → Kind
 kind_in s = s.0.1
 
-value_in : Showing → Shown
+abbrev value_in : Showing → Shown
 value_in s = s.1.0
 
-items_in : Showing → List Shown
+abbrev items_in : Showing → List Shown
 items_in s = s.1.1
 
 -- an item of a list resembles the one of its example
@@ -148,7 +148,7 @@ module _ (by_kind : ByKind) (means_none : MeansNone) where
       h.object given h.is.last in
       rw (h.holds, ← h.is.of_kind) (
         sym ((bytes_eq-Decides declared.0 h.object.name.now).0 found.0),
-        object_alike found.1.1.0 h.object found.1.1.1.1,
+        object_alike found.1.1.0 h.object found.1.1.2,
       )
 
   all_alike : (objects : List Object) (ds : List (List ℕ × Kind)) (held : List Held)

@@ -12,7 +12,7 @@ loop-word-preserved c =
 
 pub returns-in-None-clause-given : goal.returns-in-None-clause-given
 returns-in-None-clause-given c = rw c.as_str-in-None.ensures.value
-    (first_without string_bytes IsGood _ (λ word object gives. (gives.0, gives.1.0))
+    (first_without string_bytes IsGood _ (λ word object gives. (gives.0, gives.1))
     c.args.words.now c.loop-word.word-index c.word-item.result c.loop-word.objects.items
     c.loop-word-test.true c.word-item.is c.loop-word.invariant
     (rw c.as_str.ensures.value at (rw c.in-None.is at c.in_ok-object.ensures.given)))
