@@ -1,5 +1,6 @@
 //! The digits of a float at a precision.
-ghost use Rattle.std.specs.Prelude.{◌≡◌, ◌+◌, ◌*◌, ◌/◌, ◌%◌, ◌^◌, ◌<◌, ◌≤◌, IfSome, IsSome, IsTrue, Some};
+ghost use Rattle.std.specs.Prelude.{◌≡◌, ◌+◌, ◌*◌, ◌/◌, ◌%◌, ◌^◌, ◌<◌, ◌≤◌, IfSome, IsSome, IsTrue};
+ghost use Rattle.std.specs.Prelude.{Some};
 ghost use Rattle.std.specs.Float.{float_is_finite};
 ghost use Rattle.interpolator_render.specs.Decimals.{decimal_text, split_text, units_text};
 ghost use Rattle.interpolator_render.specs.Exponent.{nearest};
@@ -52,7 +53,7 @@ fn part_count(mantissa: u64, down: u32, places: usize) -> u128
 }
 
 /// How many of the digits after the point are not zeros for certain.
-fn shown_places(precision: usize, down: usize) -> usize
+pub(crate) fn shown_places(precision: usize, down: usize) -> usize
     ensures asked { result ≤ precision }
     ensures there { result ≤ down }
     ensures most { result < precision → result ≡ down }
@@ -66,6 +67,7 @@ fn split_count(count: u128, places: usize, zeros: usize) -> FloatDigits
     requires few { places ≤ 22 }
     ensures text { split_text result.whole result.part result.places result.zeros
         ≡ units_text (places + zeros) (count * 10 ^ zeros) }
+    ensures fits { result.part < 10 ^ result.places }
 {
     let unit = 10u128.pow(places as u32);
     FloatDigits {
@@ -98,6 +100,7 @@ fn near_digits(mantissa: u64, down: u32, places: usize, zeros: usize) -> FloatDi
     requires few { places ≤ 19 }
     ensures text { split_text result.whole result.part result.places result.zeros
         ≡ units_text (places + zeros) (nearest (mantissa * 10 ^ places) (2 ^ down) * 10 ^ zeros) }
+    ensures fits { result.part < 10 ^ result.places }
 {
     let unit = 10u128.pow(places as u32);
     let (whole, rest) = cut_at_point(mantissa, down);
@@ -125,6 +128,7 @@ pub fn short_digits(mantissa: u64, power: u32, precision: usize) -> Option<Float
     ensures text { IfSome result (λ shown.
         split_text shown.whole shown.part shown.places shown.zeros
         ≡ units_text precision (nearest (mantissa * 2 ^ power * 10 ^ precision) (2 ^ 1074))) }
+    ensures fits { IfSome result (λ shown. shown.part < 10 ^ shown.places) }
     ensures some { precision ≤ 22 → power ≤ 1149 → IsSome result }
 {
     if power >= 1074 {
@@ -153,9 +157,10 @@ pub fn short_digits(mantissa: u64, power: u32, precision: usize) -> Option<Float
 #[tactic(auto, using(crate::proofs::FloatLemmas::decimal_texts))]
 pub fn float_digits(x: f64, precision: usize) -> Option<FloatDigits>
     requires { IsTrue (float_is_finite x) }
-    ensures { IfSome result (λ shown.
+    ensures text { IfSome result (λ shown.
         split_text shown.whole shown.part shown.places shown.zeros
         ≡ decimal_text (Some precision) (float_scale x) (float_units x)) }
+    ensures fits { IfSome result (λ shown. shown.part < 10 ^ shown.places) }
 {
     let parts = odd_parts(x);
     short_digits(parts.mantissa, parts.power, precision)

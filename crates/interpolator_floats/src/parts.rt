@@ -45,7 +45,7 @@ fn without_zero_bits(mantissa: u64, power: u32) -> (u64, u32)
     ensures value { result.0 * 2 ^ result.1 ≡ mantissa * 2 ^ power }
     ensures odd { result.0 % 2 ≡ 1 }
     ensures less { result.0 ≤ mantissa }
-    ensures more { power ≤ result.1 }
+    ensures low { result.1 ≤ 2109 }
 {
     let zeros = mantissa.trailing_zeros();
     (mantissa >> zeros, power + zeros)
@@ -58,6 +58,7 @@ pub fn odd_parts(x: f64) -> FloatParts
     ensures short { result.mantissa < 2 ^ 53 }
     ensures odd { 0 < result.mantissa → result.mantissa % 2 ≡ 1 }
     ensures zero { result.mantissa ≡ 0 → result.power ≡ 1074 }
+    ensures low { result.power ≤ 2109 }
 {
     let parts = float_parts(x);
     if parts.mantissa == 0 {
