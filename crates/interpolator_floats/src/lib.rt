@@ -1,0 +1,28 @@
+//! The digits of floats: as many as a precision says, or the fewest that read back.
+//!
+//! A finite float is a decimal, and what is proved of decimals holds of it. [`word`] is the text of
+//! a float that is not finite, [`is_negative`] says whether a minus is written, and [`digits_at`]
+//! gives the digits at a precision. No memory is taken.
+//!
+//! ```text
+//! let mut room = [0; MOST_DIGITS];
+//! digits_at(2.675, 2, &mut room)   // whole 2, part 67: 2.675 is a little less than it seems
+//! ```
+//!
+//! Floats are no values of formats yet.
+#![tactic(auto)]
+
+mod choice;
+mod digits;
+mod exact;
+mod parts;
+#[cfg(test)]
+mod tests;
+mod words;
+
+pub use choice::{
+    Choice, Scaled, choose, fewest_digits, reads_back, reads_back_inside, short_choice,
+};
+pub use digits::{FloatDigits, float_digits, float_is_decimal};
+pub use exact::{DigitsAt, ExactDigits, MOST_DIGITS, digits_at, exact_digits};
+pub use parts::{FloatParts, float_parts, is_negative, odd_parts, word};
