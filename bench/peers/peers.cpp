@@ -1,6 +1,6 @@
-// Texts of crates/interpolator_bench by {fmt}, whose formats are compiled, by snprintf and by
-// Abseil. `peers WORKLOAD COUNT` makes one so often and prints its length and checksum; without a
-// word it prints the names of all. `count.sh` builds this, and says how.
+// Texts of crates/interpolator_bench by {fmt}, whose formats are compiled or read at run time, by
+// snprintf and by Abseil. `peers WORKLOAD COUNT` makes one so often and prints its length and
+// checksum; without a word it prints the names of all. `count.sh` builds this, and says how.
 #include <absl/strings/str_cat.h>
 #include <absl/strings/str_format.h>
 #include <fmt/compile.h>
@@ -222,20 +222,25 @@ static void fmt_texts(Out &out) {
     PUT(TIMES_18("{} "), ALL_18(v));
 }
 
+#define LETTER_ARGUMENTS(v)                                                                      \
+    "order"_a = v.order, "company"_a = v.company, "shop"_a = v.shop, "street"_a = v.street,      \
+    "postcode"_a = v.postcode, "city"_a = v.city, "country"_a = v.country, "date"_a = v.date,    \
+    "title"_a = v.title, "name"_a = v.name, "goods"_a = v.goods, "count"_a = v.count,            \
+    "amount"_a = v.amount, "closing"_a = v.closing, "sender"_a = v.sender
+
 static void fmt_letter(Out &out) {
     const Letter &v = hidden(LETTER_VALUES);
-    PUT(LETTER, "order"_a = v.order, "company"_a = v.company, "shop"_a = v.shop,
-        "street"_a = v.street, "postcode"_a = v.postcode, "city"_a = v.city,
-        "country"_a = v.country, "date"_a = v.date, "title"_a = v.title, "name"_a = v.name,
-        "goods"_a = v.goods, "count"_a = v.count, "amount"_a = v.amount, "closing"_a = v.closing,
-        "sender"_a = v.sender);
+    PUT(LETTER, LETTER_ARGUMENTS(v));
 }
+
+#define JSON_ARGUMENTS(v)                                                                        \
+    "order"_a = v.order, "placed"_a = v.placed, "name"_a = v.name, "mail"_a = v.mail,            \
+    "street"_a = v.street, "city"_a = v.city, "points"_a = v.points, "goods"_a = v.goods,        \
+    "count"_a = v.count, "amount"_a = v.amount, "currency"_a = v.currency, "until"_a = v.until
 
 static void fmt_json(Out &out) {
     const Order &v = hidden(ORDER);
-    PUT(JSON, "order"_a = v.order, "placed"_a = v.placed, "name"_a = v.name, "mail"_a = v.mail,
-        "street"_a = v.street, "city"_a = v.city, "points"_a = v.points, "goods"_a = v.goods,
-        "count"_a = v.count, "amount"_a = v.amount, "currency"_a = v.currency, "until"_a = v.until);
+    PUT(JSON, JSON_ARGUMENTS(v));
 }
 
 static void fmt_row(Out &out) {
@@ -319,6 +324,93 @@ static void fmt_merge(Out &out) {
     for (uint32_t order = 0; order < 10000; order++) {
         Record v = record_of(order);
         PUT("Dear {} of {}, your {} {} are order {}.\n", v.name, v.city, v.count, v.goods, v.order);
+    }
+}
+
+// ---- By {fmt}, with a format that is read at run time, and named arguments.
+
+#define RUN(format, ...)                                              \
+    static const std::string_view text = format;                      \
+    fmt::format_to(fmt::appender(out.buffer), fmt::runtime(hidden(text)), __VA_ARGS__)
+
+#define BRACED_4(a, b, c, d) "{" a "} {" b "} {" c "} {" d "} "
+
+static void run_log_line(Out &out) {
+    const Log &v = hidden(LOG);
+    RUN("{time} {level} [{module}] {message} (line {line})", "time"_a = v.time,
+        "level"_a = v.level, "module"_a = v.module, "message"_a = v.message, "line"_a = v.line);
+}
+
+static void run_numbers(Out &out) {
+    const auto &v = hidden(NUMBERS);
+    RUN(BRACED_4("a", "b", "c", "d") BRACED_4("e", "f", "g", "h") BRACED_4("i", "j", "k", "l")
+            BRACED_4("m", "n", "o", "p") BRACED_4("q", "r", "s", "t") BRACED_4("u", "v", "w", "x")
+                BRACED_4("y", "z", "aa", "bb") BRACED_4("cc", "dd", "ee", "ff"),
+        "a"_a = v[0], "b"_a = v[1], "c"_a = v[2], "d"_a = v[3], "e"_a = v[4], "f"_a = v[5],
+        "g"_a = v[6], "h"_a = v[7], "i"_a = v[8], "j"_a = v[9], "k"_a = v[10], "l"_a = v[11],
+        "m"_a = v[12], "n"_a = v[13], "o"_a = v[14], "p"_a = v[15], "q"_a = v[16], "r"_a = v[17],
+        "s"_a = v[18], "t"_a = v[19], "u"_a = v[20], "v"_a = v[21], "w"_a = v[22], "x"_a = v[23],
+        "y"_a = v[24], "z"_a = v[25], "aa"_a = v[26], "bb"_a = v[27], "cc"_a = v[28],
+        "dd"_a = v[29], "ee"_a = v[30], "ff"_a = v[31]);
+}
+
+static void run_texts(Out &out) {
+    const auto &v = hidden(TEXTS);
+    RUN(BRACED_4("name", "title", "street", "city") BRACED_4("country", "phone", "email", "company")
+            BRACED_4("job", "topic", "greeting", "closing")
+                BRACED_4("sender", "office", "unit", "date") "{place} {motto} ",
+        "name"_a = v[0], "title"_a = v[1], "street"_a = v[2], "city"_a = v[3], "country"_a = v[4],
+        "phone"_a = v[5], "email"_a = v[6], "company"_a = v[7], "job"_a = v[8], "topic"_a = v[9],
+        "greeting"_a = v[10], "closing"_a = v[11], "sender"_a = v[12], "office"_a = v[13],
+        "unit"_a = v[14], "date"_a = v[15], "place"_a = v[16], "motto"_a = v[17]);
+}
+
+static void run_letter(Out &out) {
+    const Letter &v = hidden(LETTER_VALUES);
+    RUN(LETTER, LETTER_ARGUMENTS(v));
+}
+
+static void run_json(Out &out) {
+    const Order &v = hidden(ORDER);
+    RUN(JSON, JSON_ARGUMENTS(v));
+}
+
+static void run_row(Out &out) {
+    const Row &v = hidden(ROW);
+    RUN("{id:>6}|{goods:<16}|{city:^12}|{count:5}|{price:>10}|{change:>+8}|{code:#010x}|{name:20}"
+        "\n",
+        "id"_a = v.id, "goods"_a = v.goods, "city"_a = v.city, "count"_a = v.count,
+        "price"_a = v.price, "change"_a = v.change, "code"_a = v.code, "name"_a = v.name);
+}
+
+static void run_amounts(Out &out) {
+    const auto &v = hidden(AMOUNTS);
+    RUN("net {net:>10.2f} tax {tax:>10.2f} paid {paid:>10.2f} open {open:>10.2f}", "net"_a = v[0],
+        "tax"_a = v[1], "paid"_a = v[2], "open"_a = v[3]);
+}
+
+#define NAMED_4(v) "a"_a = v[0], "b"_a = v[1], "c"_a = v[2], "d"_a = v[3]
+
+static void run_specs(Out &out) {
+    const auto &v = hidden(SIGNED);
+    RUN(SPECS("a") SPECS("b") SPECS("c") SPECS("d"), NAMED_4(v));
+}
+
+static void run_radix(Out &out) {
+    const auto &v = hidden(BITS);
+    RUN(BASES("a") BASES("b") BASES("c") BASES("d"), NAMED_4(v));
+}
+
+static void run_list(Out &out) {
+    const Thousand &v = hidden(THOUSAND);
+    RUN("{numbers}", "numbers"_a = fmt::join(v.numbers, ", "));
+}
+
+static void run_merge(Out &out) {
+    for (uint32_t order = 0; order < 10000; order++) {
+        Record v = record_of(order);
+        RUN("Dear {name} of {city}, your {count} {goods} are order {order}.\n", "name"_a = v.name,
+            "city"_a = v.city, "count"_a = v.count, "goods"_a = v.goods, "order"_a = v.order);
     }
 }
 
@@ -574,6 +666,17 @@ static const struct {
     {"fmt-list-1000", fmt_list},
     {"fmt-list-1000-angled", fmt_angled_list},
     {"fmt-merge-10000-pairs", fmt_merge},
+    {"run-log-line", run_log_line},
+    {"run-names-32-numbers", run_numbers},
+    {"run-names-18-texts", run_texts},
+    {"run-letter-4k", run_letter},
+    {"run-json", run_json},
+    {"run-table-row", run_row},
+    {"run-amounts", run_amounts},
+    {"run-specs", run_specs},
+    {"run-radix", run_radix},
+    {"run-list-1000", run_list},
+    {"run-merge-10000-pairs", run_merge},
     {"snprintf-log-line", c_log_line},
     {"snprintf-names-32-numbers", c_numbers},
     {"snprintf-names-32-signed", c_signed},
