@@ -406,6 +406,11 @@ static void run_list(Out &out) {
     RUN("{numbers}", "numbers"_a = fmt::join(v.numbers, ", "));
 }
 
+static void run_angled_list(Out &out) {
+    const Thousand &v = hidden(THOUSAND);
+    RUN("<{numbers}>", "numbers"_a = fmt::join(v.numbers, "><"));
+}
+
 static void run_merge(Out &out) {
     for (uint32_t order = 0; order < 10000; order++) {
         Record v = record_of(order);
@@ -676,6 +681,7 @@ static const struct {
     {"run-specs", run_specs},
     {"run-radix", run_radix},
     {"run-list-1000", run_list},
+    {"run-list-1000-angled", run_angled_list},
     {"run-merge-10000-pairs", run_merge},
     {"snprintf-log-line", c_log_line},
     {"snprintf-names-32-numbers", c_numbers},

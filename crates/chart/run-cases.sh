@@ -1,6 +1,6 @@
 #!/usr/bin/env bash
 # Runs the built program on formats and tables, and compares what it writes to both streams and its
-# status with what is worked out by hand: 64 stand above the first line and 73 from one line to the
+# status with what is worked out by hand: 64 stand above the first line and 82 from one line to the
 # next, and the second number of a line has a bar of 100; columns count characters from 1. Then it
 # runs the line of docs/USING.md. The picture of docs is the one of its table.
 #
@@ -34,9 +34,9 @@ fault() {
 }
 
 table_cases() {
-    table '137;64,a,50,1,100,2' $'a 1 2\n'
-    table '210;64,a,50,1,100,2;137,b,150,30,100,20' $'a 1 2\nb 30 20\n'
-    table '210;64,a,0,0,100,1,200,2;137,é,33,1,100,3,0,0' $'\xef\xbb\xbfa 0 1 2\r\né 1 3 0\r\n'
+    table '146;64,a,50,1,100,2' $'a 1 2\n'
+    table '228;64,a,50,1,100,2;146,b,150,30,100,20' $'a 1 2\nb 30 20\n'
+    table '228;64,a,0,0,100,1,200,2;146,é,33,1,100,3,0,0' $'\xef\xbb\xbfa 0 1 2\r\né 1 3 0\r\n'
     table '64;' ''
 }
 
@@ -54,7 +54,7 @@ fault_cases() {
     fault $'t:2:1: 0 numbers, but line 1 has 2\n'"t:3:3: \`y\` $range"$'\nt:3:4: 1 number, but line 1 has 2' \
         $'a 1 2\n\nb y\n'
     printf '%s' 'log 1 2 3 4' >t
-    case_of file file 1 '' $'t:1:12: 4 numbers, but at least 7 are wanted\n' \
+    case_of file file 1 '' $'t:1:12: 4 numbers, but at least 8 are wanted\n' \
         "$here/data/chart.svg.txt" t
     printf '%s' '{rows:i#({:i-7({})})#}' >f
     case_of file file 0 '1' '' f t
@@ -82,7 +82,7 @@ other_cases() {
 
 refused_calls() {
     files $'a 1 2\nb 30 20\n'
-    refusals_of 0 '210;64,a,50,1,100,2;137,b,150,30,100,20' '' f t
+    refusals_of 0 '228;64,a,50,1,100,2;146,b,150,30,100,20' '' f t
     files $'a 1 2\nb 30\n'
     refusals_of 1 '' $'t:2:5: 1 number, but line 1 has 2\n' f t
     files 'a 1 2'

@@ -8,7 +8,7 @@ use std::alloc::Global;
 const UNIT: u128 = 100;
 
 /// The height of a line's bars together, with the gap after them.
-const ROW: u128 = 73;
+const ROW: u128 = 82;
 
 /// The height of the space above all bars.
 const HEAD: u128 = 64;
