@@ -1,0 +1,2 @@
+-- The lemmas of tables.
+mod TableLemmas

@@ -1,0 +1,3 @@
+//! What the macro calls.
+
+pub use interpolator_eval::items_of;
