@@ -100,6 +100,10 @@ const MOST_SPARE: usize = 512;
 /// memory.
 const MOST_AT_ONCE: usize = 4096;
 
+/// Up to so many bytes, a room for the text before a fault is made larger where the library says that
+/// memory is refused: so it does where a list under a width has more text than the room has left.
+const MOST_FOR_LIST: usize = 1 << 26;
+
 /// What takes a name and its value.
 type Take<'t, 'c> = &'t mut dyn FnMut(&'c str, &Formattable<'c>);
 
@@ -510,19 +514,35 @@ fn written(
 ) -> (String, Result<()>) {
     match whole(format, fields, items, bytes) {
         Ok(text) => (text, Ok(())),
-        Err(error) => (before_fault(format, fields, items, bytes), Err(error)),
+        Err(fault) => {
+            let mut text = room(bytes).unwrap_or_default();
+            let error = before_fault(format, fields, items, &mut text, fault);
+            (text, Err(error))
+        }
     }
 }
 
-/// The text of a row before its first fault, if memory takes it.
-fn before_fault(format: &str, fields: &[Field<'_>], items: &[Field<'_>], bytes: usize) -> String {
-    let mut text = room(bytes).unwrap_or_default();
+/// Writes the text of a row before its fault, in a room that is made larger until it fits, and returns
+/// the fault. If memory is refused, the room has a beginning of the text, and the error is that.
+fn before_fault(
+    format: &str,
+    fields: &[Field<'_>],
+    items: &[Field<'_>],
+    room: &mut String,
+    fault: Error,
+) -> Error {
     loop {
-        let answer = sys::write(format, fields, items, &mut text);
-        let is_short = matches!(answer.code, code::FULL | code::NO_MEMORY);
-        let more = text.capacity().saturating_mul(4) - text.len();
-        if !is_short || text.try_reserve_exact(more).is_err() {
-            return text;
+        let answer = sys::write(format, fields, items, room);
+        let most = match answer.code {
+            code::FULL => usize::MAX,
+            code::NO_MEMORY => MOST_FOR_LIST,
+            _ => return fault,
+        };
+        let larger = room.capacity().saturating_mul(4).clamp(MOST_AT_ONCE, most);
+        // Memory that was refused to the text is not asked for again.
+        let is_refused = fault == Error::refused() || larger <= room.capacity();
+        if is_refused || room.try_reserve_exact(larger - room.len()).is_err() {
+            return Error::refused();
         }
     }
 }

@@ -18,7 +18,7 @@ use std::process::ExitCode;
 use std::ptr;
 
 /// The program's own memory, without large blocks: while the library has no memory, the crate asks
-/// for ever larger rooms, and filled.c fills them.
+/// for larger rooms, up to a bound, and filled.c fills them.
 struct NoLargeBlocks;
 
 const LARGE: usize = 1 << 16;
