@@ -1,8 +1,8 @@
 //! The digits of floats: as many as a precision says, or the fewest that read back.
 //!
 //! A finite float is a decimal, and what is proved of decimals holds of it. [`word`] is the text of
-//! a float that is not finite, [`is_negative`] says whether a minus is written, and [`digits_at`]
-//! gives the digits at a precision. No memory is taken.
+//! a float that is not finite, [`is_negative`] says whether a minus is written, [`digits_at`] gives
+//! the digits at a precision, and [`exponent_digits`] those of exponent form. No memory is taken.
 //!
 //! ```text
 //! let mut room = [0; MOST_DIGITS];
@@ -15,6 +15,7 @@
 mod choice;
 mod digits;
 mod exact;
+mod exponent;
 mod parts;
 #[cfg(test)]
 mod tests;
@@ -25,4 +26,5 @@ pub use choice::{
 };
 pub use digits::{FloatDigits, float_digits, float_is_decimal};
 pub use exact::{DigitsAt, ExactDigits, MOST_DIGITS, digits_at, exact_digits};
+pub use exponent::{ExponentDigits, exponent_digits};
 pub use parts::{FloatParts, float_parts, is_negative, odd_parts, word};

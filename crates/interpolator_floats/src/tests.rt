@@ -2,6 +2,7 @@
 
 use crate::digits::FloatDigits;
 use crate::exact::{DigitsAt, ExactDigits, MOST_DIGITS, digits_at};
+use crate::exponent::exponent_digits;
 use crate::parts::{is_negative, word};
 use std::alloc::{AllocError, Global};
 
@@ -99,6 +100,38 @@ const AT_PRECISION: [PrecisionRow; 55] = [
     ),
 ];
 
+/// The same in exponent form.
+const EXPONENT_AT_PRECISION: [PrecisionRow; 24] = [
+    (0.0, 0, "0e0"),
+    (0.0, 2, "0.00e0"),
+    (0.5, 0, "5e-1"),
+    (2.5, 0, "2e0"),
+    (3.5, 0, "4e0"),
+    (25.0, 0, "2e1"),
+    (35.0, 0, "4e1"),
+    (9.5, 0, "1e1"),
+    (99.5, 1, "1.0e2"),
+    (0.1, 20, "1.00000000000000005551e-1"),
+    (
+        0.1,
+        60,
+        "1.000000000000000055511151231257827021181583404541015625000000e-1",
+    ),
+    (1e23, 3, "1.000e23"),
+    (1e23, 22, "9.9999999999999991611392e22"),
+    (1e23, 25, "9.9999999999999991611392000e22"),
+    (9007199254740992.0, 15, "9.007199254740992e15"),
+    (1e23, 15, "9.999999999999999e22"),
+    (1e23, 14, "1.00000000000000e23"),
+    (5e-324, 0, "5e-324"),
+    (5e-324, 3, "4.941e-324"),
+    (1.7976931348623157e308, 16, "1.7976931348623157e308"),
+    (2.2250738585072014e-308, 20, "2.22507385850720138309e-308"),
+    (123456.0, 2, "1.23e5"),
+    (1.25e-7, 1, "1.2e-7"),
+    (1.75e-7, 1, "1.7e-7"),
+];
+
 /// The greatest float.
 const GREATEST: [&str; 4] = [
     "17976931348623157081452742373170435679807056752584499659891747680315726078002853",
@@ -171,6 +204,30 @@ fn text_at(alloc: Global, x: f64, precision: usize) -> Result<String, AllocError
     Ok(text)
 }
 
+/// The text of a finite float in exponent form at a precision.
+fn exponent_text_at(alloc: Global, x: f64, precision: usize) -> Result<String, AllocError> {
+    let mut text = String::new(alloc);
+    if !x.is_finite() {
+        return Ok(text);
+    }
+    let mut room = [0u8; MOST_DIGITS];
+    let shown = exponent_digits(x, precision, &mut room);
+    for (i, digit) in shown.digits.chars().enumerate() {
+        if i == 1 {
+            text.push('.')?;
+        }
+        text.push(digit)?;
+    }
+    if shown.digits.len() == 1 && shown.zeros > 0 {
+        text.push('.')?;
+    }
+    put_zeros(&mut text, shown.zeros)?;
+    text.push_str(if shown.below { "e-" } else { "e" })?;
+    let size = format!(in alloc; "{}", shown.size)?;
+    text.push_str(size.as_str())?;
+    Ok(text)
+}
+
 fn joined(alloc: Global, pieces: &[&str]) -> Result<String, AllocError> {
     let mut text = String::new(alloc);
     for piece in pieces {
@@ -184,6 +241,16 @@ fn texts_at_precisions(rt: HostRuntime) -> Result<(), AllocError> {
     let alloc = rt.alloc();
     for (x, precision, text) in AT_PRECISION {
         let shown = text_at(alloc, x, precision)?;
+        assert_eq!(rt; shown.as_str(), text, "{x} at {precision}");
+    }
+    Ok(())
+}
+
+#[test]
+fn exponent_texts_at_precisions(rt: HostRuntime) -> Result<(), AllocError> {
+    let alloc = rt.alloc();
+    for (x, precision, text) in EXPONENT_AT_PRECISION {
+        let shown = exponent_text_at(alloc, x, precision)?;
         assert_eq!(rt; shown.as_str(), text, "{x} at {precision}");
     }
     Ok(())
