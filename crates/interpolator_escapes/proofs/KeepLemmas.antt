@@ -1,0 +1,185 @@
+-- Each escape keeps the places of its reader.
+use Rattle.std.proofs.Common.{◌≡◌, ℕ, true, false, List, [], ◌∷◌, refl, arith, ◌<◌}
+use Rattle.std.proofs.Common.{◌/◌, ◌%◌, ◌*◌, ◌+◌, ◌==◌, ◌||◌, nat_lt, if◌then◌else◌, Bool}
+use Rattle.std.specs.Char.{digit_value, digit_char}
+use Rattle.std.proofs.lemmas.Bool.Decides.{nat_tests}
+use Rattle.std.proofs.lemmas.Str.{digit_value-digit_char}
+use Rattle.interpolator_escapes.specs.Escapes.{hex_digit, two_digits, four_digits, is_control}
+use Rattle.interpolator_escapes.specs.Escapes.{line_escape}
+use Rattle.interpolator_escapes.specs.Escapes.{control_escape}
+use Rattle.interpolator_escapes.specs.Escapes.{html_escape, csv_escape, json_escape, shell_escape}
+use Rattle.interpolator_escapes.specs.Readers.{KeepsPlaces, state_after, read, content}
+use Rattle.interpolator_escapes.specs.Lines.{line_step, is_line_place, in_line}
+use Rattle.interpolator_escapes.specs.Lines.{after_slash, in_code, code_step}
+use Rattle.interpolator_escapes.specs.Html.{html_step, is_html_place, in_base, in_text, in_value}
+use Rattle.interpolator_escapes.specs.Html.{double, single, plain, read_again, address, opened}
+use Rattle.interpolator_escapes.specs.Html.{in_reference, closing, marked, marked_dash, declared}
+use Rattle.interpolator_escapes.specs.Html.{comment, comment_dash, comment_dashes, named, spaced}
+use Rattle.interpolator_escapes.specs.Html.{in_name, after_name, before_value, in_bare_value}
+use Rattle.interpolator_escapes.specs.Html.{in_raw, raw_opened, raw_closing, lost}
+use Rattle.interpolator_escapes.specs.Csv.{csv_step, is_csv_place, field_start, bare, quoted}
+use Rattle.interpolator_escapes.specs.Csv.{quote_seen}
+use Rattle.interpolator_escapes.specs.Json.{json_step, is_json_place, between, in_string}
+use Rattle.interpolator_escapes.specs.Json.{after_slash as json_slash, in_code as json_code}
+use Rattle.interpolator_escapes.specs.Json.{code_step as json_code_step}
+use Rattle.interpolator_escapes.specs.Shell.{shell_step, is_shell_place, outside}
+use Rattle.interpolator_escapes.specs.Shell.{single_quoted as shell_quoted, elsewhere}
+use Rattle.interpolator_escapes.specs.Shell.{after_slash as shell_slash}
+
+-- a digit is no control, and reads as its number
+pub digit_read : (n : ℕ) → n < 16
+    → (digit_value (hex_digit n) ≡ n) × (is_control (hex_digit n) ≡ false)
+digit_read n h =
+    let same : hex_digit n ≡ digit_char n = grind (arith, nat_tests) in
+    (rw same (digit_value-digit_char n (omega (arith, h))), grind (arith, nat_tests))
+
+digit_below : (n : ℕ) → n % 16 < 16
+digit_below n = omega arith
+
+two_make : (c : ℕ) → c < 256 → (0 * 16 + c / 16 % 16) * 16 + c % 16 ≡ c
+two_make c h = omega (arith, h)
+
+four_make : (c : ℕ) → c < 65536
+    → (((0 * 16 + c / 256 / 16 % 16) * 16 + c / 256 % 16) * 16 + c / 16 % 16) * 16 + c % 16 ≡ c
+four_make c h = omega (arith, h)
+
+control_below : (c : ℕ) → is_control c ≡ true → c < 65536
+control_below c h = grind (arith, nat_tests)
+
+-- ---- codes
+
+line_digit : (left n d : ℕ) → d < 16
+    → line_step (in_code left n) (hex_digit d) ≡ code_step left (n * 16 + d)
+line_digit left n d h = rw ((digit_read d h).1, (digit_read d h).0) refl
+
+-- a code is read as its number
+abbrev LineReads : List ℕ → ℕ → Type 0
+LineReads cs c =
+    (state_after line_step in_line cs ≡ in_line) × (read line_step in_line cs ≡ content c ∷ [])
+
+line_two : (c : ℕ) → c < 256 → LineReads (92 ∷ 120 ∷ two_digits c) c
+line_two c h =
+    let first = line_digit 2 0 (c / 16 % 16) (digit_below (c / 16)) in
+    let second = line_digit 1 (0 * 16 + c / 16 % 16) (c % 16) (digit_below c) in
+    grind (arith, first, second, two_make c h)
+
+line_four : (c : ℕ) → c < 65536 → LineReads (92 ∷ 117 ∷ four_digits c) c
+line_four c h =
+    let first = line_digit 4 0 (c / 256 / 16 % 16) (digit_below (c / 256 / 16)) in
+    let second =
+    line_digit 3 (0 * 16 + c / 256 / 16 % 16) (c / 256 % 16) (digit_below (c / 256)) in
+    let third =
+    line_digit 2 ((0 * 16 + c / 256 / 16 % 16) * 16 + c / 256 % 16) (c / 16 % 16)
+    (digit_below (c / 16)) in
+    let fourth =
+    line_digit 1 (((0 * 16 + c / 256 / 16 % 16) * 16 + c / 256 % 16) * 16 + c / 16 % 16) (c % 16)
+    (digit_below c) in
+    grind (arith, first, second, third, fourth, four_make c h)
+
+-- a choice of texts has what both have
+choose : (P : List ℕ → Type 0) (b : Bool) (xs ys : List ℕ) → (b ≡ true → P xs)
+    → (b ≡ false → P ys) → P (if b then xs else ys)
+choose P true xs ys x y = x refl
+choose P false xs ys x y = y refl
+
+line_control : (c : ℕ) → is_control c ≡ true → LineReads (control_escape c) c
+line_control c h =
+    choose (λ cs. LineReads cs c) (nat_lt c 256) _ _
+    (λ low. line_two c (grind (arith, nat_tests)))
+    (λ high. line_four c (control_below c h))
+
+line_other : (c : ℕ) → (c == 92) ≡ false
+    → LineReads (if is_control c then control_escape c else c ∷ []) c
+line_other c h =
+    choose (λ cs. LineReads cs c) (is_control c) _ _ (line_control c)
+    (λ low. grind arith)
+
+pub line_keeps : KeepsPlaces line_step is_line_place line_escape
+line_keeps in_line c h =
+    choose (λ cs. LineReads cs c) (c == 92) _ _ (λ e. grind (arith, nat_tests))
+    (λ n. choose (λ cs. LineReads cs c) (c == 10) _ _ (λ e. grind (arith, nat_tests))
+    (λ n'. choose (λ cs. LineReads cs c) (c == 13) _ _ (λ e. grind (arith, nat_tests))
+    (λ n''. choose (λ cs. LineReads cs c) (c == 9) _ _ (λ e. grind (arith, nat_tests))
+    (λ n3. line_other c n))))
+line_keeps after_slash c h = absurd (cc)
+line_keeps (in_code left n) c h = absurd (cc)
+
+pub csv_keeps : KeepsPlaces csv_step is_csv_place csv_escape
+csv_keeps quoted c h = grind (arith, nat_tests)
+csv_keeps field_start c h = absurd (cc)
+csv_keeps bare c h = absurd (cc)
+csv_keeps quote_seen c h = absurd (cc)
+
+json_digit : (left n d : ℕ) → d < 16
+    → json_step (json_code left n) (hex_digit d) ≡ json_code_step left (n * 16 + d)
+json_digit left n d h = rw (digit_read d h).0 refl
+
+abbrev JsonReads : List ℕ → ℕ → Type 0
+JsonReads cs c =
+    (state_after json_step in_string cs ≡ in_string)
+    × (read json_step in_string cs ≡ content c ∷ [])
+
+json_four : (c : ℕ) → c < 65536 → JsonReads (92 ∷ 117 ∷ four_digits c) c
+json_four c h =
+    let first = json_digit 4 0 (c / 256 / 16 % 16) (digit_below (c / 256 / 16)) in
+    let second =
+    json_digit 3 (0 * 16 + c / 256 / 16 % 16) (c / 256 % 16) (digit_below (c / 256)) in
+    let third =
+    json_digit 2 ((0 * 16 + c / 256 / 16 % 16) * 16 + c / 256 % 16) (c / 16 % 16)
+    (digit_below (c / 16)) in
+    let fourth =
+    json_digit 1 (((0 * 16 + c / 256 / 16 % 16) * 16 + c / 256 % 16) * 16 + c / 16 % 16) (c % 16)
+    (digit_below c) in
+    grind (arith, first, second, third, fourth, four_make c h)
+
+json_other : (c : ℕ) → (c == 92) ≡ false → (c == 34) ≡ false
+    → JsonReads (if nat_lt c 32 || (c == 60) then 92 ∷ 117 ∷ four_digits c else c ∷ []) c
+json_other c n q =
+    choose (λ cs. JsonReads cs c) (nat_lt c 32 || (c == 60)) _ _
+    (λ e. json_four c (grind (arith, nat_tests))) (λ e. grind arith)
+
+pub json_keeps : KeepsPlaces json_step is_json_place json_escape
+json_keeps in_string c h =
+    choose (λ cs. JsonReads cs c) (c == 92) _ _ (λ e. grind (arith, nat_tests))
+    (λ n. choose (λ cs. JsonReads cs c) (c == 34) _ _ (λ e. grind (arith, nat_tests))
+    (λ q. choose (λ cs. JsonReads cs c) (c == 10) _ _ (λ e. grind (arith, nat_tests))
+    (λ a. choose (λ cs. JsonReads cs c) (c == 13) _ _ (λ e. grind (arith, nat_tests))
+    (λ b. choose (λ cs. JsonReads cs c) (c == 9) _ _ (λ e. grind (arith, nat_tests))
+    (λ t. json_other c n q)))))
+json_keeps between c h = absurd (cc)
+json_keeps json_slash c h = absurd (cc)
+json_keeps (json_code left n) c h = absurd (cc)
+
+pub shell_keeps : KeepsPlaces shell_step is_shell_place shell_escape
+shell_keeps shell_quoted c h = grind (arith, nat_tests)
+shell_keeps outside c h = absurd (cc)
+shell_keeps shell_slash c h = absurd (cc)
+shell_keeps elsewhere c h = absurd (cc)
+
+-- ---- pages
+
+pub html_keeps : KeepsPlaces html_step is_html_place html_escape
+html_keeps (in_base in_text) c h = grind (arith, nat_tests)
+html_keeps (in_base (in_value double element plain)) c h = grind (arith, nat_tests)
+html_keeps (in_base (in_value single element plain)) c h = grind (arith, nat_tests)
+html_keeps (in_base (in_value quote element read_again)) c h = absurd (cc)
+html_keeps (in_base (in_value quote element (address seen))) c h = absurd (cc)
+html_keeps (in_reference b name) c h = absurd (cc)
+html_keeps opened c h = absurd (cc)
+html_keeps closing c h = absurd (cc)
+html_keeps marked c h = absurd (cc)
+html_keeps marked_dash c h = absurd (cc)
+html_keeps declared c h = absurd (cc)
+html_keeps comment c h = absurd (cc)
+html_keeps comment_dash c h = absurd (cc)
+html_keeps comment_dashes c h = absurd (cc)
+html_keeps (named begins name) c h = absurd (cc)
+html_keeps (spaced element) c h = absurd (cc)
+html_keeps (in_name element name) c h = absurd (cc)
+html_keeps (after_name element name) c h = absurd (cc)
+html_keeps (before_value element name) c h = absurd (cc)
+html_keeps (in_bare_value element) c h = absurd (cc)
+html_keeps (in_raw element) c h = absurd (cc)
+html_keeps (raw_opened element) c h = absurd (cc)
+html_keeps (raw_closing element rest) c h = absurd (cc)
+html_keeps lost c h = absurd (cc)

@@ -1,0 +1,5 @@
+-- The lemmas of escapes.
+mod CodeLemmas
+pub mod KeepLemmas
+mod RunLemmas
+mod SearchLemmas

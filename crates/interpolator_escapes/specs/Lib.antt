@@ -1,0 +1,9 @@
+-- The definitions that the contracts cite.
+pub mod Escapes
+pub mod Readers
+pub mod Lines
+pub mod Html
+pub mod Csv
+pub mod Json
+pub mod Shell
+pub mod Search
