@@ -1,4 +1,5 @@
 pub mod EndLemmas
+pub mod EntryLemmas
 pub mod FieldLemmas
 pub mod OnceLemmas
 pub mod PlaceLemmas
@@ -6,3 +7,4 @@ pub mod QuoteLemmas
 pub mod RecordLemmas
 pub mod ScanLemmas
 pub mod TableLemmas
+pub mod WrittenLemmas

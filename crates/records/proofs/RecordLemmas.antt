@@ -10,7 +10,7 @@ use Rattle.records.specs.declared.separator.Separator.TheVariants.{Comma, Semico
 use Rattle.records.proofs.ScanLemmas.{utf8_behind}
 
 module _ (separator : Separator) where
-  opens_more : (before : List (List ℕ)) (opening field written : List ℕ)
+  pub opens_more : (before : List (List ℕ)) (opening field written : List ℕ)
       → Opens separator before opening → IsSpelled separator field written
       → Opens separator (before ++ (field ∷ []))
       (opening ++ (written ++ (byte_of separator ∷ [])))

@@ -1,7 +1,9 @@
 -- The head and the end of a text, which belong to no record.
 use Rattle.std.specs.Prelude.{◌≡◌, ◌≢◌, ◌⊎◌, ⊤, ◌≤◌, ℕ, List, [], ◌∷◌, ◌++◌, length}
 use Rattle.records.specs.Marks.{carriage_return, line_feed}
-use Rattle.records.specs.Tables.{At}
+use Rattle.records.specs.Tables.{At, Holds}
+use Rattle.records.specs.declared.separator.Separator.{Separator}
+use Rattle.records.specs.declared.table.Table.{Table}
 
 -- the byte order mark
 abbrev pub mark : List ℕ
@@ -37,3 +39,8 @@ pub record Starts (text : List ℕ) (from : At) : Type 0 where
   pub unmarked : IsUnmarked text rest
   pub ended : IsEnded rest from.text
   pub first_line : from.line ≡ 1
+
+-- a table holds the records and faults of a text, from its beginning to its end
+abbrev pub HoldsTable : Separator → List ℕ → Table → Type 0
+HoldsTable separator text table = (start : At) × Starts text start
+    × Holds separator start table.records.items table.faults.items

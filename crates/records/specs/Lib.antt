@@ -10,3 +10,4 @@ pub mod Scans
 pub mod Separators
 pub mod Spellings
 pub mod Tables
+pub mod Written

@@ -1,11 +1,12 @@
 -- A table, record by record and fault by fault, with nothing left out.
-use Rattle.std.specs.Prelude.{⊤, ◌≡◌, ◌≢◌, ℕ, ◌==◌}
+use Rattle.std.specs.Prelude.{⊤, ◌≡◌, ◌≢◌, ℕ, ◌==◌, Bool, false, true, map}
 use Rattle.std.specs.Prelude.{List, [], ◌∷◌, ◌++◌, Option, None, Some, Result, Ok, Err}
 use Rattle.std.specs.List.{after_first}
 use Rattle.records.specs.Faults.{Breaks}
 use Rattle.records.specs.Marks.{line_feed}
 use Rattle.records.specs.Places.{place_after}
 use Rattle.records.specs.Records.{Begins}
+use Rattle.records.specs.Spellings.{text_of}
 use Rattle.records.specs.declared.fault.Fault.{Fault}
 use Rattle.records.specs.declared.fault.Place.{Place}
 use Rattle.records.specs.declared.fault.Problem.{Problem}
@@ -14,6 +15,7 @@ use Rattle.records.specs.declared.reader.ReadError.{ReadError}
 use Rattle.records.specs.declared.reader.ReadError.TheVariants as errors
 use Rattle.records.specs.declared.reader.Reader.{Reader}
 use Rattle.records.specs.declared.separator.Separator.{Separator}
+use Rattle.records.specs.declared.table.Record.{Record}
 
 -- ---- what is read
 
@@ -98,3 +100,40 @@ abbrev pub AreEntries : Separator → List Entry → At → Type 0
 AreEntries separator [] from = from.text ≡ []
 AreEntries separator (entry ∷ entries) from =
     (to : At) × Gives separator entry from to × AreEntries separator entries to
+
+-- ---- what is kept of a table
+
+-- a record that is kept: its line, and the texts of its fields
+abbrev pub as_read : Record → ℕ × List (List ℕ)
+as_read kept = (kept.line, map text_of kept.fields.items)
+
+-- the records among entries
+abbrev pub records_in : List Entry → List (ℕ × List (List ℕ))
+records_in [] = []
+records_in (Ok read ∷ entries) = read ∷ records_in entries
+records_in (Err fault ∷ entries) = records_in entries
+
+-- the faults among entries
+abbrev pub faults_in : List Entry → List Fault
+faults_in [] = []
+faults_in (Ok read ∷ entries) = faults_in entries
+faults_in (Err fault ∷ entries) = fault ∷ faults_in entries
+
+-- records and faults are those of some entries, all of them and in order
+pub record AreOf (entries : List Entry) (kept : List Record) (faults : List Fault) : Type 0 where
+  pub same_records : map as_read kept ≡ records_in entries
+  pub same_faults : faults ≡ faults_in entries
+
+-- records and faults are all those of a text from here on
+abbrev pub Holds : Separator → At → (kept : List Record) → (faults : List Fault) → Type 0
+Holds separator from kept faults =
+    (entries : List Entry) × AreEntries separator entries from × AreOf entries kept faults
+
+-- one more entry is read, and appended to what is kept; or the text is at its end
+abbrev pub Adds : Separator → (more : Bool) → (from to : At) → (old new : List Record)
+    → (old_faults new_faults : List Fault) → Type 0
+Adds separator true from to old new old_faults new_faults = (entry : Entry)
+    × Gives separator entry from to × ((entries : List Entry) → AreOf entries old old_faults
+    → AreOf (entries ++ (entry ∷ [])) new new_faults)
+Adds separator false from to old new old_faults new_faults =
+    (from.text ≡ []) × (new ≡ old) × (new_faults ≡ old_faults)

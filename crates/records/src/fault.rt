@@ -18,6 +18,20 @@ pub enum Problem {
     LoneReturn,
 }
 
+impl Problem {
+    /// What is wrong, in words.
+    pub fn as_str(self) -> &'static str {
+        match self {
+            Problem::Unclosed => "a quote that is never closed",
+            Problem::StrayQuote => {
+                "a stray quote: write the field in quotes, and double those in it"
+            }
+            Problem::AfterQuote => "text after a closing quote: double the quotes in a field",
+            Problem::LoneReturn => "a carriage return without a newline",
+        }
+    }
+}
+
 /// A place in a text, by line and character, both from 1.
 #[derive(Clone, Copy, Debug, PartialEq, Eq)]
 pub struct Place {

@@ -9,6 +9,7 @@
 //! // line 1: `name` and `town`; line 2: `Zoë "Z"`, and a field of two lines
 //! ```
 //!
+//! [`Table::read`] keeps all records and faults of a table. [`push_record`] writes a record.
 //! [`text_in`] and [`latin1`] make texts of bytes. Read on at `Spellings`, `Records` and `Faults` in
 //! `specs/`, which say how a record is spelled, and at the laws in [`laws`].
 #![tactic(auto)]
@@ -24,10 +25,14 @@ mod reader;
 mod record;
 mod scan;
 mod separator;
+mod table;
 mod take;
+mod written;
 
 pub use encoding::{BadByte, latin1, text_in};
 pub use fault::{Fault, Place, Problem};
 pub use field::Field;
 pub use reader::{ReadError, Reader};
 pub use separator::Separator;
+pub use table::{Record, Table};
+pub use written::push_record;

@@ -3,7 +3,7 @@
 ghost use Rattle.std.specs.Prelude.{◌≡◌, ◌==◌};
 ghost use Rattle.std.specs.List.{before_first, list_any};
 ghost use Rattle.records.specs.Marks.{byte_of, line_feed};
-ghost use Rattle.records.specs.Separators.{told_by};
+ghost use Rattle.records.specs.Separators.{named, told_by};
 
 /// The character between two fields of a record.
 #[derive(Clone, Copy, Debug, PartialEq, Eq)]
@@ -36,6 +36,22 @@ impl Separator {
             Separator::Semicolon => b';',
             Separator::Tab => b'\t',
         }
+    }
+
+    /// The separator that a word of a command line names: `,`, `;` or `tab`.
+    pub fn named(word: &str) -> Option<Separator>
+        ensures { result ≡ named word.now }
+    {
+        if word == "," {
+            return Some(Separator::Comma);
+        }
+        if word == ";" {
+            return Some(Separator::Semicolon);
+        }
+        if word == "tab" {
+            return Some(Separator::Tab);
+        }
+        None
     }
 
     /// Whether a line has this character.
