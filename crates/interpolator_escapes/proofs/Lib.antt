@@ -1,5 +1,10 @@
 -- The lemmas of escapes.
-mod CodeLemmas
+pub mod FaultLemmas
+pub mod FormatLemmas
+pub mod GrowthLemmas
 pub mod KeepLemmas
+pub mod ReaderLemmas
+-- of this crate alone
+mod CodeLemmas
 mod RunLemmas
 mod SearchLemmas

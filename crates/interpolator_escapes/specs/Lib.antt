@@ -6,4 +6,6 @@ pub mod Html
 pub mod Csv
 pub mod Json
 pub mod Shell
+pub mod Parts
+pub mod Formats
 pub mod Search
