@@ -8,3 +8,4 @@ pub mod ReaderLemmas
 mod CodeLemmas
 mod RunLemmas
 mod SearchLemmas
+mod SuspectLemmas

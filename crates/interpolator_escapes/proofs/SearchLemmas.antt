@@ -100,31 +100,33 @@ plain_text escape bytes u plain =
 
 -- ---- blocks
 
-block_length : (bytes : List ℕ) (end : ℕ) → end + 16 ≤ length bytes
-    → length (slice_range bytes end (end + 16)) ≡ 16
-block_length bytes end h = grind (arith, length-take, length-drop)
+block_length : (bytes : List ℕ) (end size : ℕ) → end + size ≤ length bytes
+    → length (slice_range bytes end (end + size)) ≡ size
+block_length bytes end size h = grind (arith, length-take, length-drop)
 
-block_place : (bytes : List ℕ) (end j : ℕ) → end + 16 ≤ length bytes → j < 16
-    → get_or (slice_range bytes end (end + 16)) j 0 ≡ get_or bytes (end + j) 0
-block_place bytes end j h l = grind (arith, get_or-take, get_or-drop, length-take, length-drop)
+block_place : (bytes : List ℕ) (end size j : ℕ) → end + size ≤ length bytes → j < size
+    → get_or (slice_range bytes end (end + size)) j 0 ≡ get_or bytes (end + j) 0
+block_place bytes end size j h l = grind (arith, get_or-take, get_or-drop, length-take, length-drop)
 
-plain_past : (escape : Escape) (bytes : List ℕ) (end k : ℕ) → end + 16 ≤ length bytes
-    → ArePlain escape (slice_range bytes end (end + 16)) (length (slice_range bytes end (end + 16)))
-    → end ≤ k → k < end + 16 → may_begin_escaped escape (get_or bytes k 0) ≡ false
-plain_past escape bytes end k h b s l =
-    let size = block_length bytes end h in
-    let place = block_place bytes end (k - end) h (omega arith)
+plain_past : (escape : Escape) (bytes : List ℕ) (end size k : ℕ) → end + size ≤ length bytes
+    → ArePlain escape (slice_range bytes end (end + size))
+    (length (slice_range bytes end (end + size)))
+    → end ≤ k → k < end + size → may_begin_escaped escape (get_or bytes k 0) ≡ false
+plain_past escape bytes end size k h b s l =
+    let long = block_length bytes end size h in
+    let place = block_place bytes end size (k - end) h (omega arith)
     ∙ ap (λ (j : ℕ). get_or bytes j 0) (omega arith) in
-    subst (λ (x : ℕ). may_begin_escaped escape x ≡ false) place (b (k - end) (omega (arith, size)))
+    subst (λ (x : ℕ). may_begin_escaped escape x ≡ false) place (b (k - end) (omega (arith, long)))
 
 -- one more block
-pub plain_more : (escape : Escape) (bytes : List ℕ) (end : ℕ) → end + 16 ≤ length bytes
+pub plain_more : (escape : Escape) (bytes : List ℕ) (end size : ℕ) → end + size ≤ length bytes
     → ArePlain escape bytes end
-    → ArePlain escape (slice_range bytes end (end + 16)) (length (slice_range bytes end (end + 16)))
-    → ArePlain escape bytes (end + 16)
-plain_more escape bytes end h p b k l =
+    → ArePlain escape (slice_range bytes end (end + size))
+    (length (slice_range bytes end (end + size)))
+    → ArePlain escape bytes (end + size)
+plain_more escape bytes end size h p b k l =
     let before = λ (s : k < end). p k s in
-    let after = λ (s : end ≤ k). plain_past escape bytes end k h b s l in
+    let after = λ (s : end ≤ k). plain_past escape bytes end size k h b s l in
     grind (arith, cases_lt k end, before, after)
 
 -- ---- the front

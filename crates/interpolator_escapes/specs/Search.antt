@@ -1,5 +1,5 @@
 -- First bytes, by which the search for characters that are escaped goes.
-use Rattle.std.specs.Prelude.{◌≡◌, ◌<◌, ℕ, Bool, false, List, ◌==◌, ◌||◌, nat_lt, get_or}
+use Rattle.std.specs.Prelude.{◌≡◌, ◌<◌, ℕ, Bool, false, List, ◌==◌, ◌||◌, nat_lt, get_or, bit_xor}
 use Rattle.interpolator_escapes.specs.declared.escape.Escape.{Escape}
 use Rattle.interpolator_escapes.specs.declared.escape.Escape.TheVariants.{Line, Html, Csv, Json}
 use Rattle.interpolator_escapes.specs.declared.escape.Escape.TheVariants.{Shell}
@@ -14,6 +14,14 @@ may_begin_escaped Html byte =
 may_begin_escaped Csv byte = byte == 34
 may_begin_escaped Json byte = nat_lt byte 32 || (byte == 34) || (byte == 92) || (byte == 60)
 may_begin_escaped Shell byte = byte == 39
+
+-- one of these bytes, or of a few others, which a test in fewer steps does not tell from them
+abbrev pub is_suspect : Escape → ℕ → Bool
+is_suspect Line byte = nat_lt byte 32 || nat_lt 126 byte || (byte == 92)
+is_suspect Html byte = may_begin_escaped Html byte
+is_suspect Csv byte = may_begin_escaped Csv byte
+is_suspect Json byte = nat_lt (bit_xor byte 2) 33 || (byte == 92) || (byte == 60)
+is_suspect Shell byte = may_begin_escaped Shell byte
 
 -- none does with one of so many bytes in front
 abbrev pub ArePlain : Escape → List ℕ → ℕ → Type 0

@@ -3,16 +3,19 @@ ghost use Rattle.std.specs.Prelude.{◌≡◌, ◌<◌, ◌≤◌, ◌⊎◌, �
 ghost use Rattle.std.specs.Prelude.{get_or, MatchOption, IfSome, IsUtf8};
 ghost use Rattle.std.specs.Str.{chars};
 ghost use Rattle.interpolator_escapes.specs.Escapes.{escaped};
-ghost use Rattle.interpolator_escapes.specs.Search.{ArePlain, may_begin_escaped};
+ghost use Rattle.interpolator_escapes.specs.Search.{ArePlain, may_begin_escaped, is_suspect};
 
 use crate::escape::Escape;
 use interpolator_syntax::split_first;
 
 /// How many bytes are tested one by one before the search by blocks.
-const NEAR: usize = 8;
+const NEAR: usize = 16;
 
 /// How many bytes are tested at once.
 const BLOCK: usize = 16;
+
+/// How many bytes are tested at once for what is rare in plain texts.
+const WIDE_BLOCK: usize = 64;
 
 /// Returns whether a character that begins with this byte may be escaped. In a line, past ASCII,
 /// that is told by the first bytes of U+0080 to U+00BF, of U+0600 to U+063F, of U+2000 to U+2FFF.
@@ -38,7 +41,24 @@ fn may_begin_escaped(escape: Escape, byte: u8) -> bool
     }
 }
 
-/// Returns whether each byte begins no character that may be escaped. All are tested, so that the
+/// Returns whether a byte is one of [`may_begin_escaped`], or one of a few others: in a line, of all
+/// that are not ASCII. This takes fewer steps.
+#[inline(always)]
+fn is_suspect(escape: Escape, byte: u8) -> bool
+    ensures { result ≡ is_suspect escape byte }
+{
+    match escape {
+        Escape::Line => byte < b' ' || b'~' < byte || byte == b'\\',
+        Escape::Html => {
+            byte == b'&' || byte == b'<' || byte == b'>' || byte == b'"' || byte == b'\''
+        }
+        Escape::Csv => byte == b'"',
+        Escape::Json => byte ^ 2 <= b' ' || byte == b'\\' || byte == b'<',
+        Escape::Shell => byte == b'\'',
+    }
+}
+
+/// Returns whether no byte begins a character that may be escaped. All are tested, so that the
 /// compiler tests them side by side.
 #[inline(always)]
 fn are_plain(escape: Escape, bytes: &[u8]) -> bool
@@ -51,8 +71,39 @@ fn are_plain(escape: Escape, bytes: &[u8]) -> bool
     !found
 }
 
+/// As [`are_plain`], in fewer steps; it may say no of some that are.
+#[tactic(auto, using(crate::proofs::SuspectLemmas::suspects))]
+#[inline(always)]
+fn are_surely_plain(escape: Escape, bytes: &[u8]) -> bool
+    ensures { result ≡ true → ArePlain escape bytes.now (length bytes.now) }
+{
+    let mut found = false;
+    for byte in bytes {
+        found = found | is_suspect(escape, *byte);
+    }
+    !found
+}
+
 /// Returns a place up to which no byte begins a character that may be escaped, from one on up to
-/// which none does: after as many blocks as there are of such bytes.
+/// which none does: after as many wide blocks as there are of bytes that are no suspects.
+#[inline(always)]
+fn past_wide_blocks(escape: Escape, bytes: &[u8], from: usize) -> usize
+    requires within { from ≤ length bytes.now }
+    requires plain { ArePlain escape bytes.now from }
+    ensures within { result ≤ length bytes.now }
+    ensures plain { ArePlain escape bytes.now result }
+{
+    let mut end = from;
+    while bytes.len() - end >= WIDE_BLOCK {
+        if !are_surely_plain(escape, &bytes[end..end + WIDE_BLOCK]) {
+            return end;
+        }
+        end += WIDE_BLOCK;
+    }
+    end
+}
+
+/// As [`past_wide_blocks`]: after as many blocks as there are of bytes that begin no such character.
 #[inline(always)]
 fn past_blocks(escape: Escape, bytes: &[u8], from: usize) -> usize
     requires within { from ≤ length bytes.now }
@@ -91,8 +142,8 @@ fn first_between(escape: Escape, bytes: &[u8], from: usize, end: usize) -> usize
 
 /// Returns the place of the first byte that begins a character that may be escaped; the end, if
 /// there is none.
-#[inline(never)]
-fn plain_front(escape: Escape, bytes: &[u8]) -> usize
+#[inline(always)]
+fn first_in(escape: Escape, bytes: &[u8]) -> usize
     ensures within { result ≤ length bytes.now }
     ensures plain { ArePlain escape bytes.now result }
     ensures begins { result < length bytes.now
@@ -103,8 +154,26 @@ fn plain_front(escape: Escape, bytes: &[u8]) -> usize
     if index < near {
         return index;
     }
-    let blocks = past_blocks(escape, bytes, index);
+    let wide = past_wide_blocks(escape, bytes, index);
+    let blocks = past_blocks(escape, bytes, wide);
     first_between(escape, bytes, blocks, bytes.len())
+}
+
+/// As [`first_in`], which is compiled for each escape by itself.
+#[inline(never)]
+fn plain_front(escape: Escape, bytes: &[u8]) -> usize
+    ensures within { result ≤ length bytes.now }
+    ensures plain { ArePlain escape bytes.now result }
+    ensures begins { result < length bytes.now
+        → may_begin_escaped escape (get_or bytes.now result 0) ≡ true }
+{
+    match escape {
+        Escape::Line => first_in(Escape::Line, bytes),
+        Escape::Html => first_in(Escape::Html, bytes),
+        Escape::Csv => first_in(Escape::Csv, bytes),
+        Escape::Json => first_in(Escape::Json, bytes),
+        Escape::Shell => first_in(Escape::Shell, bytes),
+    }
 }
 
 /// Returns the longest front that has no character that may be escaped, the character after it, and

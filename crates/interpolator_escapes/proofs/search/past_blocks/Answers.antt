@@ -5,6 +5,6 @@ use Rattle.interpolator_escapes.proofs.search.past_blocks.Goals as goal
 pub loop-end-preserved : goal.loop-end-preserved
 loop-end-preserved c = (
   omega (arith, c.loop-end-test.true),
-  plain_more c.args.escape c.args.bytes.now c.loop-end.end (omega (arith, c.loop-end-test.true))
+  plain_more c.args.escape c.args.bytes.now c.loop-end.end 16 (omega (arith, c.loop-end-test.true))
       c.loop-end.invariant.1 (c.are_plain.ensures (grind arith)),
 )
