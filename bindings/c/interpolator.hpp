@@ -9,11 +9,9 @@
 // with it; a std::string it keeps. Nothing else has to be freed or kept.
 #ifndef INTERPOLATOR_HPP
 #define INTERPOLATOR_HPP
-#include "interpolator.h"
+#include "interpolator_numbers.h"
 
 #include <algorithm>
-#include <charconv>
-#include <cmath>
 #include <cstddef>
 #include <cstdint>
 #include <deque>
@@ -103,120 +101,31 @@ inline std::string padded_number(bool negative, std::string_view digits, const r
   return detail::aligned(made, asked, 3);
 }
 
-// ---- Floating numbers, as Rust writes them
+// ---- Decimals and floating numbers, by interpolator_numbers.h
 
 namespace detail {
 
-// More digits than these of a double are zeros, after the point, and after the first digit.
-inline constexpr std::size_t most_digits = 1100;
-
-// A number in exponent form without the point, with so many digits after the first; exact ones.
-inline std::string digits_with_exponent(double number, std::size_t precision) {
-  char text[most_digits + 50];
-  const auto end = std::to_chars(text, text + sizeof text, number, std::chars_format::scientific,
-                                 static_cast<int>(precision))
-                       .ptr;
-  std::string made(text, end);
-  if (precision) made.erase(1, 1);
+// The text that such a function of the C header makes in a room, if there is one.
+template <class Put> std::optional<std::string> text_by(Put put) {
+  std::string made(64, '\0');
+  std::size_t length = put(made.data(), made.size());
+  if (length == 0 || length == SIZE_MAX) return std::nullopt;
+  const bool fits = length <= made.size();
+  made.resize(length);
+  if (!fits) put(made.data(), made.size());
   return made;
 }
 
-// The shortest digits that are read as a number again, and the power of ten of the first one.
-struct shortest {
-  std::string digits;
-  int power = 0;
-};
-
-// Whether a number lies in the middle between these digits and the next ones.
-inline bool is_in_the_middle(double number, const std::string &digits) {
-  const std::string next = digits_with_exponent(number, digits.size());
-  if (next[digits.size()] != '5' || next.compare(0, digits.size(), digits) != 0) return false;
-  const std::string all = digits_with_exponent(number, most_digits);
-  return all[digits.size()] == '5'
-         && all.find_first_not_of('0', digits.size() + 1) == most_digits + 1;
+inline std::optional<std::string> floating_text(double number, const request &asked) {
+  return text_by([&](char *room, std::size_t size) {
+    return interpolator_double_text(number, &asked, room, size);
+  });
 }
 
-// Of a number that is finite and not negative. Of two that are equally near Rust takes the greater
-// one.
-template <class Number> shortest shortest_of(Number number) {
-  char text[64];
-  const auto end =
-      std::to_chars(text, text + sizeof text, number, std::chars_format::scientific).ptr;
-  shortest made;
-  const char *at = text;
-  for (; at != end && *at != 'e'; at++)
-    if (*at != '.') made.digits += *at;
-  const bool below = at + 1 < end && at[1] == '-';
-  std::from_chars(at + 2, end, made.power);
-  if (below) made.power = -made.power;
-  if (is_in_the_middle(static_cast<double>(number), made.digits)) made.digits.back()++;
-  return made;
-}
-
-// The digits of a number with a point, and none of zeros after it but for `least` of them.
-inline std::string with_point(const shortest &of, std::size_t least) {
-  std::string made = of.digits;
-  if (of.power < 0) {
-    made.insert(0, static_cast<std::size_t>(-of.power), '0');
-  } else if (made.size() <= static_cast<std::size_t>(of.power)) {
-    made.append(static_cast<std::size_t>(of.power) + 1 - made.size(), '0');
-  }
-  const std::size_t whole = of.power < 0 ? 1 : static_cast<std::size_t>(of.power) + 1;
-  const std::size_t after = made.size() - whole;
-  if (after < least) made.append(least - after, '0');
-  if (made.size() > whole) made.insert(whole, 1, '.');
-  return made;
-}
-
-inline std::string with_exponent(const shortest &of) {
-  std::string made = of.digits;
-  if (made.size() > 1) made.insert(1, 1, '.');
-  return made + 'e' + std::to_string(of.power);
-}
-
-// The digits of a number with so many after the point, or in exponent form after the first.
-inline std::string exact(double number, std::size_t precision, bool exponent) {
-  char text[most_digits + 400];
-  const auto form = exponent ? std::chars_format::scientific : std::chars_format::fixed;
-  const int digits = static_cast<int>(std::min(precision, most_digits));
-  const auto end = std::to_chars(text, text + sizeof text, number, form, digits).ptr;
-  std::string made(text, end);
-  const std::size_t zeros = precision - static_cast<std::size_t>(digits);
-  if (!exponent) return made.append(zeros, '0');
-  const std::size_t at = made.find('e');
-  int power = 0;
-  std::from_chars(made.data() + at + 2, made.data() + made.size(), power);
-  const bool below = made[at + 1] == '-';
-  return made.substr(0, at).append(zeros, '0') + (below ? "e-" : "e") + std::to_string(power);
-}
-
-// The digits of a finite number that is not negative, for a request.
-template <class Number> std::string digits_of(Number number, const request &asked) {
-  const bool exponent =
-      asked.slot == INTERPOLATOR_LOWER_EXP || asked.slot == INTERPOLATOR_UPPER_EXP;
-  if (asked.given & INTERPOLATOR_PRECISION)
-    return exact(static_cast<double>(number), asked.precision, exponent);
-  const shortest of = shortest_of(number);
-  if (exponent) return with_exponent(of);
-  if (asked.slot == INTERPOLATOR_DISPLAY) return with_point(of, 0);
-  return number == 0 || (of.power >= -4 && of.power < 16) ? with_point(of, 1) : with_exponent(of);
-}
-
-// The text of a floating number for a request: under `{}`, `{:?}`, `{:e}` and `{:E}`.
-template <class Number>
-std::optional<std::string> floating_text(Number number, const request &asked) {
-  if (asked.slot != INTERPOLATOR_DISPLAY && asked.slot != INTERPOLATOR_DEBUG
-      && asked.slot != INTERPOLATOR_LOWER_EXP && asked.slot != INTERPOLATOR_UPPER_EXP)
-    return std::nullopt;
-  if (std::isnan(number)) {
-    request unsigned_one = asked;
-    unsigned_one.sign = 0;
-    return padded_number(false, "NaN", unsigned_one);
-  }
-  if (std::isinf(number)) return padded_number(std::signbit(number), "inf", asked);
-  std::string digits = digits_of(std::abs(number), asked);
-  if (asked.slot == INTERPOLATOR_UPPER_EXP) std::replace(digits.begin(), digits.end(), 'e', 'E');
-  return padded_number(std::signbit(number), digits, asked);
+inline std::optional<std::string> floating_text(float number, const request &asked) {
+  return text_by([&](char *room, std::size_t size) {
+    return interpolator_float_text(number, &asked, room, size);
+  });
 }
 
 template <class Type>
@@ -350,6 +259,16 @@ private:
   std::variant<std::string_view, std::string, whole, double, float, printer, std::vector<value>>
       of_;
 };
+
+// A decimal, `units` of 10^-scale: 12.50 is 1250 at the scale 2. Its digits are exact, and a
+// precision rounds to the nearest, of two to the even one.
+inline value decimal(std::int64_t units, std::uint32_t scale) {
+  return [units, scale](const request &asked) {
+    return detail::text_by([&](char *room, std::size_t size) {
+      return interpolator_decimal_text(units, scale, &asked, room, size);
+    });
+  };
+}
 
 // A value under a name.
 struct field {

@@ -1,10 +1,10 @@
 #!/usr/bin/env bash
 # Builds the C library out of the proved archive of crates/interpolator_c, and runs the tests of
 # bindings/c: the headers by C99 and C++17 without a warning, each call, the rows of the conformance
-# suite, refused memory, threads, all under valgrind; the header for C++17 and the examples under
-# AddressSanitizer and UBSan, the examples on a hundred hostile formats each; an installed copy by
-# pkg-config and CMake, a package, and the programs of README.md. It leaves nothing but build/, with the
-# library.
+# suite, decimals and doubles, refused memory, threads, all under valgrind; the headers and the
+# examples under AddressSanitizer and UBSan, the examples on a hundred hostile formats each; an
+# installed copy by pkg-config and CMake, a package, and the programs of README.md. It leaves nothing
+# but build/, with the library.
 #
 # The archive is the one that `rt lib` or the gate left in crates/interpolator_c/out; without one it is
 # made by `rt lib`, which proves what is not proved yet. A tool that is missing fails the run, but for
@@ -59,14 +59,17 @@ names_are_known() {
 # What the example writes of a file with one broken format: to the output the others, to the errors the
 # picture. No message is too long for it.
 catalogue() {
-    printf 'Dear {name},\nyou have {count:>3} new {messages}\n{count:x} in hexadecimal\n{name:>5000}' \
-        >"$scratch/messages.txt"
+    {
+        printf 'Dear {name},\nyou have {count:>3} new {messages}\n{count:x} in hexadecimal\n{name:>5000}\n'
+        printf '{total:*>8}|{total:.1}|{total:+08.3}|{total:e}|{total:>900}'
+    } >"$scratch/messages.txt"
     local status=0
     (cd "$scratch" && "$@" messages.txt Bob 255 >out 2>errors) || status=$?
     diff - "$scratch/out" <<END || return 1
 Dear Bob,
 ff in hexadecimal
 $(printf '%5000s' Bob)
+****2.55|2.6|+002.550|2.55e0|$(printf '%900s' 2.55)
 END
     diff - "$scratch/errors" <<'END' || return 1
 messages.txt:2:26: specified value not in context `messages` at 25
@@ -81,7 +84,8 @@ prices() {
     diff <("$@") - <<<'pie:       3.14 each, 3 rounded, +00002.2%' || return 1
     diff <("$@" '{price:0>+9.1}|{price:*<8}|{price:^+11.3}|{price:09.0}|{price:>1.4}' -199995) - \
         <<<'00-2000.0|-1999.95| -1999.950 |-00002000|-1999.9500' || return 1
-    diff <("$@" '{price:+}|{price:.1}|{price:.0}|{rate:?}' 4 2>&1) - <<<'+0.04|0.0|0|2.25'
+    diff <("$@" '{price:+}|{price:.1}|{price:.0}|{price:.40}|{rate:?}|{rate:.1}' 4 2>&1) - \
+        <<<"+0.04|0.0|0|0.04$(printf '%038d' 0)|2.25|2.2"
 }
 
 sanitized=(-g -O1 -fsanitize=address,undefined -fno-sanitize-recover=all -Wall -Wextra -pedantic -Werror -I.)
@@ -91,6 +95,7 @@ export ASAN_OPTIONS=exitcode=99:allocator_may_return_null=1 UBSAN_OPTIONS=exitco
 sanitize() {
     cc -std=c99 "${sanitized[@]}" tests/bytes.c build/libinterpolator.a -o "$scratch/bytes_asan" &&
         cc -std=c99 "${sanitized[@]}" tests/calls.c build/libinterpolator.a -o "$scratch/calls_asan" &&
+        cc -std=c99 "${sanitized[@]}" tests/numbers.c build/libinterpolator.a -lm -o "$scratch/numbers_asan" &&
         cc -std=c99 -g -O1 -fsanitize=thread -Wall -I. tests/threads.c build/libinterpolator.a -pthread \
             -o "$scratch/threads_tsan" &&
         c++ -std=c++17 "${sanitized[@]}" tests/header.cpp build/libinterpolator.a -o "$scratch/header_asan" &&
@@ -117,7 +122,7 @@ hostile_prices() {
 # Each line alone, and all of them with zero bytes and a line without an end.
 hostile_catalogue() {
     local format status=0 count=0
-    python3 tests/hostile.py name count >"$scratch/hostile.txt"
+    python3 tests/hostile.py name count total >"$scratch/hostile.txt"
     while IFS= read -r format; do
         status=0
         printf '%s' "$format" >"$scratch/line.txt"
@@ -217,6 +222,8 @@ step 'sizes and offsets of the structs' "$scratch/abi"
 step 'each call, by C99' "${valgrind_of[@]}" "$scratch/calls"
 step 'each call, by C++17' "${valgrind_of[@]}" "$scratch/calls_cpp"
 step 'the header for C++17' "${valgrind_of[@]}" "$scratch/header"
+step 'decimals and doubles, by C99' "${valgrind_of[@]}" "$scratch/numbers" 300
+step 'decimals and doubles, by C++17' "$scratch/numbers_cpp" 100000
 step 'rows of the conformance suite' "$scratch/rows"
 step 'rows of the conformance suite, under valgrind' "${valgrind_of[@]}" "$scratch/rows"
 step 'bytes by chance, under valgrind' "${valgrind_of[@]}" "$scratch/bytes" 3000
@@ -228,6 +235,7 @@ step 'the prices' prices "$scratch/prices"
 step 'tests and examples by AddressSanitizer, UBSan and ThreadSanitizer' sanitize
 step 'threads, by these' "$scratch/threads_tsan"
 step 'each call, by these' "$scratch/calls_asan"
+step 'decimals and doubles, by these' "$scratch/numbers_asan" 20000
 step 'bytes by chance, by these' "$scratch/bytes_asan" 50000
 step 'the header for C++17, by these' "$scratch/header_asan"
 step 'the catalogue, by these' catalogue "$scratch/catalogue_asan"

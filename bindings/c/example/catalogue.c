@@ -1,14 +1,16 @@
 /* A catalogue of messages, one format a line of a file: each is checked when it is loaded, against
  * an example of the values that it will be used with. So a translation cannot fail later.
  *
- *   catalogue FILE NAME COUNT
+ *   catalogue FILE NAME CENTS
+ *
+ * The values are `name`, `count` (the number of cents) and `total` (the amount, as 12.50).
  *
  * Who writes a file of messages is not trusted: a line may be of any length and of any bytes, and a
  * format that could write more than MOST characters (a width may be any number) is refused.
  *
  * The status is 0 if all messages were written, 1 if a line has a fault, and 2 if the file cannot
  * be read, the messages cannot be written, or there is no memory. */
-#include "interpolator.h"
+#include "interpolator_numbers.h"
 #include <stdio.h>
 #include <stdlib.h>
 
@@ -44,17 +46,49 @@ static size_t read_all(FILE *file, buffer *text) {
   }
 }
 
-static void row(interpolator_field *fields, const char *name, int count) {
-  fields[0] = interpolator_text("name", name);
-  fields[1] = interpolator_int("count", count);
+/* The values of a message, and the texts of those that the library does not write by itself. */
+typedef struct {
+  interpolator_field fields[3];
+  buffer arguments, lent, digits;
+} row;
+
+static void make_room(buffer *room, size_t size) {
+  if (room->size < size) enlarge(room, size);
+}
+
+/* Makes the values of a line, which is known not to be too costly. */
+static void fill(row *of, const interpolator_source *line, const char *name, int cents) {
+  const char *format = line->text.at;
+  size_t length = line->text.length, places = 1, k;
+  for (k = 0; k < length; k++) places += format[k] == '{';
+  make_room(&of->arguments, places * sizeof(interpolator_argument));
+  make_room(&of->lent, places * sizeof(interpolator_lent));
+  make_room(&of->digits, 256);
+  for (;;) {
+    interpolator_texts texts = interpolator_texts_for(
+        format, length, (interpolator_argument *)(void *)of->arguments.at, places,
+        (interpolator_lent *)(void *)of->lent.at, places, of->digits.at, of->digits.size);
+    if (texts.code == INTERPOLATOR_NO_MEMORY) no_memory();
+    of->fields[0] = interpolator_text("name", name);
+    of->fields[1] = interpolator_int("count", cents);
+    of->fields[2] = interpolator_decimal("total", cents, 2, &texts);
+    if (!texts.is_short) return;
+    enlarge(&of->digits, of->digits.size * 2);
+  }
+}
+
+static void release(row *of) {
+  free(of->arguments.at);
+  free(of->lent.at);
+  free(of->digits.at);
 }
 
 /* Whether a line has no fault over the example: the first one is shown. */
-static int holds(const interpolator_source *source, const interpolator_field *example,
-                 buffer *room) {
+static int holds(const interpolator_source *source, const row *example, buffer *room) {
   for (;;) {
-    interpolator_answer got = interpolator_explain(source, source->text.at, source->text.length,
-                                                   example, 2, NULL, 0, 0, room->at, room->size);
+    interpolator_answer got =
+        interpolator_explain(source, source->text.at, source->text.length, example->fields, 3, NULL,
+                             0, 0, room->at, room->size);
     if (got.code == INTERPOLATOR_OK) return 1;
     if (got.code == INTERPOLATOR_NO_MEMORY) no_memory();
     if (got.message > room->size) {
@@ -82,11 +116,10 @@ static int is_short(const interpolator_source *source, size_t longest) {
 }
 
 /* Writes a message that was checked. */
-static int write_message(const interpolator_source *source, const interpolator_field *fields,
-                         buffer *room) {
+static int write_message(const interpolator_source *source, const row *of, buffer *room) {
   for (;;) {
-    interpolator_answer got = interpolator_format(source->text.at, source->text.length, fields, 2,
-                                                  NULL, 0, room->at, room->size);
+    interpolator_answer got = interpolator_format(source->text.at, source->text.length, of->fields,
+                                                  3, NULL, 0, room->at, room->size);
     size_t length = got.code == INTERPOLATOR_OK ? got.length : got.message;
     if (got.code == INTERPOLATOR_NO_MEMORY) no_memory();
     if (length > room->size) {
@@ -100,23 +133,33 @@ static int write_message(const interpolator_source *source, const interpolator_f
   }
 }
 
+/* Checks a line and writes its message. */
+static int serve(const interpolator_source *line, const char *name, int cents, buffer *room) {
+  row example, values;
+  int is_written;
+  memset(&example, 0, sizeof example);
+  memset(&values, 0, sizeof values);
+  if (!is_short(line, strlen(name) + 40)) return 0; /* a total has at most 12 digits */
+  fill(&example, line, "Ann", 1250);
+  fill(&values, line, name, cents);
+  is_written = holds(line, &example, room) && write_message(line, &values, room);
+  release(&example);
+  release(&values);
+  return is_written;
+}
+
 int main(int words, char **word) {
-  interpolator_field example[2], fields[2];
   buffer text = {NULL, 0}, room = {NULL, 0};
   size_t length, at = 0, number = 0, wrong = 0;
   FILE *file = words == 4 ? fopen(word[1], "rb") : NULL;
-  if (!file) return fprintf(stderr, "usage: catalogue FILE NAME COUNT\n"), 2;
-  row(example, "Ann", 1);
-  row(fields, word[2], atoi(word[3]));
+  if (!file) return fprintf(stderr, "usage: catalogue FILE NAME CENTS\n"), 2;
   length = read_all(file, &text);
   enlarge(&room, 4096);
   while (at < length) {
     const char *line = text.at + at, *end = (const char *)memchr(line, '\n', length - at);
     size_t bytes = end ? (size_t)(end - line) : length - at;
     interpolator_source source = interpolator_whole(word[1], ++number, line, bytes);
-    if (!holds(&source, example, &room) || !is_short(&source, strlen(word[2]))
-        || !write_message(&source, fields, &room))
-      wrong++;
+    if (!serve(&source, word[2], atoi(word[3]), &room)) wrong++;
     at += bytes + 1;
   }
   free(text.at);
