@@ -25,11 +25,20 @@ BATCH = 1024
 FIRST_ROOM = 2**20
 
 
+def _heads_of(columns: Columns) -> List[Tuple[str, Any]]:
+    """The columns as pairs."""
+    heads = list(columns.items() if isinstance(columns, MappingClass) else columns)
+    for head in heads:
+        if not (isinstance(head, (tuple, list)) and len(head) == 2 and isinstance(head[0], str)):
+            raise TypeError("columns are a dict of examples, or pairs of a name and an example")
+    return [(name, example) for name, example in heads]
+
+
 class Table:
     """A format with the columns of a table, of which each has a name and an example."""
 
     def __init__(self, template: "Template", columns: Columns) -> None:
-        heads = list(columns.items() if isinstance(columns, MappingClass) else columns)
+        heads = _heads_of(columns)
         if any(is_list(example) for _, example in heads):
             raise TypeError("a column of a table may not have a list as its example")
         self._template = template

@@ -128,6 +128,13 @@ class Tables(unittest.TestCase):
         self.assertEqual([], rows("{a}", {"a": 1}, []))
         self.assertEqual(["", ""], rows("", {}, [(), ()]))
 
+    def test_what_are_no_columns(self) -> None:
+        no_columns: List[Any] = [
+            ["a", "b"], ["ab"], "ab", ("a", 1), [("a",)], [("a", 1, 2)], [(1, 2)], [None]]
+        for columns in no_columns:
+            with self.subTest(columns):
+                self.assertRaisesRegex(TypeError, "^columns are ", rows, "{a}", columns, [])
+
     def test_many_rows(self) -> None:
         cells = [(n, str(n)) for n in range(3000)]
         wanted = [f"{n:>5}{n}" for n in range(3000)]
