@@ -204,7 +204,14 @@ typedef struct {
  * items, and memory for them.) Several lists may share items.
  */
 
-/* ---- Calls */
+/* ---- Calls
+ *
+ * What a call costs: a width in a format may be any number, and interpolator_format and
+ * interpolator_rows make the whole text, even if it does not fit in the room: `{a:1000000000}` takes
+ * a gigabyte. interpolator_write takes as much memory as the room has, and stops where that is full:
+ * its room is the limit for a format that others wrote. What a list under a width holds in memory is
+ * within it, too. interpolator_cost tells before how long a text can get. All other calls take
+ * memory for what the format and the fields are, not for their text. */
 
 /* The text of a format over a row of fields: the whole text, or none. Of two equal names the last
  * counts.

@@ -306,6 +306,7 @@ inline const char *sentence_of(std::uint32_t code) {
   case INTERPOLATOR_NO_MEMORY: return "out of memory";
   case INTERPOLATOR_NOT_UTF8: return "not UTF-8";
   case INTERPOLATOR_LISTS: return "lists are nested too deep";
+  case INTERPOLATOR_FULL: return "the room is too small";
   case INTERPOLATOR_TABLE: return "a row has not as many cells as there are columns";
   default: return "a call failed";
   }
@@ -499,6 +500,41 @@ inline result try_format(std::string_view format, const fields &row) {
 // The text of a format; a fault is thrown as `error`.
 inline std::string format(std::string_view format, const fields &row) {
   return detail::text_or_throw(try_format(format, row));
+}
+
+// The text of a format, or its fault, in no more memory than `most` bytes for the text: if it has
+// more, that is the code INTERPOLATOR_FULL.
+inline result try_format_within(std::string_view format, const fields &row, std::size_t most) {
+  const detail::laid of(format, row);
+  std::string room(std::min(most, format.size() + 128), '\0'), sentence(128, '\0');
+  for (;;) {
+    interpolator_answer got =
+        interpolator_write(format.data(), format.size(), of.row(), of.count(), of.items(),
+                           of.item_count(), room.data(), room.size(), sentence.data(),
+                           sentence.size());
+    if (got.code == INTERPOLATOR_OK) {
+      room.resize(got.length);
+      return {got, std::move(room)};
+    }
+    // a list under a width lacks memory if the room has too little left for it
+    const bool is_short =
+        got.code == INTERPOLATOR_FULL || got.code == INTERPOLATOR_NO_MEMORY;
+    if (is_short && room.size() < most) {
+      room.assign(room.size() < most / 4 ? room.size() * 4 + 1 : most, '\0');
+      continue;
+    }
+    const bool fits = got.message <= sentence.size();
+    sentence.resize(got.message);
+    if (!fits) continue;
+    got.length = 0;
+    return {got, std::move(sentence)};
+  }
+}
+
+// The text of a format, if it has no more than `most` bytes; a fault, and a longer text, are thrown
+// as `error`.
+inline std::string format_within(std::string_view format, const fields &row, std::size_t most) {
+  return detail::text_or_throw(try_format_within(format, row, most));
 }
 
 // Throws the first fault that a format has by itself or over a row of examples. If it returns, no

@@ -132,6 +132,33 @@ static void floating_numbers() {
   FAULT(INTERPOLATOR_MISSING_TRAIT, 9, "{v:.65536}", {{"v", 1.5}});
 }
 
+// The text in no more memory than is allowed.
+static void within() {
+  const fields row = {{"a", "x"}, {"l", {1, 22}}, {"long", std::string(3000, 'y')}};
+  for (std::size_t most : {0u, 1u, 2u, 9u, 200u, 3100u, 100000u}) {
+    const result exact = try_format_within("{a:>9}", row, most);
+    WANT(most < 9 ? exact.answer.code == INTERPOLATOR_FULL : exact && exact.text == "        x");
+    const result list = try_format_within("{l:>300i({})(, )}{long}", row, most);
+    WANT(most < 3300 ? !list
+                     : list && list.text.size() == 3300 && list.text.substr(294, 7) == " 1, 22y");
+    const result bomb = try_format_within("{a:1000000000}{a:18446744073709551615}", row, most);
+    WANT(bomb.answer.code == INTERPOLATOR_FULL && bomb.text == "the room is too small");
+    const result fault = try_format_within("{nobody}", row, most);
+    WANT(fault.answer.code == INTERPOLATOR_MISSING_VALUE && fault.answer.place == 1);
+    WANT(fault.text == "specified value not in context `nobody` at 1");
+  }
+  const std::string name(500, 'n');
+  const result fault = try_format_within("{" + name + "}", row, 10);
+  WANT(fault.text == "specified value not in context `" + name + "` at 1");
+  WANT(format_within("{l:i({:.1})( )}", {{"l", {0.25, 2.5}}}, 7) == "0.2 2.5");
+  try {
+    format_within("{l:i({:.1})( )}", {{"l", {0.25, 2.5}}}, 6);
+    WANT(false);
+  } catch (const error &full) {
+    WANT(full.code == INTERPOLATOR_FULL);
+  }
+}
+
 static void printers() {
   const auto shout = [](const request &asked) {
     return std::optional<std::string>(padded("\xC3\xA9h!", asked));
@@ -207,6 +234,7 @@ int main() {
   values();
   lists();
   floating_numbers();
+  within();
   printers();
   faults_and_pictures();
   tables();

@@ -8,6 +8,7 @@
 static long allowed = -1; /* how many allocations are allowed before one is refused; -1 for all */
 static int and_later;     /* whether those after it are refused, too */
 static long live, calls;
+static size_t largest; /* of the blocks that were asked for */
 static char nothing[16];
 
 static int refuses(void) {
@@ -29,12 +30,14 @@ static rattle_block block(void *at) {
 
 rattle_block rattle_alloc(size_t size, size_t align) {
   void *at = refuses() ? NULL : malloc(size ? size : align);
+  if (size > largest) largest = size;
   live += at != NULL;
   return block(at);
 }
 
 rattle_block rattle_realloc(void *at, size_t kept, size_t size, size_t align) {
   (void)kept;
+  if (size > largest) largest = size;
   return block(refuses() ? NULL : realloc(at, size ? size : align));
 }
 
@@ -201,6 +204,22 @@ static int is_whole(size_t k, long allow, int later, int refused) {
   return all[k].call(refused);
 }
 
+/* However long the text is, it takes no more memory than the room has. */
+static int writes_within_the_room(void) {
+  static const char *of[] = {
+      "{name:1000000000}", "{name:18446744073709551615}", "{l:>1000000000i({})(, )}",
+      "{l:i({:1000000000})(, )}", "{l:>9i#({:>1000000000})#}", "{name}{name:^99999999}{nobody}"};
+  size_t k;
+  for (k = 0; k < sizeof of / sizeof *of; k++) {
+    interpolator_answer got;
+    largest = 0;
+    got = interpolator_write(of[k], strlen(of[k]), fields, 2, items, 4, room, 200, NULL, 0);
+    if (got.code != INTERPOLATOR_FULL && got.code != INTERPOLATOR_NO_MEMORY) return 0;
+    if (largest > 4096) return printf("%lu bytes for %s\n", (unsigned long)largest, of[k]), 0;
+  }
+  return 1;
+}
+
 int main(void) {
   size_t k;
   int failed = 0;
@@ -225,5 +244,7 @@ int main(void) {
     }
     printf("memory: %s, each of %ld allocations refused in turn\n", all[k].name, most);
   }
+  allowed = -1;
+  if (!writes_within_the_room()) failed = 1, printf("FAILED write, in the memory of its room\n");
   return failed;
 }
