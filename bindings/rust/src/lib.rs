@@ -39,6 +39,7 @@ mod formattable;
 mod known;
 mod laid;
 mod macros;
+mod pictures;
 mod quick;
 mod request;
 mod row;
@@ -51,8 +52,9 @@ pub use error::{Error, ParseError, Result, Trait};
 pub use formattable::Formattable;
 pub use table::{rows, Rows, RowsError};
 
+use pictures::pictures;
 use row::Row;
-use sys::{code, Answer, Bytes, Field};
+use sys::{code, Answer, Fault, Field};
 
 /// Where a format finds the values of its names.
 ///
@@ -254,21 +256,27 @@ pub fn faults(format: &str, context: &(impl Context + ?Sized)) -> Vec<Error> {
         Ok(row) => row,
         Err(error) => return vec![error],
     };
-    let mut faults = Vec::new();
     row.lend(format, |fields, items, _| {
-        let mut answer = sys::faults(format, fields, items, &mut faults);
-        if answer.length > faults.capacity() {
-            faults.reserve_exact(answer.length);
-            answer = sys::faults(format, fields, items, &mut faults);
-        }
-        match answer.code {
-            code::OK => faults
+        match found(format, fields, items) {
+            Some(faults) => faults
                 .iter()
                 .map(|fault| Error::of(*fault, format))
                 .collect(),
-            _ => vec![Error::refused()],
+            None => vec![Error::refused()],
         }
     })
+}
+
+/// All faults of a format over a row of examples, or none if the library has no memory for them, or
+/// lists lie too deep.
+fn found(format: &str, fields: &[Field<'_>], items: &[Field<'_>]) -> Option<Vec<Fault>> {
+    let mut faults = Vec::new();
+    let mut answer = sys::faults(format, fields, items, &mut faults);
+    if answer.length > faults.capacity() {
+        faults.reserve_exact(answer.length);
+        answer = sys::faults(format, fields, items, &mut faults);
+    }
+    (answer.code == code::OK).then_some(faults)
 }
 
 /// Returns the fault that [`check`] finds, as a compiler shows it, or none if there is none.
@@ -340,49 +348,6 @@ pub fn explain_in(
     context: &(impl Context + ?Sized),
 ) -> Vec<String> {
     pictures(source, format, &context, usize::MAX)
-}
-
-/// The pictures of so many faults at most.
-fn pictures(source: &Source<'_>, format: &str, context: &dyn Context, most: usize) -> Vec<String> {
-    let row = match Row::of(format, context) {
-        Ok(row) => row,
-        Err(error) => return vec![format!("{}: {error}", source.name)],
-    };
-    let name = source.name;
-    let source = sys::Source {
-        name: Bytes::of(name.as_bytes()),
-        text: Bytes::of(source.text.as_bytes()),
-        first_line: source.first_line,
-        start: source.start,
-    };
-    row.lend(format, |fields, items, _| {
-        let mut pictures = Vec::new();
-        while pictures.len() < most {
-            let which = pictures.len();
-            let explain =
-                |room: &mut String| sys::explain(&source, format, fields, items, which, room);
-            let mut room = String::with_capacity(laid::room_for(format));
-            let mut answer = explain(&mut room);
-            if answer.message > room.capacity() {
-                room.reserve_exact(answer.message);
-                answer = explain(&mut room);
-            }
-            match answer.code {
-                code::OK => return pictures,
-                code::UNSUPPORTED => {
-                    error::name_option(&mut room, name.len());
-                    pictures.push(room);
-                }
-                code::MISSING_TRAIT..=code::MISSING_VALUE => pictures.push(room),
-                // Memory was refused, or lists lie too deep: so it is for each of them.
-                _ => {
-                    pictures.push(room);
-                    return pictures;
-                }
-            }
-        }
-        pictures
-    })
 }
 
 /// The values that [`cost`] counts with.
