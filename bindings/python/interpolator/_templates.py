@@ -162,9 +162,11 @@ class Template:
         if answer.code:
             raise self._fault(answer, ctypes.string_at(room, length).decode(), Fields())
 
-    def faults(self, examples: Optional[Mapping[str, Any]] = None) -> List[FormatError]:
+    def faults(
+        self, examples: Optional[Mapping[str, Any]] = None, /, **named: Any
+    ) -> List[FormatError]:
         """All faults that the format has, by itself or with these examples, in order: of them `check`
-        raises the first.
+        raises the first. The examples are those of a mapping, or named ones.
 
         >>> for error in Template("{nane} {name:x} {name").faults({"name": "Ann"}):
         ...     print(error)
@@ -172,6 +174,9 @@ class Template:
         trait `LowerHex` not implemented, used by format argument at 14
         error while parsing input: Format spec at 17 is nether closed with a `}`
         """
+        if named and examples is not None:
+            raise TypeError("examples are those of a mapping or named ones, and not both")
+        examples = named if examples is None else examples
         return list(self.faults_in(Source(NAME, self.text), examples))
 
     def faults_in(
@@ -484,9 +489,11 @@ def explain(
     return _template(text).explain(examples, name=name, first_line=first_line)
 
 
-def faults(text: str, examples: Optional[Mapping[str, Any]] = None, /) -> List[FormatError]:
+def faults(
+    text: str, examples: Optional[Mapping[str, Any]] = None, /, **named: Any
+) -> List[FormatError]:
     """All faults that a format has with these examples: see `Template.faults`."""
-    return _template(text).faults(examples)
+    return _template(text).faults(examples, **named)
 
 
 def rows(text: str, columns: Columns, cells: Iterable[Row], /) -> List[str]:

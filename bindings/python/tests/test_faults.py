@@ -115,6 +115,10 @@ class Checks(unittest.TestCase):
             [(error.code.name, error.place, error.index) for error in found])
         self.assertEqual("specified value not in context `nane` at 3", found[0].message)
         self.assertEqual([], interpolator.faults("{name}", {"name": "Ann"}))
+        named = interpolator.faults(text, name="Ann", l=["a"])
+        self.assertEqual([str(error) for error in found], [str(error) for error in named])
+        self.assertEqual([], interpolator.faults("{examples}", examples=1))
+        self.assertRaises(TypeError, interpolator.faults, text, {"name": "Ann"}, l=["a"])
         self.assertRaises(NotUtf8, interpolator.faults, "\ud800")
 
     def test_a_message_of_several_lines(self) -> None:
