@@ -1,28 +1,96 @@
-/* Eight threads call the library at the same time, by the shared object, on stacks of 256 KiB. */
-#include "interpolator.h"
+/* Eight threads make each call at the same time, by the shared object, on stacks of 256 KiB. */
+#include "interpolator_numbers.h"
 #include <pthread.h>
 #include <stdio.h>
 #include <stdlib.h>
 
-enum { THREADS = 8, TIMES = 2000 };
+enum { THREADS = 8, TIMES = 500 };
 
-static const char format[] = "thread {thread}, call {l:i-1..({:>5})}: [{l:i({})(|)}]";
+static const char format[] = "thread {thread}, call {l:i-1..({:>5})}: [{l:i({})(|)}] {half:.1}";
+static const char faulty[] = "{thread} {nobody} {thread:y}";
+
+/* What a thread calls with. */
+typedef struct {
+  interpolator_argument arguments[8];
+  interpolator_lent lent[2];
+  interpolator_field fields[3], items[3];
+  char digits[40];
+} row;
+
+static int fill(row *of, int number, int call) {
+  interpolator_texts texts = interpolator_texts_for(format, sizeof format - 1, of->arguments, 8,
+                                                    of->lent, 2, of->digits, sizeof of->digits);
+  of->fields[0] = interpolator_int("thread", number);
+  of->fields[1] = interpolator_list("l", 0, 2);
+  of->fields[2] = interpolator_double("half", number + .5, &texts);
+  of->items[0] = interpolator_int("", number);
+  of->items[1] = interpolator_int("", call);
+  of->items[2] = interpolator_int("", 0);
+  return texts.argument_count == 6 && !texts.is_short;
+}
+
+static int is_text(interpolator_answer got, const char *room, const char *text) {
+  return got.code == INTERPOLATOR_OK && got.length == strlen(text)
+         && memcmp(room, text, got.length) == 0;
+}
+
+static int is_fault(interpolator_answer got, const char *room, const char *says) {
+  return got.code == INTERPOLATOR_MISSING_VALUE && got.place == 10 && got.message == strlen(says)
+         && memcmp(room, says, got.message) == 0;
+}
+
+static int writes(const row *of, const char *wanted) {
+  char room[256];
+  return is_text(interpolator_format(format, sizeof format - 1, of->fields, 3, of->items, 3, room,
+                                     sizeof room),
+                 room, wanted)
+         && is_text(interpolator_write(format, sizeof format - 1, of->fields, 3, of->items, 3, room,
+                                       sizeof room, NULL, 0),
+                    room, wanted);
+}
+
+static int finds_faults(const row *of) {
+  static const char sentence[] = "specified value not in context `nobody` at 10";
+  char room[256], picture[256];
+  interpolator_fault found[3];
+  interpolator_source source = interpolator_whole("f", 1, faulty, sizeof faulty - 1);
+  interpolator_answer got = interpolator_check(faulty, sizeof faulty - 1, of->fields, 3, of->items,
+                                               3, room, sizeof room);
+  if (!is_fault(got, room, sentence)) return 0;
+  got = interpolator_faults(faulty, sizeof faulty - 1, of->fields, 3, of->items, 3, found, 3);
+  if (got.code != INTERPOLATOR_OK || got.length != 2 || found[1].place != 26) return 0;
+  sprintf(picture, "f:1:11: %s\n  |\n1 | %s\n  |          ~^~~~~~~", sentence, faulty);
+  got = interpolator_explain(&source, faulty, sizeof faulty - 1, of->fields, 3, of->items, 3, 0,
+                             room, sizeof room);
+  return is_fault(got, room, picture)
+         && interpolator_check_alone(faulty, sizeof faulty - 1, NULL, 0).place == 26
+         && interpolator_cost(format, sizeof format - 1, 9, 2).code == INTERPOLATOR_OK;
+}
+
+static int writes_a_table(int number, int call) {
+  interpolator_field columns[1], cells[2];
+  char room[64], wanted[64];
+  size_t ends[2];
+  columns[0] = interpolator_int("n", 0);
+  cells[0] = interpolator_int("", number);
+  cells[1] = interpolator_int("", call);
+  sprintf(wanted, "<%4d><%4d>", number, call);
+  return is_text(interpolator_rows("<{n:4}>", 7, columns, 1, cells, 2, ends, 2, room, sizeof room),
+                 room, wanted)
+         && ends[0] == 6 && ends[1] == 12;
+}
 
 static void *run(void *given) {
   int number = *(int *)given, k;
   size_t *wrong = (size_t *)calloc(1, sizeof *wrong);
   for (k = 0; k < TIMES; k++) {
-    char room[256], wanted[256];
-    interpolator_field f[2], items[3];
-    interpolator_answer got;
-    int length = snprintf(wanted, sizeof wanted, "thread %d, call %5d: [%d|%d]", number, k, number, k);
-    f[0] = interpolator_int("thread", number);
-    f[1] = interpolator_list("l", 0, 2);
-    items[0] = interpolator_int("", number);
-    items[1] = interpolator_int("", k);
-    items[2] = interpolator_int("", 0);
-    got = interpolator_format(format, sizeof format - 1, f, 2, items, 3, room, sizeof room);
-    if (got.code != 0 || got.length != (size_t)length || memcmp(room, wanted, got.length) != 0) ++*wrong;
+    row of;
+    char wanted[256];
+    snprintf(wanted, sizeof wanted, "thread %d, call %5d: [%d|%d] %d.5", number, k, number, k,
+             number);
+    if (!fill(&of, number, k) || !writes(&of, wanted) || !finds_faults(&of)
+        || !writes_a_table(number, k))
+      ++*wrong;
   }
   return wrong;
 }
@@ -45,6 +113,7 @@ int main(void) {
     free(of);
   }
   pthread_attr_destroy(&stack);
-  printf("threads: %d calls in %d threads, %lu wrong\n", THREADS * TIMES, THREADS, (unsigned long)wrong);
+  printf("threads: each call %d times in %d threads, %lu wrong\n", TIMES, THREADS,
+         (unsigned long)wrong);
   return wrong != 0;
 }
