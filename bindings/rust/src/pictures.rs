@@ -201,7 +201,7 @@ mod tests {
     use std::collections::HashMap;
 
     /// Arguments with and without faults, some of them broken, and what is between.
-    const PARTS: [&str; 26] = [
+    const PARTS: [&str; 30] = [
         "{nobody}",
         "{a:x}",
         "{ a :e}",
@@ -210,6 +210,10 @@ mod tests {
         "{l:i#({:i({})}{a:x})#({nobody})}",
         "{l:i({})}",
         "{l}",
+        "{b\n}",
+        "{\u{202e}c\t:>5}",
+        "{a at 7}",
+        "{d é: (byte 1 of the format)}",
         "{a:q}",
         "{a:>",
         "{a:99999999999999999999}",
@@ -257,14 +261,14 @@ mod tests {
     fn pieces_show_what_the_format_does() {
         let mut state = 88_172_645_463_325_252u64;
         let mut by_pieces = 0;
-        for _ in 0..1500 {
+        for _ in 0..400 {
             let mut format = String::new();
             for _ in 0..30 {
                 state ^= state << 13;
                 state ^= state >> 7;
                 state ^= state << 17;
                 // Half of them have no broken argument, which can end all later ones.
-                let most = if state & 0x100 == 0 { 8 } else { PARTS.len() };
+                let most = if state & 0x100 == 0 { 11 } else { PARTS.len() };
                 format += PARTS[(state >> 32) as usize % most];
             }
             shown(&format, |examples, source| {
@@ -275,7 +279,7 @@ mod tests {
                 }
             });
         }
-        assert!(by_pieces > 1000, "{by_pieces}");
+        assert!(by_pieces > 300, "{by_pieces}");
     }
 
     #[test]
