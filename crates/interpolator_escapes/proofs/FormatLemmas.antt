@@ -204,7 +204,8 @@ module _ {S : Type 0} (step : S → ℕ → S × List Token) (is_place : S → B
           (item empty : Slots X → Meaning) (o : Option (List (Slots X))) (b : Bool)
           → forbids_list spec ≡ b → FillStays step s spec spec.width
           → Same s s join none → ((x : Slots X) → Same s s (item x) (empty x))
-          → Same s s (listed_means range spec q join item o) (listed_means range spec q none empty o)
+          → Same s s (listed_means range spec q join item o)
+          (listed_means range spec q none empty o)
       listed_same s range spec q join none item empty None b e fill joins each = λ h. absurd (cc)
       listed_same s range spec q join none item empty (Some xs) true e fill joins each =
           rw e (λ h. absurd (cc))
@@ -232,7 +233,8 @@ module _ {S : Type 0} (step : S → ℕ → S × List Token) (is_place : S → B
             item join) e s t h =
             rw h.1 (closed_same s kind q _ _ (found_same s name start _ _ (slots_under e name)
             (λ x. value_same s w spec q (slot_at w (values_of x)) h.0)))
-        node_same (node place end kind (Some (argument_content start name spec (target_list range) q))
+        node_same (node place end kind (Some (argument_content start name spec (target_list range)
+            q))
             item join) e s t h =
             rw h.3 (closed_same s kind q _ _ (found_same s name start _ _ (slots_under e name)
             (λ x. listed_same s range spec q _ _ _ _ (items x) (forbids_list spec) refl h.2
@@ -250,7 +252,8 @@ module _ {S : Type 0} (step : S → ℕ → S × List Token) (is_place : S → B
             value_same s traits.Display plain_spec q (slot_at traits.Display (values_of x)) h
         item_same (branch xs) e s q x h = forest_same xs (bind e x) s s h
 
-        forest_same : (xs : Forest) (e : Environment X) (s t : S) → ForestStands step is_place s xs t
+        forest_same : (xs : Forest) (e : Environment X) (s t : S)
+            → ForestStands step is_place s xs t
             → Same s t (forest_means shows e xs) (forest_means Empty e xs)
         forest_same no_nodes e s t h = rw h (same_nothing s)
         forest_same (nodes_and x xs) e s t h =

@@ -1,5 +1,6 @@
 -- Each byte that begins a character that may be escaped is a suspect.
-use Rattle.std.proofs.Common.{◌≡◌, ℕ, ◌<◌, Bool, true, false, ◌||◌, ◌&&◌, not, zero, suc, arith, refl}
+use Rattle.std.proofs.Common.{◌≡◌, ℕ, ◌<◌, Bool, true, false, ◌||◌, ◌&&◌, not, zero, suc, arith}
+use Rattle.std.proofs.Common.{refl}
 use Rattle.std.proofs.Common.{◌-◌}
 use Rattle.std.proofs.Common.{T, inl, inr, eq-zero-or-pos}
 use lib.Ieee.Fits.{and_l, and_r}

@@ -41,8 +41,8 @@ fn may_begin_escaped(escape: Escape, byte: u8) -> bool
     }
 }
 
-/// Returns whether a byte is one of [`may_begin_escaped`], or one of a few others: in a line, of all
-/// that are not ASCII. This takes fewer steps.
+/// Returns whether a byte is one of [`may_begin_escaped`], or one of a few others: in a line, one
+/// that is not ASCII. This takes fewer steps.
 #[inline(always)]
 fn is_suspect(escape: Escape, byte: u8) -> bool
     ensures { result ≡ is_suspect escape byte }
@@ -103,7 +103,8 @@ fn past_wide_blocks(escape: Escape, bytes: &[u8], from: usize) -> usize
     end
 }
 
-/// As [`past_wide_blocks`]: after as many blocks as there are of bytes that begin no such character.
+/// As [`past_wide_blocks`], after as many blocks as there are of bytes that begin no such
+/// character.
 #[inline(always)]
 fn past_blocks(escape: Escape, bytes: &[u8], from: usize) -> usize
     requires within { from ≤ length bytes.now }
