@@ -1,0 +1,226 @@
+-- The tokens of a rule. Texts are bytes.
+use Rattle.std.specs.Prelude.{◌≡◌, ⊤, ℕ, Bool, not, ◌&&◌, ◌||◌, ◌==◌, ◌-◌, ◌^◌, nat_lt, suc, zero}
+use Rattle.std.specs.Prelude.{List, [], ◌∷◌, codes, drop, length, take, if◌then◌else◌}
+use Rattle.std.specs.Prelude.{Option, None, Some}
+use Rattle.std.specs.Prelude.{Result, Ok, Err}
+use Rattle.std.specs.Borrow.{Bor}
+use Rattle.std.specs.Char.{is_ascii_digit, is_whitespace}
+use Rattle.std.specs.List.{list_all, list_any, position_or_len}
+use Rattle.std.specs.Option.{option_map, option_or}
+use Rattle.std.specs.Str.{bytes_eq, chars, trim_start}
+use Rattle.std.specs.Str.Parse.{digits_value}
+use Rattle.plurals.specs.declared.expression.Operator.{Operator}
+use Rattle.plurals.specs.declared.expression.Operator.TheVariants as operators
+use Rattle.plurals.specs.declared.fault.Fault.{Fault}
+use Rattle.plurals.specs.declared.fault.ParseError.{ParseError}
+use Rattle.plurals.specs.declared.fault.ParseError.TheVariants.{Broken, NoMemory}
+use Rattle.plurals.specs.declared.fault.Problem.{Problem}
+use Rattle.plurals.specs.declared.fault.Problem.TheVariants as problems
+use Rattle.plurals.specs.declared.token.Token.{Token}
+use Rattle.plurals.specs.declared.token.Token.TheVariants as tokens
+use Rattle.plurals.specs.declared.token.Placed.{Placed}
+use Rattle.plurals.specs.declared.token.Rest.{Rest}
+
+-- a token, borrows aside
+pub data Word : Type 0 where
+  name : List ℕ → Word
+  number : ℕ → Word
+  modulo : ℕ → Word
+  between : Operator → Word
+  bang : Word
+  open_bracket : Word
+  close_bracket : Word
+  question : Word
+  colon : Word
+
+abbrev pub as_word : Token → Word
+as_word (tokens.Name text) = name text.now
+as_word (tokens.Number n) = number n
+as_word (tokens.Remainder n) = modulo n
+as_word (tokens.Binary operator) = between operator
+as_word tokens.Not = bang
+as_word tokens.Open = open_bracket
+as_word tokens.Close = close_bracket
+as_word tokens.Question = question
+as_word tokens.Colon = colon
+
+-- a word, and the byte at which it begins
+abbrev pub Spot : Type 0
+Spot = ℕ × Word
+
+abbrev pub as_spot : Placed → Spot
+as_spot placed = (placed.place, as_word placed.token)
+
+-- what goes on after what was read, and stops at a fault
+infixl 10 ◌>>=◌
+abbrev pub ◌>>=◌ : {A B E : Type 0} → Result A E → (A → Result B E) → Result B E
+(Ok x) >>= next = next x
+(Err e) >>= next = Err e
+
+-- a word of two characters: `==`, `!=`, `<=`, `>=`, `||` or `&&`
+abbrev pub with_equals : ℕ → Option Word
+with_equals b =
+    if b == 61 then Some (between operators.Equal)
+    else if b == 33 then Some (between operators.Unequal)
+    else if b == 60 then Some (between operators.LessOrEqual)
+    else if b == 62 then Some (between operators.GreaterOrEqual)
+    else None
+
+abbrev pub twice : ℕ → Option Word
+twice b =
+    if b == 124 then Some (between operators.Or)
+    else if b == 38 then Some (between operators.And)
+    else None
+
+abbrev pub double : (b c : ℕ) → Option Word
+double b c = if c == 61 then with_equals b else if b == c then twice b else None
+
+-- a word of one character: `!`, `(`, `)`, `?`, `:`, `<` or `>`
+abbrev pub single : ℕ → Option Word
+single b =
+    if b == 33 then Some bang
+    else if b == 40 then Some open_bracket
+    else if b == 41 then Some close_bracket
+    else if b == 63 then Some question
+    else if b == 58 then Some colon
+    else if b == 60 then Some (between operators.Less)
+    else if b == 62 then Some (between operators.Greater)
+    else None
+
+-- a byte ends a name or a number: a blank, a tab, or one of `!%&()<=>?:|`
+abbrev pub ends_run : ℕ → Bool
+ends_run b = b == 32 || b == 9 || b == 33 || b == 37 || b == 38 || b == 40 || b == 41 || b == 58
+    || b == 60 || b == 61 || b == 62 || b == 63 || b == 124
+
+-- the longest front of a text that may be a name or a number, and what is after it
+abbrev pub run_of : List ℕ → List ℕ
+run_of text = take (position_or_len ends_run text) text
+
+abbrev pub after_run : List ℕ → List ℕ
+after_run text = drop (position_or_len ends_run text) text
+
+-- a text is one or more digits
+abbrev pub is_numeral : List ℕ → Bool
+is_numeral text = not (length text == 0) && list_all is_ascii_digit text
+
+-- the number that digits write, if it is below 2^64
+abbrev pub number_in : List ℕ → Option ℕ
+number_in text =
+    if is_numeral text && nat_lt (digits_value 10 text) (2 ^ 64)
+    then Some (digits_value 10 text) else None
+
+-- a text can be a name: it is not empty, and has no white space
+abbrev pub is_name : List ℕ → Bool
+is_name text = not (length text == 0) && not (list_any is_whitespace (chars text))
+
+-- the word that a run is: a number below 2^64, or a name
+abbrev pub word_in : (run : List ℕ) → Option ℕ → Option Word
+word_in run (Some n) = Some (number n)
+word_in run None = if not (is_numeral run) && is_name run then Some (name run) else None
+
+-- a word and the text after it, if there is one
+abbrev pub or_problem : Problem → List ℕ → Option Word → Result (Word × List ℕ) Problem
+or_problem problem rest None = Err problem
+or_problem problem rest (Some word) = Ok (word, rest)
+
+-- what stands after a `%`: a number that is not 0
+abbrev pub divisor_in : Option ℕ → Option Word
+divisor_in None = None
+divisor_in (Some n) = if n == 0 then None else Some (modulo n)
+
+abbrev pub divisor_at : List ℕ → Result (Word × List ℕ) Problem
+divisor_at text = or_problem problems.Divisor (after_run text) (divisor_in (number_in (run_of text)))
+
+abbrev pub run_at : List ℕ → Result (Word × List ℕ) Problem
+run_at text =
+    or_problem problems.Token (after_run text) (word_in (run_of text) (number_in (run_of text)))
+
+-- the sign with which a text begins, if it does, and the text after it
+abbrev pub double_at : List ℕ → Option (Word × List ℕ)
+double_at (b ∷ c ∷ rest) = option_map (λ word. (word, rest)) (double b c)
+double_at _ = None
+
+abbrev pub single_at : List ℕ → Option (Word × List ℕ)
+single_at [] = None
+single_at (b ∷ rest) = option_map (λ word. (word, rest)) (single b)
+
+-- what follows a `%`, if the text begins with one
+abbrev pub after_percent : List ℕ → Option (List ℕ)
+after_percent text = if bytes_eq (take 1 text) (codes "%") then Some (drop 1 text) else None
+
+-- the word with which a text begins, and the text after it: the longest sign, or else a run
+abbrev pub by_percent : List ℕ → Option (List ℕ) → Result (Word × List ℕ) Problem
+by_percent text None = run_at text
+by_percent text (Some rest) = divisor_at (trim_start rest)
+
+abbrev pub by_sign : List ℕ → Option (Word × List ℕ) → Result (Word × List ℕ) Problem
+by_sign text None = by_percent text (after_percent text)
+by_sign text (Some read) = Ok read
+
+abbrev pub word_at : List ℕ → Result (Word × List ℕ) Problem
+word_at text = by_sign text (option_or (double_at text) (single_at text))
+
+-- a problem at a place
+abbrev pub at : {A : Type 0} → ℕ → Result A Problem → Result A Fault
+at place (Ok x) = Ok x
+at place (Err problem) = Err (record { place = place; problem = problem })
+
+abbrev pub broken : ℕ → Problem → ParseError
+broken place problem = Broken (record { place = place; problem = problem })
+
+-- what a result is seen as
+abbrev pub seen : {A B E : Type 0} → (A → B) → Result A E → Result B E
+seen view (Ok x) = Ok (view x)
+seen view (Err e) = Err e
+
+-- a word and the text after it, borrows aside
+abbrev pub as_read : Token × Bor (List ℕ) → Word × List ℕ
+as_read read = (as_word read.0, read.1.now)
+
+-- a word at its place, and the text after it
+abbrev pub spot_of : ℕ → Word × List ℕ → Spot × List ℕ
+spot_of place read = ((place, read.0), read.1)
+
+-- the next word of a rule of which so many bytes are left to the end, if it has one
+abbrev pub next_at : (end : ℕ) → List ℕ → Result (Option (Spot × List ℕ)) Fault
+next_at end [] = Ok None
+next_at end (b ∷ bs) = seen (λ read. Some (spot_of (end - length (b ∷ bs)) read))
+    (at (end - length (b ∷ bs)) (word_at (b ∷ bs)))
+
+-- the words from one on, once it is read
+abbrev pub words_after : Option (Spot × List ℕ) → (List ℕ → Result (List Spot) Fault)
+    → Result (List Spot) Fault
+words_after None more = Ok []
+words_after (Some read) more = more read.1 >>= λ spots. Ok (read.0 ∷ spots)
+
+-- no word is left
+abbrev pub no_word : Option (Spot × List ℕ) → Result (List Spot) Fault
+no_word None = Ok []
+no_word (Some read) = Err (record { place = read.0.0; problem = problems.Long })
+
+abbrev pub end_of : Result (Option (Spot × List ℕ)) Fault → Result (List Spot) Fault
+end_of next = next >>= no_word
+
+-- the words of a text, at most so many
+abbrev pub words_from : ℕ → (end : ℕ) → List ℕ → Result (List Spot) Fault
+words_from zero end text = end_of (next_at end (trim_start text))
+words_from (suc left) end text =
+    next_at end (trim_start text) >>= λ read. words_after read (words_from left end)
+
+-- how many words a rule may have
+unfoldable pub limit : ℕ
+limit = 1000
+
+-- the words of a rule
+abbrev pub words_of : List ℕ → Result (List Spot) Fault
+words_of rule = words_from limit (length rule) rule
+
+-- what a function returned, as it is seen, is what reading gives, unless memory ran out
+abbrev pub Gives : {X Y : Type 0} → (X → Y) → Result X ParseError → Result Y Fault → Type 0
+Gives view (Ok x) read = read ≡ Ok (view x)
+Gives view (Err (Broken fault)) read = read ≡ Err fault
+Gives view (Err NoMemory) read = ⊤
+
+-- a token at its place and what is left, borrows aside
+abbrev pub as_next : Placed × Rest → Spot × List ℕ
+as_next next = (as_spot next.0, next.1.text.now)
