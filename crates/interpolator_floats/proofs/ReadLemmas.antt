@@ -31,11 +31,11 @@ cmp a b = go (compare a b) (leb→le a b) (nleb→lt a b) (eqb→eq a b) (λ (e 
     go Ordering.eq h k e n = e tt
     go Ordering.gt h k e n = k tt
 
-slack-le : (m : ℕ) → (if m % 2 == 0 then 1 else 0) ≤ 1
+pub slack-le : (m : ℕ) → (if m % 2 == 0 then 1 else 0) ≤ 1
 slack-le m = grind arith
 
 -- a fraction less than a half off m, or half and m even, is nearest to m
-closest_inside : (a b m : ℕ) → 0 < b → 0 < m → 2 * (m * b) < 2 * a + b + (if m % 2 == 0 then 1 else 0) → 2 * a < 2 * (m * b) + b + (if m % 2 == 0 then 1 else 0) → closest a b ≡ m
+pub closest_inside : (a b m : ℕ) → 0 < b → 0 < m → 2 * (m * b) < 2 * a + b + (if m % 2 == 0 then 1 else 0) → 2 * a < 2 * (m * b) + b + (if m % 2 == 0 then 1 else 0) → closest a b ≡ m
 closest_inside a b m B M low high =
     let s1 = slack-le m in
     let next : (m + 1) * b ≡ m * b + b = omega arith in
@@ -128,7 +128,7 @@ reads m power places count P N M bottom i =
 slack_even : (m : ℕ) → m % 2 ≡ 0 → 1 ≤ (if m % 2 == 0 then 1 else 0)
 slack_even m h = grind (arith, h)
 
-closest_only : (a b m : ℕ) → 0 < b → closest a b ≡ m
+pub closest_only : (a b m : ℕ) → 0 < b → closest a b ≡ m
     → (2 * (m * b) < 2 * a + b + (if m % 2 == 0 then 1 else 0)) × (2 * a < 2 * (m * b) + b + (if m % 2 == 0 then 1 else 0))
 closest_only a b m B e = go (a / b) (compare (a % b * 2) b) (a % b) (div-add-mod' a b) (mod-lt a B) (cmp (a % b * 2) b) e
   where
@@ -172,12 +172,12 @@ grid_at power c t T0 P bottom above =
     let cross : n * t ≡ a * (t * 2 ^ power) = ap (λ x. x * t) whole ∙ mul_assoc a (2 ^ power) t ∙ ap (λ x. a * x) (mul_comm (2 ^ power) t) in
     (λ i. closest n (t * 2 ^ z i) * 2 ^ z i) ∙ ap (λ x. x * 2 ^ power) (closest_same n (t * 2 ^ power) a t (mul-pos T0 some) T0 cross)
 
-same_size : (x : Float) (a b : ℕ) → HasValue x false a (2 ^ 1074) → HasValue x false b (2 ^ 1074) → a ≡ b
+pub same_size : (x : Float) (a b : ℕ) → HasValue x false a (2 ^ 1074) → HasValue x false b (2 ^ 1074) → a ≡ b
 same_size nan a b v w = absurd v
 same_size (inf s) a b v w = absurd v
 same_size (fin s m e) a b v w = eq_of_mul-eq-mul_right (down e) (down_pos e) a b (sym v.1 ∙ w.1)
 
-finite_of : (x : Float) (a c : ℕ) → HasValue x false a c → T (finite x)
+pub finite_of : (x : Float) (a c : ℕ) → HasValue x false a c → T (finite x)
 finite_of nan a c v = v
 finite_of (inf s) a c v = absurd v
 finite_of (fin s m e) a c v = tt

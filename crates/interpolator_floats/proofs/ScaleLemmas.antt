@@ -4,19 +4,19 @@ use Rattle.std.proofs.Common.{arith, eq-zero-or-pos, inl, inr, leb→le}
 use Rattle.std.proofs.Math.Nat.{pow-le-pow_right, mul-le-mul, div-lt_iff_lt-mul}
 use lib.Pow.{pow_pos}
 
-abbrev holds_below : (ℕ → Bool) → ℕ → Bool
+abbrev pub holds_below : (ℕ → Bool) → ℕ → Bool
 holds_below test zero = true
 holds_below test (suc n) = test n && holds_below test n
 
-and_l : (a b : Bool) → T (a && b) → T a
+pub and_l : (a b : Bool) → T (a && b) → T a
 and_l true b t = tt
 and_l false b t = t
 
-and_r : (a b : Bool) → T (a && b) → T b
+pub and_r : (a b : Bool) → T (a && b) → T b
 and_r true b t = t
 and_r false b t = absurd t
 
-at_below : (test : ℕ → Bool) (n p : ℕ) → T (holds_below test n) → p < n → T (test p)
+pub at_below : (test : ℕ → Bool) (n p : ℕ) → T (holds_below test n) → p < n → T (test p)
 at_below test zero p t h = absurd (omega arith)
 at_below test (suc n) p t h = elim (eq-zero-or-pos (n - p)) [
   | inl z ↦ let e : p ≡ n = omega arith in rw e (and_l _ (holds_below test n) t)

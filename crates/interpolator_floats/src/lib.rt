@@ -2,7 +2,8 @@
 //!
 //! A finite float is a decimal, and what is proved of decimals holds of it. [`word`] is the text of
 //! a float that is not finite, [`is_negative`] says whether a minus is written, [`digits_at`] gives
-//! the digits at a precision, and [`exponent_digits`] those of exponent form. No memory is taken.
+//! the digits at a precision, [`exponent_digits`] those of exponent form, and [`shortest_digits`] the
+//! fewest that read back. No memory is taken.
 //!
 //! ```text
 //! let mut room = [0; MOST_DIGITS];
@@ -17,6 +18,7 @@ mod digits;
 mod exact;
 mod exponent;
 mod parts;
+mod shortest;
 #[cfg(test)]
 mod tests;
 mod words;
@@ -27,4 +29,5 @@ pub use choice::{
 pub use digits::{FloatDigits, float_digits, float_is_decimal};
 pub use exact::{DigitsAt, ExactDigits, MOST_DIGITS, digits_at, exact_digits};
 pub use exponent::{ExponentDigits, exponent_digits};
-pub use parts::{FloatParts, float_parts, is_negative, odd_parts, word};
+pub use parts::{FloatParts, f32_parts, float_parts, is_negative, odd_parts, word};
+pub use shortest::{Shortest, shortest_digits, shortest_f32_digits};

@@ -18,6 +18,7 @@ pub fn float_parts(x: f64) -> FloatParts
     ensures value { HasValue x result.negative (result.mantissa * 2 ^ result.power) (2 ^ 1074) }
     ensures short { result.mantissa < 2 ^ 53 }
     ensures low { result.power ≤ 2045 }
+    ensures normal { 0 < result.power → 2 ^ 52 ≤ result.mantissa }
 {
     let bits = x.to_bits();
     let negative = bits >= 0x8000_0000_0000_0000;
@@ -34,6 +35,33 @@ pub fn float_parts(x: f64) -> FloatParts
         negative,
         mantissa: low + 0x0010_0000_0000_0000,
         power: (field - 1) as u32,
+    }
+}
+
+/// As [`float_parts`], of an `f32`. Its least step is 2 ^ 925 of the steps.
+pub fn f32_parts(x: f32) -> FloatParts
+    requires { IsTrue (float_is_finite x) }
+    ensures value { HasValue x result.negative (result.mantissa * 2 ^ result.power) (2 ^ 1074) }
+    ensures short { result.mantissa < 2 ^ 24 }
+    ensures least { 925 ≤ result.power }
+    ensures low { result.power ≤ 1178 }
+    ensures normal { 925 < result.power → 2 ^ 23 ≤ result.mantissa }
+{
+    let bits = x.to_bits();
+    let negative = bits >= 0x8000_0000;
+    let field = bits / 0x0080_0000 % 256;
+    let low = bits % 0x0080_0000;
+    if field == 0 {
+        return FloatParts {
+            negative,
+            mantissa: low as u64,
+            power: 925,
+        };
+    }
+    FloatParts {
+        negative,
+        mantissa: low as u64 + 0x0080_0000,
+        power: field + 924,
     }
 }
 

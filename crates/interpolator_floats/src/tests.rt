@@ -4,6 +4,7 @@ use crate::digits::FloatDigits;
 use crate::exact::{DigitsAt, ExactDigits, MOST_DIGITS, digits_at};
 use crate::exponent::exponent_digits;
 use crate::parts::{is_negative, word};
+use crate::shortest::{shortest_digits, shortest_f32_digits};
 use std::alloc::{AllocError, Global};
 
 /// A float, a precision, and the text.
@@ -132,6 +133,58 @@ const EXPONENT_AT_PRECISION: [PrecisionRow; 24] = [
     (1.75e-7, 1, "1.7e-7"),
 ];
 
+/// Floats, their shortest digits, and the exponent of the last.
+const SHORTEST: [(f64, u64, i32); 30] = [
+    (0.0, 0, 0),
+    (1.0, 1, 0),
+    (0.1, 1, -1),
+    (0.3, 3, -1),
+    (0.30000000000000004, 30000000000000004, -17),
+    (100.0, 1, 2),
+    (123.0, 123, 0),
+    (1e16, 1, 16),
+    (1e21, 1, 21),
+    (1e22, 1, 22),
+    (1e23, 1, 23),
+    (9.5e22, 95, 21),
+    (9007199254740992.0, 9007199254740992, 0),
+    (9007199254740992.0, 9007199254740992, 0),
+    (9007199254740994.0, 9007199254740994, 0),
+    (4503599627370496.0, 4503599627370496, 0),
+    (1125899906842624.3, 11258999068426243, -1),
+    (5e-324, 5, -324),
+    (1e-323, 1, -323),
+    (1.5e-323, 15, -324),
+    (2.2250738585072014e-308, 22250738585072014, -324),
+    (2.225073858507201e-308, 2225073858507201, -323),
+    (1.7976931348623157e308, 17976931348623157, 292),
+    (9.5367431640625e-7, 95367431640625, -20),
+    (1.1754943508222875e-38, 11754943508222875, -54),
+    (3.0517578125e-5, 30517578125, -15),
+    (7317770170789331.0, 7317770170789331, 0),
+    (2.9802322387695313e-8, 29802322387695313, -24),
+    (1e-200, 1, -200),
+    (6.02214076e23, 602214076, 15),
+];
+
+/// The same by 32 bits.
+const SHORTEST_F32: [(f32, u64, i32); 14] = [
+    (0.0, 0, 0),
+    (1.0, 1, 0),
+    (0.1, 1, -1),
+    (0.3, 3, -1),
+    (16777216.0, 16777216, 0),
+    (16777218.0, 16777218, 0),
+    (10000000000.0, 1, 10),
+    (1e-45, 1, -45),
+    (1e-44, 1, -44),
+    (1.1754944e-38, 11754944, -45),
+    (1.1754942e-38, 11754942, -45),
+    (3.4028235e38, 34028235, 31),
+    (0.00012207031, 12207031, -11),
+    (33554432.0, 33554432, 0),
+];
+
 /// The greatest float.
 const GREATEST: [&str; 4] = [
     "17976931348623157081452742373170435679807056752584499659891747680315726078002853",
@@ -254,6 +307,28 @@ fn exponent_texts_at_precisions(rt: HostRuntime) -> Result<(), AllocError> {
         assert_eq!(rt; shown.as_str(), text, "{x} at {precision}");
     }
     Ok(())
+}
+
+#[test]
+fn shortest_digits_of_floats(rt: HostRuntime) {
+    for (x, digits, exponent) in SHORTEST {
+        if x.is_finite() {
+            let shown = shortest_digits(x);
+            assert_eq!(rt; shown.digits, digits, "{x}");
+            assert_eq!(rt; shown.up as i64 - shown.down as i64, exponent as i64, "{x}");
+        }
+    }
+}
+
+#[test]
+fn shortest_digits_of_short_floats(rt: HostRuntime) {
+    for (x, digits, exponent) in SHORTEST_F32 {
+        if x.is_finite() {
+            let shown = shortest_f32_digits(x);
+            assert_eq!(rt; shown.digits, digits, "{x}");
+            assert_eq!(rt; shown.up as i64 - shown.down as i64, exponent as i64, "{x}");
+        }
+    }
 }
 
 #[test]

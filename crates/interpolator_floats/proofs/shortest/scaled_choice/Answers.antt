@@ -1,0 +1,78 @@
+use Rattle.std.proofs.Common.{◌≡◌, ◌↔◌, ℕ, ◌-◌, ◌+◌, ◌*◌, ◌/◌, ◌%◌, ◌^◌, ◌<◌, ◌≤◌, ap, arith, subst, sym, ◌∙◌}
+use Rattle.interpolator_floats.proofs.BoundLemmas.{slack}
+use Rattle.interpolator_floats.proofs.DecideLemmas.{bounds_narrow, choice_some, inside, last_some, low_next, near_high, near_low, near_most, slack_odd, some_count, within}
+use Rattle.interpolator_floats.proofs.ReadLemmas.{slack-le}
+use Rattle.interpolator_floats.proofs.UnitLemmas.{count_short, step_some, unit_some}
+use Rattle.interpolator_floats.specs.Floats.{IsChoice}
+use Rattle.interpolator_floats.specs.Shortest.{units_down, units_up}
+use Rattle.interpolator_floats.proofs.shortest.scaled_choice.Goals as goal
+
+pub first_inside-low-requires : goal.first_inside-low-requires
+first_inside-low-requires c =
+    let scale = c.scale_of-scale in
+    omega (arith, c.units_in.ensures.count, count_short (4 * c.args.mantissa - c.args.half) c.args.power c.args.half scale.result.up scale.result.down (omega (arith, c.requires.short)) c.requires.least scale.ensures.scale)
+
+pub last_inside-high-requires : goal.last_inside-high-requires
+last_inside-high-requires c =
+    let scale = c.scale_of-scale in
+    omega (arith, c.units_in-2.ensures.count, last_some c.args.mantissa c.args.half (units_down c.args.power scale.result.down) (units_up scale.result.up) c.requires.some c.requires.most scale.ensures.scale.finer (unit_some scale.result.up))
+
+pub overflow_add-near : goal.overflow_add-near
+overflow_add-near c =
+    let scale = c.scale_of-scale in
+    omega (arith, c.units_in-3.ensures.count, count_short (8 * c.args.mantissa) c.args.power c.args.half scale.result.up scale.result.down (omega (arith, c.requires.short)) c.requires.least scale.ensures.scale)
+
+pub returns-clause-choice : goal.returns-clause-choice
+returns-clause-choice c =
+    let scale = c.scale_of-scale in
+    let m = c.args.mantissa in
+    let half = c.args.half in
+    let d = units_down c.args.power scale.result.down in
+    let unit = units_up scale.result.up in
+    let U = unit_some scale.result.up in
+    let first = c.first_inside-low.ensures ((4 * m - half) * d) unit U (sym c.units_in.ensures.count) c.units_in.ensures.some c.units_in.ensures.none in
+    let last = c.last_inside-high.ensures ((4 * m + 2) * d) unit U (sym c.units_in-2.ensures.count) c.units_in-2.ensures.some c.units_in-2.ensures.none in
+    let odd = slack_odd m half c.requires.least c.requires.most c.requires.even in
+    let finer = scale.ensures.scale.finer in
+    let wide = scale.ensures.scale.least in
+    let q = c.units_in-3.result.count in
+    let twice = sym c.units_in-3.ensures.count in
+    let low = c.first_inside-low.result in
+    let high = c.last_inside-high.result in
+    c.decided.ensures (4 * (m * d)) unit (half * d + slack m) (2 * d + slack m) U
+    (bounds_narrow m half d unit (slack m) q low high c.requires.some (slack-le m) c.requires.least c.requires.most finer wide odd twice first last)
+    (within m half d unit (slack m) q low high c.requires.some (slack-le m) c.requires.least c.requires.most finer wide odd twice first last)
+    (inside m half d unit (slack m) q low high c.requires.some (slack-le m) c.requires.least c.requires.most finer wide odd twice first last)
+    (near_low m half d unit (slack m) q low high c.requires.some (slack-le m) c.requires.least c.requires.most finer wide odd twice first last)
+    (near_high m half d unit (slack m) q low high c.requires.some (slack-le m) c.requires.least c.requires.most finer wide odd twice first last)
+    (near_most m half d unit (slack m) q low high c.requires.some (slack-le m) c.requires.least c.requires.most finer wide odd twice first last)
+    (low_next m half d unit (slack m) q low high c.requires.some (slack-le m) c.requires.least c.requires.most finer wide odd twice first last)
+    (some_count m half d unit (slack m) q low high c.requires.some (slack-le m) c.requires.least c.requires.most finer wide odd twice first last)
+
+pub returns-clause-some : goal.returns-clause-some
+returns-clause-some c =
+    let scale = c.scale_of-scale in
+    let m = c.args.mantissa in
+    let half = c.args.half in
+    let d = units_down c.args.power scale.result.down in
+    let unit = units_up scale.result.up in
+    let U = unit_some scale.result.up in
+    let first = c.first_inside-low.ensures ((4 * m - half) * d) unit U (sym c.units_in.ensures.count) c.units_in.ensures.some c.units_in.ensures.none in
+    let last = c.last_inside-high.ensures ((4 * m + 2) * d) unit U (sym c.units_in-2.ensures.count) c.units_in-2.ensures.some c.units_in-2.ensures.none in
+    let odd = slack_odd m half c.requires.least c.requires.most c.requires.even in
+    let finer = scale.ensures.scale.finer in
+    let wide = scale.ensures.scale.least in
+    let q = c.units_in-3.result.count in
+    let twice = sym c.units_in-3.ensures.count in
+    let low = c.first_inside-low.result in
+    let high = c.last_inside-high.result in
+    let choice = c.decided.ensures (4 * (m * d)) unit (half * d + slack m) (2 * d + slack m) U
+    (bounds_narrow m half d unit (slack m) q low high c.requires.some (slack-le m) c.requires.least c.requires.most finer wide odd twice first last)
+    (within m half d unit (slack m) q low high c.requires.some (slack-le m) c.requires.least c.requires.most finer wide odd twice first last)
+    (inside m half d unit (slack m) q low high c.requires.some (slack-le m) c.requires.least c.requires.most finer wide odd twice first last)
+    (near_low m half d unit (slack m) q low high c.requires.some (slack-le m) c.requires.least c.requires.most finer wide odd twice first last)
+    (near_high m half d unit (slack m) q low high c.requires.some (slack-le m) c.requires.least c.requires.most finer wide odd twice first last)
+    (near_most m half d unit (slack m) q low high c.requires.some (slack-le m) c.requires.least c.requires.most finer wide odd twice first last)
+    (low_next m half d unit (slack m) q low high c.requires.some (slack-le m) c.requires.least c.requires.most finer wide odd twice first last)
+    (some_count m half d unit (slack m) q low high c.requires.some (slack-le m) c.requires.least c.requires.most finer wide odd twice first last) in
+    choice_some m half d unit (slack m) c.decided.result.count c.requires.some c.requires.most (slack-le m) (step_some c.args.power scale.result.down) choice.inside
