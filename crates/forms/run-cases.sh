@@ -1,0 +1,19 @@
+#!/usr/bin/env bash
+# Runs the built program with each growth of memory and each write refused in turn: it prints the
+# whole page, or reports that memory ran out and prints none of it.
+#
+# usage: run-cases.sh [PROGRAM..]
+set -u
+
+here=$(cd "$(dirname "$0")" && pwd)
+name=forms
+wanted=1
+. "$here/../../.ci/cases.sh"
+
+all_cases() {
+    local page
+    page=$(held "$here/stdout")
+    refusals_of 0 "${page%x}" ''
+}
+
+run_cases "$@"
