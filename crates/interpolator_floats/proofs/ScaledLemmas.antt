@@ -1,6 +1,6 @@
 -- A choice by other units of one value.
-use Rattle.std.proofs.Common.{◌≡◌, ◌⊎◌, ℕ, ◌<◌, ◌≤◌, ◌-◌, ◌+◌, ◌*◌, ◌%◌, ◌^◌, Bool, true, false, if◌then◌else◌, ◌==◌}
-use Rattle.std.proofs.Common.{inl, inr, sym, ap, ◌∙◌, arith, subst, pow-add, mul_assoc}
+use Rattle.std.proofs.Common.{◌≡◌, ◌⊎◌, ℕ, ◌<◌, ◌≤◌, ◌+◌, ◌*◌, ◌^◌, Bool}
+use Rattle.std.proofs.Common.{inl, inr, refl, sym, ap, ◌∙◌, arith, subst, pow-add, mul_assoc}
 use Rattle.std.proofs.Math.Nat.{mul_comm, mul-le-mul_right, mul-lt-mul_of_pos_right}
 use lib.Pow.{pow_pos}
 use Rattle.interpolator_render.specs.Exponent.{distance}
@@ -78,6 +78,7 @@ module _ (m power down scale count : ℕ) (tens : Bool) (is_down : power + down 
         least = omega (arith, b, unit_is, step_is);
         up_small = omega arith;
         down_small = omega (arith, small);
+        plain = inl refl;
         least_floats = λ e. absurd (not_least e);
       }
     where

@@ -1,7 +1,7 @@
 -- The shortest digits of a float of a format, from a choice inside its bounds.
-use Rattle.std.proofs.Common.{◌≡◌, ◌≢◌, ◌⊎◌, ℕ, ◌<◌, ◌≤◌, ◌-◌, ◌+◌, ◌*◌, ◌/◌, ◌%◌, ◌^◌, Bool, true, false, T}
+use Rattle.std.proofs.Common.{◌≡◌, ◌≢◌, ◌⊎◌, ℕ, ◌<◌, ◌≤◌, ◌-◌, ◌+◌, ◌*◌, ◌%◌, ◌^◌, Bool, true, false}
 use Rattle.std.proofs.Common.{refl, sym, ap, ◌∙◌, arith, eq-zero-or-pos, inl, inr, subst, pow-add, mul_assoc}
-use Rattle.std.proofs.Math.Nat.{lt_of_lt_of_le, mul_comm, mul_right_comm, mul-le-mul_right, mul-pos, le_trans}
+use Rattle.std.proofs.Math.Nat.{lt_of_lt_of_le, mul_right_comm, mul-le-mul_right, mul-pos, le_trans}
 use native.Mathlib.Nat.{eq_of_mul-eq-mul_right, le_of_mul-le-mul_right}
 use lib.Pow.{pow_mono, pow_pos, shl_lt}
 use lib.Ieee.{Float, Format, binary32, binary64, nan, inf, fin, low, prec, round}
@@ -24,7 +24,7 @@ value_scaled nan s a c k v = absurd v
 value_scaled (inf t) s a c k v = absurd v
 value_scaled (fin t m e) s a c k v = (v.0, sym (mul_assoc (m * lib.Ieee.up e) c k) ∙ ap (λ x. x * k) v.1 ∙ mul_right_comm a (lib.Ieee.down e) k)
 
-value_unscaled : (x : Float) (s : Bool) (a c k : ℕ) → 0 < k → HasValue x s (a * k) (c * k) → HasValue x s a c
+pub value_unscaled : (x : Float) (s : Bool) (a c k : ℕ) → 0 < k → HasValue x s (a * k) (c * k) → HasValue x s a c
 value_unscaled nan s a c k K v = absurd v
 value_unscaled (inf t) s a c k K v = absurd v
 value_unscaled (fin t m e) s a c k K v =

@@ -46,6 +46,7 @@ pub record IsScale (power half up down : ℕ) : Type 0 where
   pub least : (half + 2) * units_down power down < 10 * units_up up
   pub up_small : up ≤ 300
   pub down_small : down ≤ 324
+  pub plain : up ≡ 0 ⊎ down ≡ 0
   pub least_floats : power ≡ 0 ⊎ power ≡ 925 → (mantissa : ℕ) → mantissa < 10
       → 10 * units_up up < (4 * mantissa + 2) * units_down power down + 1
       → 19 * units_up up ≤ 8 * (mantissa * units_down power down)

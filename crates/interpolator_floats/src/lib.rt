@@ -18,6 +18,7 @@ mod digits;
 mod exact;
 mod exponent;
 mod parts;
+mod plain;
 mod shortest;
 #[cfg(test)]
 mod tests;
@@ -30,4 +31,7 @@ pub use digits::{FloatDigits, float_digits, float_is_decimal};
 pub use exact::{DigitsAt, ExactDigits, MOST_DIGITS, digits_at, exact_digits};
 pub use exponent::{ExponentDigits, exponent_digits};
 pub use parts::{FloatParts, f32_parts, float_parts, is_negative, odd_parts, word};
-pub use shortest::{Shortest, shortest_digits, shortest_f32_digits};
+pub use plain::{PlainDigits, ScientificDigits, plain_digits, scientific_digits};
+pub use shortest::{
+    Shortest, shortest_digits, shortest_f32_digits, shortest_f32_is_shortest, shortest_is_shortest,
+};

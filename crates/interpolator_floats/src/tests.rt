@@ -2,8 +2,9 @@
 
 use crate::digits::FloatDigits;
 use crate::exact::{DigitsAt, ExactDigits, MOST_DIGITS, digits_at};
-use crate::exponent::exponent_digits;
+use crate::exponent::{ExponentDigits, exponent_digits};
 use crate::parts::{is_negative, word};
+use crate::plain::{plain_digits, scientific_digits};
 use crate::shortest::{shortest_digits, shortest_f32_digits};
 use std::alloc::{AllocError, Global};
 
@@ -185,6 +186,29 @@ const SHORTEST_F32: [(f32, u64, i32); 14] = [
     (33554432.0, 33554432, 0),
 ];
 
+/// Floats, their shortest texts, and those of exponent form.
+const SHORTEST_TEXTS: [(f64, &str, &str); 11] = [
+    (0.0, "0", "0e0"),
+    (7.0, "7", "7e0"),
+    (0.025, "0.025", "2.5e-2"),
+    (123.456, "123.456", "1.23456e2"),
+    (1.5e9, "1500000000", "1.5e9"),
+    (1e21, "1000000000000000000000", "1e21"),
+    (1e-7, "0.0000001", "1e-7"),
+    (1.5e-25, "0.00000000000000000000000015", "1.5e-25"),
+    (
+        0.30000000000000004,
+        "0.30000000000000004",
+        "3.0000000000000004e-1",
+    ),
+    (
+        9007199254740993.0,
+        "9007199254740992",
+        "9.007199254740992e15",
+    ),
+    (1.25e-19, "0.000000000000000000125", "1.25e-19"),
+];
+
 /// The greatest float.
 const GREATEST: [&str; 4] = [
     "17976931348623157081452742373170435679807056752584499659891747680315726078002853",
@@ -257,14 +281,11 @@ fn text_at(alloc: Global, x: f64, precision: usize) -> Result<String, AllocError
     Ok(text)
 }
 
-/// The text of a finite float in exponent form at a precision.
-fn exponent_text_at(alloc: Global, x: f64, precision: usize) -> Result<String, AllocError> {
-    let mut text = String::new(alloc);
-    if !x.is_finite() {
-        return Ok(text);
-    }
-    let mut room = [0u8; MOST_DIGITS];
-    let shown = exponent_digits(x, precision, &mut room);
+fn put_exponent_form(
+    text: &mut String,
+    alloc: Global,
+    shown: ExponentDigits<'_>,
+) -> Result<(), AllocError> {
     for (i, digit) in shown.digits.chars().enumerate() {
         if i == 1 {
             text.push('.')?;
@@ -274,11 +295,51 @@ fn exponent_text_at(alloc: Global, x: f64, precision: usize) -> Result<String, A
     if shown.digits.len() == 1 && shown.zeros > 0 {
         text.push('.')?;
     }
-    put_zeros(&mut text, shown.zeros)?;
+    put_zeros(text, shown.zeros)?;
     text.push_str(if shown.below { "e-" } else { "e" })?;
     let size = format!(in alloc; "{}", shown.size)?;
-    text.push_str(size.as_str())?;
+    text.push_str(size.as_str())
+}
+
+/// The text of a finite float in exponent form at a precision.
+fn exponent_text_at(alloc: Global, x: f64, precision: usize) -> Result<String, AllocError> {
+    let mut text = String::new(alloc);
+    if !x.is_finite() {
+        return Ok(text);
+    }
+    let mut room = [0u8; MOST_DIGITS];
+    let shown = exponent_digits(x, precision, &mut room);
+    put_exponent_form(&mut text, alloc, shown)?;
     Ok(text)
+}
+
+/// The text of the shortest digits of a finite float, and that of exponent form.
+fn shortest_texts(alloc: Global, x: f64) -> Result<(String, String), AllocError> {
+    let mut plain = String::new(alloc);
+    let mut form = String::new(alloc);
+    if !x.is_finite() {
+        return Ok((plain, form));
+    }
+    let shown = shortest_digits(x);
+    let parts = plain_digits(shown);
+    let split = FloatDigits {
+        whole: parts.whole as u128,
+        part: parts.part as u128,
+        places: parts.places,
+        zeros: 0,
+    };
+    put_short(&mut plain, alloc, split)?;
+    put_zeros(&mut plain, parts.tens)?;
+    let number = scientific_digits(shown);
+    let digits = format!(in alloc; "{}", number.digits)?;
+    let exponent = ExponentDigits {
+        digits: digits.as_str(),
+        zeros: 0,
+        below: number.below,
+        size: number.size,
+    };
+    put_exponent_form(&mut form, alloc, exponent)?;
+    Ok((plain, form))
 }
 
 fn joined(alloc: Global, pieces: &[&str]) -> Result<String, AllocError> {
@@ -329,6 +390,17 @@ fn shortest_digits_of_short_floats(rt: HostRuntime) {
             assert_eq!(rt; shown.up as i64 - shown.down as i64, exponent as i64, "{x}");
         }
     }
+}
+
+#[test]
+fn shortest_texts_of_floats(rt: HostRuntime) -> Result<(), AllocError> {
+    let alloc = rt.alloc();
+    for (x, plain, form) in SHORTEST_TEXTS {
+        let (shown, exponent) = shortest_texts(alloc, x)?;
+        assert_eq!(rt; shown.as_str(), plain, "{x}");
+        assert_eq!(rt; exponent.as_str(), form, "{x}");
+    }
+    Ok(())
 }
 
 #[test]

@@ -1,4 +1,4 @@
-use Rattle.std.proofs.Common.{◌≡◌, ◌-◌, ◌+◌, arith}
+use Rattle.std.proofs.Common.{◌-◌, arith}
 use Rattle.interpolator_floats.proofs.DecideLemmas.{choice_some}
 use Rattle.interpolator_floats.proofs.ReadLemmas.{slack-le}
 use Rattle.interpolator_floats.proofs.BoundLemmas.{slack}

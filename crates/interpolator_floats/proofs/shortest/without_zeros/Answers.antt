@@ -1,4 +1,4 @@
-use Rattle.std.proofs.Common.{◌≡◌, ◌*◌, ◌/◌, ◌^◌, ◌<◌, arith, rules}
+use Rattle.std.proofs.Common.{arith, rules}
 use Rattle.interpolator_floats.proofs.UnitLemmas.{few_zeros, zero_off}
 use Rattle.interpolator_floats.proofs.shortest.without_zeros.Goals as goal
 
