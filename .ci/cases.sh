@@ -111,9 +111,11 @@ wants_memory() {
         || [[ $ended -eq 3 && $err == *$': out of memory\n'* ]]
 }
 
-# is_cut: whether a run has the status of a refused write, and wrote a beginning of its answer.
+# is_cut: whether a run has the status of a refused write, wrote a beginning of its answer, and may
+# have said that it could not.
 is_cut() {
-    [[ $ended -eq 3 && $wanted_out == "$out"* && $wanted_err == "$err"* ]]
+    [[ $ended -eq 3 && $wanted_out == "$out"* ]] \
+        && [[ $wanted_err == "$err"* || $err == 'cannot write: '* ]]
 }
 
 # is_fair VARIABLE: whether a run in which this was refused ended as it may.

@@ -6,7 +6,7 @@
 # usage: run-cases.sh [PROGRAM..]
 set -u
 
-usage='usage: merge [--separator , | ; | tab] [--latin1] TEMPLATE TABLE'
+usage='usage: merge [--separator , | ; | tab] [--latin1] [--partial] [--if-empty NAME=TEMPLATE] [--] TEMPLATE TABLE'
 stray='a stray quote: write the field in quotes, and double those in it'
 unclosed='a quote that is never closed'
 after_quote='text after a closing quote: double the quotes in a field'
@@ -15,7 +15,7 @@ wanted_number='wants a number, such as -7 or 12.50'
 greatest=170141183460469231731687303715884105727
 here=$(cd "$(dirname "$0")" && pwd)
 name=merge
-wanted=91
+wanted=107
 . "$here/../../.ci/cases.sh"
 
 # files TEMPLATE TABLE: what stands in the files `t` and `r`.
@@ -118,6 +118,52 @@ template_cases() {
     fault "$(printf '%s\n' \
         't:1:9: trait `LowerHex` not implemented, used by format argument at 8' \
         '  |' '1 | {b} {a:x}' '  |     ~~~~^')" '{b} {a:x}' $'a,b\n1\n'
+    fault "$(printf '%s\n' \
+        't:1:2: specified value not in context `q` at 1' '  |' '1 | {q}{a:x}' '  | ~^~' \
+        '  = did you mean `a`? names: `a`' \
+        't:1:8: trait `LowerHex` not implemented, used by format argument at 7' \
+        '  |' '1 | {q}{a:x}' '  |    ~~~~^')" '{q}{a:x}' $'a\n1\n'
+}
+
+# Another template for an empty field.
+other_template_cases() {
+    printf 'No {b};' >o
+    files '{a} {b};' $'a,b\n,1\nx,2\n" ",3\n"",4\n'
+    case_of file file 0 'No 1;x 2;  3;No 4;' '' --if-empty a=o t r
+    case_of file file 1 '' $'r:1: no column has the name `c`\n' --if-empty c=o t r
+    case_of file file 2 '' "$usage"$'\n' --if-empty a t r
+    case_of file file 3 '' $'none: No such file or directory (os error 2)\n' --if-empty a=none t r
+    printf '{q}' >o
+    case_of file file 1 '' "$(printf '%s\n' 'o:1:2: specified value not in context `q` at 1' '  |' \
+        '1 | {q}' '  | ~^~' '  = did you mean `a`? names: `a`, `b`')"$'\n' --if-empty a=o t r
+    files '<{a}>' $'a,b\n1\n,2\n'
+    printf '{b}' >o
+    case_of file file 1 '' $'r:2: 1 field, but line 1 has 2\n' --if-empty a=o t r
+}
+
+# The letters of the records before the first that is wrong.
+partial_cases() {
+    files '<{a}>' $'a,b\n1,2\n3\n4,5\n6"\n'
+    case_of file file 1 '<1>' "r:3: 1 field, but line 1 has 2"$'\n'"r:5:2: $stray"$'\n' --partial t r
+    files '<{a}>' $'a,a\n1,2\n'
+    case_of file file 1 '' $'r:1: column 2 has the name of an earlier column\n' --partial t r
+    files '<{a}>' $'a\n1\n2\n'
+    case_of file file 0 '<1><2>' '' --partial t r
+}
+
+# More columns than a comparison of each with all before it could take, and more letters than the
+# memory that one takes.
+large_cases() {
+    printf 'a' >t
+    { seq 1000000 | paste -sd , -; seq 1000000 | paste -sd , -; } >r
+    case_of file file 0 'a' '' t r
+    printf '{a}\n' >t
+    { echo a; seq 200000; } >r
+    if (ulimit -v 65536; timeout 60 "$program" t r) | cmp -s - <(seq 200000); then
+        passed=$((passed + 1))
+    else
+        fail 'other letters of 200,000 records in 64 MB'
+    fi
 }
 
 table_cases() {
@@ -151,6 +197,7 @@ other_cases() {
     case_of file file 2 '' "$usage"$'\n' t r r
     case_of file file 2 '' "$usage"$'\n' -t r
     case_of file file 2 '' "$usage"$'\n' t --help
+    case_of file file 0 "$(sed -n "/^const HELP/,/^\";/p" "$here/src/main.rt" | sed '1d;$d')"$'\n' '' --help
     case_of file file 2 '' "$usage"$'\n' --separator t r
     case_of file file 2 '' "$usage"$'\n' --separator : t r
     case_of file file 2 '' "$usage"$'\n' --latin1 t
@@ -161,12 +208,30 @@ other_cases() {
     case_of file file 3 '' $'b:2:1: byte 0xFF is no UTF-8\n' b r
     case_of file file 3 '' $'.: Is a directory (os error 21)\n' t .
     files '{a}' $'a\n1\n'
-    case_of closed file 3 '' '' t r
-    case_of full file 3 '' '' t r
+    case_of closed file 3 '' $'cannot write: Bad file descriptor (os error 9)\n' t r
+    case_of full file 3 '' $'cannot write: No space left on device (os error 28)\n' t r
+    case_of file file 0 '1' '' -- t r
+    cp -- t -t
+    case_of file file 0 '1' '' --latin1 -- -t r
+    pipe_case
     files '{q}' $'a\n1\n'
     case_of file closed 3 '' '' t r
     case_of file full 3 '' '' t r
     case_of file full 3 '' '' t
+}
+
+# A reader that ends early: no panic.
+pipe_case() {
+    local status
+    { echo a; seq 200000; } >r
+    { timeout 60 "$program" t r 2>e; echo $? >s; } | true
+    status=$(cat s)
+    if [[ $status -eq 3 && $(cat e) == 'cannot write: Broken pipe (os error 32)' ]]; then
+        passed=$((passed + 1))
+    else
+        fail "another end with a closed pipe: status $status"
+    fi
+    files '{a}' $'a\n1\n'
 }
 
 refused_calls() {
@@ -186,6 +251,9 @@ all_cases() {
     record_cases
     number_cases
     template_cases
+    other_template_cases
+    partial_cases
+    large_cases
     table_cases
     other_cases
     refused_calls

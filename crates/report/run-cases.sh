@@ -1,12 +1,34 @@
 #!/usr/bin/env bash
 # Runs the built program on tables, and compares what it writes to both streams and its status with
-# what is worked out by hand: widths count characters, and a total is the sum of all entries of its
-# column, at the greatest scale of these. Then it runs the line of docs/USING.md.
+# what is worked out by hand: widths count characters, a total is the sum of all numbers of its
+# column, at the greatest scale of these, and fields are those of RFC 4180. Then it runs the line of
+# docs/USING.md.
 #
 # usage: run-cases.sh [PROGRAM..]
 set -u
 
-usage='usage: report FILE'
+usage='usage: report [--separator , | ; | tab] [--latin1] [--total NAME,..] [--group NAME] [--lenient] [--csv] [--] FILE'
+help=$(
+    cat <<'END'
+usage: report [--separator , | ; | tab] [--latin1] [--total NAME,..]
+    [--group NAME] [--lenient] [--csv] [--] FILE
+
+Prints the records of a file as a table, with exact totals.
+
+  --separator S  between fields; without it, the header line tells it
+  --latin1       the file is Latin-1, not UTF-8
+  --total NAMES  sum these columns; without it, those of decimals, and those
+                 whose name ends in a colon
+  --group NAME   subtotals for each text in this column
+  --lenient      what is no number in a column that is summed counts as none
+  --csv          write records, not a table
+  --             what follows is the file
+
+report --total count,price --group city stock.csv
+END
+)$'\n'
+unclosed='a quote that is never closed'
+wanted_number='wants a number, such as -7 or 12.50'
 # the greatest number of 128 bits, without its last digit, which is 7
 most=17014118346046923173168730371588410572
 # the number after that one
@@ -14,58 +36,136 @@ next=17014118346046923173168730371588410573
 zeros=0.0000000000000000000000000000000000000000
 here=$(cd "$(dirname "$0")" && pwd)
 name=report
-wanted=42
+wanted=97
 . "$here/../../.ci/cases.sh"
 
-# table WANTED TEXT: the report of a file with this text, which goes to the output, with status 0.
+# table WANTED TEXT FLAG..: the report of a file with this text, which goes to the output, with
+# status 0.
 table() {
     printf '%s' "$2" >t
-    case_of file file 0 "$1" '' t
+    case_of file file 0 "$1" '' "${@:3}" t
 }
 
-# fault WANTED TEXT: the faults of a file with this text, which go to the errors, with status 1; no
-# table is written.
+# fault WANTED TEXT FLAG..: the faults of a file with this text, which go to the errors, with
+# status 1; no table is written.
 fault() {
     printf '%s' "$2" >t
-    case_of file file 1 '' "$1"$'\n' t
+    case_of file file 1 '' "$1"$'\n' "${@:3}" t
 }
 
 table_cases() {
     table $'item   count\nbread      7\ncrème  -1234\ntotal  -1227\n' \
-        $'item,count\nbread,7\ncrème,-1234\n'
-    table $' n  t\n 1   \n20  é\n21   \n' $'n,t\n1,\n20,é\n'
-    table $'a\n0\n' 'a'
-    table $'{a}    )#\n{b}     1\n{c}     2\ntotal   3\n' $'{a},)#\n{b},1\n{c},2\n'
-    table $'n  m\n1  2\n1  2\n' $'\xef\xbb\xbfn,m\r\n1,2\r\n'
-    table $'  n\n007\n +1\n  8\n' $'n\n007\n+1\n'
-    table "$(printf '%39s\n' n "${most}6" 1 "${most}7")"$'\n' $'n\n'"${most}6"$'\n1\n'
-    table "$(printf '%-39s\n' n "${most}8" x total)"$'\n' $'n\n'"${most}8"$'\nx\n'
+        $'item,count:\nbread,7\ncrème,-1234\n'
+    table $' n  t\n 1\n20  é\n' $'n,t\n1,\n20,é\n'
+    table $'a  b\n' $'a:,b\n'
+    table $'{a}    )#\n{b}     1\n{c}     2\ntotal   3\n' $'{a},)#:\n{b},1\n{c},2\n'
+    table $'n  m\n1  2\n1  2\n' $'\xef\xbb\xbfn:,m :\r\n1,2\r\n'
+    table $'  n\n007\n +1\n  8\n' $'n:\n007\n+1\n'
+    table $'a    b\n1 2  x\ny"\n' $'a,b\n"1\n2", x \n"y"""  ,""\n\r\n\n'
+    table $'a\n1\n\n2\n' $'a\n1\n\n2\n\n'
+    table $'a      n\nx      1\ntotal  1\n' $'a\tn:\nx\t1\n'
+    table $'a  b,c\n1  2,3\n' $'a;b,c\n1;2,3\n' --separator ';'
+    table $'a  b\n1  2\n' $'a\tb\n1\t2\n' --separator tab
+    printf 'a\n\xe9\n' >t
+    case_of file file 0 $'a\né\n' '' --latin1 t
+    printf 'a\nx\0y\n' >t
+    case_of file file 0 $'a\nx y\n' '' t
+}
+
+number_cases() {
+    table "$(printf '%39s\n' n "${most}6" 1 "${most}7")"$'\n' $'n:\n'"${most}6"$'\n1\n'
+    table $'n\n'"${most}8"$'\nx\n' $'n\n'"${most}8"$'\nx\n'
     table $'     n\n  1.50\n-0.005\n     7\n 8.495\n' $'n\n1.50\n-0.005\n7\n'
-    table $'n    \n1.5  \n1.   \ntotal\n' $'n\n1.5\n1.\n'
+    table $'n\n1.5\n1.\n' $'n\n1.5\n1.\n'
     table "$(printf '%42s\n' n 0 "$zeros" 0 "$zeros")"$'\n' $'n\n0\n'"$zeros"$'\n0\n'
     table "$(printf '%40s\n' n -0.0 "${most}.7" "${most}.7")"$'\n' $'n\n-0.0\n'"${most}.7"$'\n'
     table "$(printf '%40s\n' n -0.5 "$next" "${most}.5")"$'\n' $'n\n-0.5\n'"$next"$'\n'
     table "$(printf '%40s\n' n "$next" -0.5 "${most}.5")"$'\n' $'n\n'"$next"$'\n-0.5\n'
-    table "$(printf '%39s\n' n "${most}7" 1 -1 "${most}7")"$'\n' $'n\n'"${most}7"$'\n1\n-1\n'
-    table "$(printf '%40s\n' n "-${most}8" -1 1 "-${most}8")"$'\n' $'n\n'"-${most}8"$'\n-1\n1\n'
+    table "$(printf '%39s\n' n "${most}7" 1 -1 "${most}7")"$'\n' $'n:\n'"${most}7"$'\n1\n-1\n'
+    table "$(printf '%40s\n' n "-${most}8" -1 1 "-${most}8")"$'\n' $'n:\n'"-${most}8"$'\n-1\n1\n'
     table "$(printf '%42s\n' n "${most}7" "$zeros" "-${most}7" "$zeros")"$'\n' \
         $'n\n'"${most}7"$'\n'"$zeros"$'\n'"-${most}7"$'\n'
+    table $'v\n1.2\n1.2.3\n2.0.1\n' $'v\n1.2\n1.2.3\n2.0.1\n'
+    table $' year  price\n 1999    1.5\n 2001   2.25\ntotal   3.75\n' \
+        $'year,price\n1999,1.5\n2001,2.25\n'
+}
+
+empty_cases() {
+    table $'a        n\nx        1\ny\nz        2\ntotal    3\ncounted  2\n' \
+        $'a,n:\nx,1\ny,\nz, 2\n'
+    table $'a        n\nx\ntotal    0\ncounted  0\n' $'a,n:\nx, \n'
+    table $'a        n  m\nx        1  2\ny           3\ntotal    1  5\ncounted  1  2\n' \
+        $'a,n:,m:\nx,1,2\ny,,3\n'
+    fault "t:3: column 2, \`n\`, $wanted_number" $'a,n:\nx,1\ny,n/a\n'
+    fault "t:2: column 2, \`n\`, $wanted_number"$'\n'"t:5: column 2, \`n\`, $wanted_number"$'\n'"t:2: column 3, \`m\`, $wanted_number" \
+        $'a,n:,m:\n"x\ny",-,1.\nz,,\nz,.5,7\n'
+    table $'a          n\nx          1\ny        n/a\ntotal      1\ncounted    1\n' \
+        $'a,n:\nx,1\ny,n/a\n' --lenient
+    fault "t:4: column 1, \`p\`, $wanted_number" $'p\n1.5\n2\nn/a\n'
+}
+
+total_cases() {
+    table $'a      n  m\nx      1  2\ntotal  1  2\n' $'a,n,m\nx,1,2\n' --total n,m
+    table $'a      n    m\nx      1  2.5\ntotal  1\n' $'a,n,m:\nx,1,2.5\n' --total ' n '
+    table $' n  t\n 1\n20  é\n21  total\n' $'n,t\n1,\n20,é\n' --total n
+    fault $'t:1: no column has the name `q`\nt:1: no column has the name `r`' $'a,n\nx,1\n' \
+        --total q,n,r
+    fault "t:2: column 1, \`a\`, $wanted_number" $'a,n\nx,1\n' --total n,a
+}
+
+group_cases() {
+    local cities=$'city,n:\nUlm,1\nBonn,2\nUlm,3\n'
+    table $'city        n\nUlm         1\nUlm         3\ntotal Ulm   4\nBonn        2\ntotal Bonn  2\ntotal       6\n' \
+        "$cities" --group city
+    table $'city  t\nUlm   a\nUlm   c\nBonn  b\n' $'city,t\nUlm,a\nBonn,b\nUlm,c\n' --group city
+    table $'n  city\n1\n\n1  total\n1  counted\n1  total\n1  counted\n' $'n:,city\n1,\n,\n' \
+        --group city
+    table $'city,n\nUlm,1\nUlm,3\ntotal Ulm,4\nBonn,2\ntotal Bonn,2\ntotal,6\n' "$cities" \
+        --csv --group city
+    fault 't:1: no column has the name `town`' "$cities" --group town
+    fault 't:1: the total of `n` has more than 128 bits' $'c,n:\na,'"${most}7"$'\nb,-1\na,1\n' \
+        --group c
+    table $'c  n\n' $'c,n:\n' --group c
+}
+
+csv_cases() {
+    table $'a,n\n"x,y",1.5\n"z""",2\ntotal,3.5\n' $'a;n:\n"x,y";1.5\n"z""";2\n' --csv
+    table $'a,b\n"1\n2",x\n' $'a,b\n"1\n2",x\n' --csv
+    table $'a\n""\nx\n' $'a\n\nx\n' --csv
+    table $'a,n\nx,\ntotal,0\ncounted,0\n' $'a,n:\nx,\n' --csv
 }
 
 fault_cases() {
-    fault 't:2: 3 fields, but line 1 has 2' $'item,count\nbread,1,2\n'
-    fault $'t:3: 1 field, but line 1 has 2\nt:4: 3 fields, but line 1 has 2' $'t,n\na,9\nb\nc,1,2'
-    fault 't:3: 0 fields, but line 1 has 1' $'a\n1\n\n'
+    fault 't:2: 3 fields, but line 1 has 2: column 3 has no name' $'item,count\nbread,1,2\n'
+    fault $'t:3: 1 field, but line 1 has 2: column 2 has no field\nt:4: 3 fields, but line 1 has 2: column 3 has no name' \
+        $'t,n\na,9\nb\nc,1,2'
+    fault 't:2: 1 field, but line 1 has 2: column 2 has no field' $'a,b\n\n1,2\n'
     fault 't:1: the first line names no columns' ''
+    fault 't:1: the first line names no columns' $'\r\n\n'
     fault 't:1: the first line names no columns' $'\n1\n'
-    fault 't:1: the total of `n` has more than 128 bits' $'n\n'"${most}7"$'\n1\n'
-    fault 't:1: the total of `n` has more than 128 bits' $'n\n'"-${most}8"$'\n-1\n'
-    fault 't:1: the total of `n` has more than 128 bits' $'n\n'"${most}7"$'\n0.5\n'
+    fault 't:1: the total of `n` has more than 128 bits' $'n:\n'"${most}7"$'\n1\n'
+    fault 't:1: the total of `n` has more than 128 bits' $'n:\n'"-${most}8"$'\n-1\n'
+    fault 't:1: the total of `n` has more than 128 bits' $'n:\n'"${most}7"$'\n0.5\n'
     fault 't:1: the total of `n` has more than 128 bits' $'n\n-0.5\n'"-${most}.8"$'\n'
     fault 't:1: the total of `n` has more than 128 bits' $'n\n0.3\n'"$next"$'\n'
-    fault 't:2: the number of `m` has more than 128 bits' $'t,m\na,'"${most}8"$'\nb,-1\n'
+    fault 't:2: the number of `m` has more than 128 bits' $'t,m:\na,'"${most}8"$'\nb,-1\n'
     fault $'t:1: the total of `n` has more than 128 bits\nt:3: the number of `m` has more than 128 bits' \
-        $'n,m\n'"${most}7,1"$'\n1,-'"${most}9"$'\n'
+        $'n:,m:\n'"${most}7,1"$'\n1,-'"${most}9"$'\n'
+}
+
+broken_cases() {
+    fault "t:2:1: $unclosed" $'a,b\n"1,2\n'
+    fault "t:1:3: $unclosed" $'a,"b\n1,2\n'
+    fault 't:2:2: a stray quote: write the field in quotes, and double those in it' \
+        $'a,b\n5" pipe,2\n'
+    fault 't:2:9: text after a closing quote: double the quotes in a field' $'a,b\n"5"" é" x,2\n'
+    fault $'t:2:2: a carriage return without a newline\nt:3:4: a carriage return without a newline' \
+        $'a\n1\r2\n"2"\r\r\n'
+    fault $'t:2: 1 field, but line 1 has 2: column 2 has no field\n'"t:3:3: $unclosed" \
+        $'a,b\n1\n1,"2'
+    fault 't:3: 1 field, but line 1 has 2: column 2 has no field' $'a,b\n1,2\n3'
+    fault 't:3:2: byte 0xE9 is no UTF-8; is this Latin-1? try --latin1' $'a\né\nx\xe9\n'
+    fault 't:2:1: byte 0xC3 is no UTF-8; is this Latin-1? try --latin1' $'a\n\xc3'
 }
 
 # Wrong use, unreadable files and refused writes.
@@ -73,27 +173,80 @@ other_cases() {
     case_of file file 2 '' "$usage"$'\n'
     case_of file file 2 '' "$usage"$'\n' t t
     case_of file file 2 '' "$usage"$'\n' --total
+    case_of file file 2 '' "$usage"$'\n' --total t
+    case_of file file 2 '' "$usage"$'\n' --separator : t
+    case_of file file 2 '' "$usage"$'\n' --help t
+    case_of file file 2 '' "$usage"$'\n' -- t t
     case_of file file 2 '' "$usage"$'\n' $'\xff'
+    printf 'a\n1\n' >-t
+    case_of file file 2 '' "$usage"$'\n' -t
+    case_of file file 0 $'a\n1\n' '' -- -t
+    case_of file file 0 $'a\n1\n' '' --csv -- -t
+    case_of file file 0 "$help" '' --help
     case_of file file 3 '' $'none: No such file or directory (os error 2)\n' none
-    printf 'a\n\xff\n' >b
-    case_of file file 3 '' $'b: stream did not contain valid UTF-8\n' b
+    case_of file file 3 '' $'.: Is a directory (os error 21)\n' .
     printf 'a\n1\n' >t
     case_of closed file 3 '' '' t
+    case_of full file 3 '' '' t
     case_of file full 3 '' '' none
+    locked_case
+    pipe_case
+    wide_case
+}
+
+# A file that may not be read; whoever may read all has no such file.
+locked_case() {
+    printf 'a\n' >locked
+    chmod 000 locked
+    if [[ -r locked ]]; then
+        passed=$((passed + 1))
+    else
+        case_of file file 3 '' $'locked: Permission denied (os error 13)\n' locked
+    fi
+}
+
+# A pipe that is closed before all is written.
+pipe_case() {
+    local ended
+    { printf 'a\n' && times 100000 $'x\n'; } >t
+    {
+        timeout 60 "$program" t
+        printf '%s' "$?" >ended
+    } | head -c 1 >first
+    ended=$(<ended)
+    if [[ $ended -eq 3 ]]; then
+        passed=$((passed + 1))
+    else
+        fail "a closed pipe: status $ended"
+    fi
+}
+
+# A hundred thousand columns.
+wide_case() {
+    printf '%sa\n%s1\n' "$(times 99999 a,)" "$(times 99999 1,)" >t
+    case_of file file 0 "$(times 99999 'a  ')a"$'\n'"$(times 99999 '1  ')1"$'\n' '' t
 }
 
 refused_calls() {
-    printf '%s' $'item,count\nbread,7\ncrème,-1.25\n' >t
+    printf '%s' $'item,count:\nbread,7\ncrème,-1.25\n' >t
     refusals_of 0 $'item   count\nbread      7\ncrème  -1.25\ntotal   5.75\n' '' t
+    refusals_of 0 $'item,count\nbread,7\ntotal bread,7\ncrème,-1.25\ntotal crème,-1.25\ntotal,5.75\n' '' \
+        --csv --group item t
     printf '%s' $'t,n\na,9\nb\nc,1,2' >t
-    refusals_of 1 '' $'t:3: 1 field, but line 1 has 2\nt:4: 3 fields, but line 1 has 2\n' t
+    refusals_of 1 '' $'t:3: 1 field, but line 1 has 2: column 2 has no field\nt:4: 3 fields, but line 1 has 2: column 3 has no name\n' t
     refusals_of 2 '' "$usage"$'\n' --total
     refusals_of 3 '' $'none: No such file or directory (os error 2)\n' none
 }
 
 all_cases() {
     table_cases
+    number_cases
+    empty_cases
+    total_cases
+    group_cases
+    csv_cases
     fault_cases
+    broken_cases
     other_cases
     refused_calls
     using_case "$here/stdout"

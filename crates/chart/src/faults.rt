@@ -1,43 +1,38 @@
 //! What is wrong with a table.
 
 use interpolator::Error;
+use records::Place;
 use std::alloc::Global;
 
 /// The faults of a file, as lines of text.
 #[derive(Drop)]
 pub struct Faults<'a> {
-    alloc: Global,
+    pub alloc: Global,
     file: &'a str,
-    /// The number of the line that is being read, from 1.
-    line: usize,
     told: String,
 }
 
 impl<'a> Faults<'a> {
-    /// No faults, before the first line of a file.
     pub fn new(alloc: Global, file: &'a str) -> Faults<'a> {
         Faults {
             alloc,
             file,
-            line: 0,
             told: String::new(alloc),
         }
     }
 
-    /// Goes on to the next line.
-    pub fn next_line(&mut self) {
-        self.line = self.line.saturating_add(1);
-    }
-
-    /// Whether the line is the first.
-    pub fn at_first_line(&self) -> bool {
-        self.line == 1
-    }
-
-    /// Adds a fault at this column of the line.
-    pub fn tell(&mut self, column: usize, why: &str) -> Result<(), Error> {
+    /// Adds a fault of the record of this line, in this column of the table.
+    pub fn tell(&mut self, line: usize, column: usize, why: &str) -> Result<(), Error> {
         let file = self.file;
-        let line = self.line;
+        let told = format!(in self.alloc; "{file}:{line}: column {column}: {why}\n")?;
+        self.told.push_str(told.as_str())?;
+        Ok(())
+    }
+
+    /// Adds a fault at a place.
+    pub fn tell_at(&mut self, place: Place, why: &str) -> Result<(), Error> {
+        let file = self.file;
+        let Place { line, column } = place;
         let told = format!(in self.alloc; "{file}:{line}:{column}: {why}\n")?;
         self.told.push_str(told.as_str())?;
         Ok(())

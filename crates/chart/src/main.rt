@@ -1,15 +1,23 @@
 //! `chart FORMAT FILE`: draws the numbers of a file as bars, by a format that is a file too.
 //!
-//! A line of the file is a name and whole numbers, with one space between each two. The second
-//! number is the measure of its line: its bar is 100 long, and the other bars of the line are in
-//! proportion, rounded down. The format gets `{height}`, the height of the picture, and `{rows}`, a
-//! list for each line: its place from the top, its name, and each number after the length of its
-//! bar.
+//! Each record of the file is a name and whole numbers, spelled as the crate `records` reads them:
+//! fields may stand in quotes, and white space around one does not count. The separator is that of
+//! `--separator`, which is `,`, `;` or `tab`; without it, that of the three which the first line
+//! alone has, or else the comma. Blank lines at the end are skipped. The file is UTF-8, or with
+//! `--latin1` Latin-1.
 //!
-//! Each line has as many numbers as the first, at least two, and as many as the format draws by
-//! their indices. All faults of the file are reported, with line and column, and no picture is
-//! drawn.
+//! The second number is the measure of its record: its bar is 100 long, and the other bars of the
+//! record are in proportion, rounded down. The format gets `{height}`, the height of the picture, and
+//! `{rows}`, a list for each record: its place from the top, its name, and each number after the
+//! length of its bar.
+//!
+//! Each record has as many numbers as the first, at least two, and as many as the format draws by
+//! their indices. What is wrong is told by line and column, and no picture is drawn: a byte that is
+//! no UTF-8; else all places where the file goes on with no record; else all that is wrong with
+//! records; else the first fault of the format.
 #![tactic(auto)]
+
+ghost use Rattle.std.specs.Prelude.{◌<◌, IfSome, length};
 
 mod faults;
 mod rows;
@@ -19,7 +27,8 @@ use interpolator::{
     Argument, ContextMap, Error, Formattable, Interpolate, Kind, Range, Template, View, explain,
     items_of, rows_of,
 };
-use rows::{Rows, place_of, rows_of_table};
+use records::{BadByte, Separator, Table, latin1, text_in};
+use rows::{Rows, place_of, rows_of_records};
 use std::alloc::Global;
 use std::fs;
 use std::process::ExitCode;
@@ -27,7 +36,20 @@ use words::program::{
     FAULT, REFUSED, WRITTEN, arguments, ended, is_flag, usage, without_mark, without_words,
 };
 
-const USAGE: &str = "usage: chart FORMAT FILE";
+const USAGE: &str = "usage: chart [--separator , | ; | tab] [--latin1] [--] FORMAT FILE";
+
+const HELP: &str = "\
+usage: chart [--separator , | ; | tab] [--latin1] [--] FORMAT FILE
+
+Draws the numbers of a file as bars, by a format. A record of the file is a name
+and whole numbers, of which the second has a bar of 100.
+
+  --separator S  between fields; without it, the first line tells it
+  --latin1       the file is Latin-1, not UTF-8
+  --             what follows are the files
+
+chart chart.svg.txt speed.txt >speed.svg
+";
 
 /// What a table is drawn as.
 #[derive(Drop)]
@@ -38,13 +60,13 @@ enum Chart {
     Faults(String),
 }
 
-/// The files of the command line, and their texts.
+/// What the command line asks for.
 #[derive(Clone, Copy)]
-struct Files<'a> {
-    format_name: &'a str,
+struct Asked<'a> {
     format: &'a str,
-    table_name: &'a str,
     table: &'a str,
+    separator: Option<Separator>,
+    is_latin1: bool,
 }
 
 /// How many numbers a row has at least, if it has the cell at this index. Two cells come before
@@ -99,47 +121,142 @@ fn drawn(alloc: Global, template: &Template, rows: Rows<'_>) -> Result<String, E
     context.format_template(alloc, template)
 }
 
-/// The chart of a table.
-fn chart_of(alloc: Global, files: Files<'_>) -> Result<Chart, Error> {
-    let template = Template::parse(alloc, files.format)?;
-    let wanted = numbers_drawn(alloc, &template)?;
-    let mut faults = Faults::new(alloc, files.table_name);
-    let rows = rows_of_table(alloc, &mut faults, files.table, wanted)?;
-    let told = faults.into_text();
-    if !told.is_empty() {
-        return Ok(Chart::Faults(told));
-    }
-    match drawn(alloc, &template, rows) {
+/// The picture of rows, or the fault of the format, whose text this is.
+fn picture_of(
+    alloc: Global,
+    asked: Asked<'_>,
+    format: &str,
+    template: &Template,
+    rows: Rows<'_>,
+) -> Result<Chart, Error> {
+    match drawn(alloc, template, rows) {
         Ok(picture) => Ok(Chart::Picture(picture)),
         Err(Error::NoMemory) => Err(Error::NoMemory),
         Err(error) => {
-            let mut told = explain(alloc, files.format_name, files.format, &error)?;
+            let mut told = explain(alloc, asked.format, format, &error)?;
             told.push('\n')?;
             Ok(Chart::Faults(told))
         }
     }
 }
 
+/// The places where a table goes on with no record, as lines of text.
+fn told_broken(alloc: Global, asked: Asked<'_>, table: &Table<'_>) -> Result<String, Error> {
+    let mut faults = Faults::new(alloc, asked.table);
+    for fault in &table.faults {
+        faults.tell_at(fault.place, fault.problem.as_str())?;
+    }
+    Ok(faults.into_text())
+}
+
+/// The chart of a table's text.
+fn chart_of(alloc: Global, asked: Asked<'_>, format: &str, text: &str) -> Result<Chart, Error> {
+    let template = Template::parse(alloc, format)?;
+    let wanted = numbers_drawn(alloc, &template)?;
+    let separator = match asked.separator {
+        Some(separator) => separator,
+        None => Separator::told_by(text).unwrap_or(Separator::Comma),
+    };
+    let table = Table::read(alloc, text, separator)?;
+    let told = told_broken(alloc, asked, &table)?;
+    if !told.is_empty() {
+        return Ok(Chart::Faults(told));
+    }
+    let mut faults = Faults::new(alloc, asked.table);
+    let rows = rows_of_records(&mut faults, &table.records, wanted)?;
+    let told = faults.into_text();
+    if !told.is_empty() {
+        return Ok(Chart::Faults(told));
+    }
+    picture_of(alloc, asked, format, &template, rows)
+}
+
+/// The chart of a table with a byte that is no UTF-8.
+fn chart_bad(alloc: Global, asked: Asked<'_>, bad: BadByte) -> Result<Chart, Error> {
+    let mut faults = Faults::new(alloc, asked.table);
+    let byte = bad.byte;
+    let why = format!(in alloc; "byte 0x{byte:02X} is no UTF-8; is this Latin-1? try --latin1")?;
+    faults.tell_at(bad.place, why.as_str())?;
+    Ok(Chart::Faults(faults.into_text()))
+}
+
+/// The chart of a table's bytes.
+fn chart_bytes(
+    alloc: Global,
+    asked: Asked<'_>,
+    format: &str,
+    bytes: &[u8],
+) -> Result<Chart, Error> {
+    if asked.is_latin1 {
+        let text = latin1(alloc, bytes)?;
+        return chart_of(alloc, asked, format, text.as_str());
+    }
+    match text_in(bytes) {
+        Ok(text) => chart_of(alloc, asked, format, text),
+        Err(bad) => chart_bad(alloc, asked, bad),
+    }
+}
+
 /// Draws the chart of two files.
-fn draw(rt: &HostRuntime, format_name: &str, table_name: &str) -> ExitCode {
-    let format = match fs::read_to_string(rt, format_name) {
+fn draw(rt: &HostRuntime, asked: Asked<'_>) -> ExitCode {
+    let name = asked.format;
+    let format = match fs::read_to_string(rt, name) {
         Ok(text) => text,
-        Err(error) => return ended(eprintln!(rt; "{format_name}: {error}"), REFUSED),
+        Err(error) => return ended(eprintln!(rt; "{name}: {error}"), REFUSED),
     };
-    let table = match fs::read_to_string(rt, table_name) {
-        Ok(text) => text,
-        Err(error) => return ended(eprintln!(rt; "{table_name}: {error}"), REFUSED),
+    let name = asked.table;
+    let bytes = match fs::read(rt, name) {
+        Ok(bytes) => bytes,
+        Err(error) => return ended(eprintln!(rt; "{name}: {error}"), REFUSED),
     };
-    let files = Files {
-        format_name,
-        format: without_mark(format.as_str()),
-        table_name,
-        table: without_mark(table.as_str()),
-    };
-    match chart_of(rt.alloc(), files) {
+    match chart_bytes(rt.alloc(), asked, without_mark(format.as_str()), &bytes) {
         Ok(Chart::Picture(picture)) => ended(rt.print(picture.as_str()), WRITTEN),
         Ok(Chart::Faults(told)) => ended(eprint!(rt; "{told}"), FAULT),
         Err(error) => ended(eprintln!(rt; "{error}"), FAULT),
+    }
+}
+
+/// Takes a flag at the beginning of words, and returns the words after it; none if there is none.
+fn after_flag<'a>(asked: &mut Asked<'a>, words: &'a [String]) -> Option<&'a [String]>
+    ensures { IfSome result (λ rest. length rest.now < length words.now) }
+{
+    match words {
+        [flag, more @ ..] if flag.as_str() == "--latin1" => {
+            asked.is_latin1 = true;
+            Some(more)
+        }
+        [flag, value, more @ ..] if flag.as_str() == "--separator" => {
+            asked.separator = Some(Separator::named(value.as_str())?);
+            Some(more)
+        }
+        _ => None,
+    }
+}
+
+/// What the words ask for: flags, and then two files.
+fn asked_by<'a>(words: &'a [String]) -> Option<Asked<'a>> {
+    let mut asked = Asked {
+        format: "",
+        table: "",
+        separator: None,
+        is_latin1: false,
+    };
+    let mut rest = words;
+    while let Some(next) = after_flag(&mut asked, rest) {
+        rest = next;
+    }
+    match rest {
+        [format, table] if !is_flag(format.as_str()) && !is_flag(table.as_str()) => Some(Asked {
+            format: format.as_str(),
+            table: table.as_str(),
+            ..asked
+        }),
+        [end, format, table] if end.as_str() == "--" => Some(Asked {
+            format: format.as_str(),
+            table: table.as_str(),
+            ..asked
+        }),
+        _ => None,
     }
 }
 
@@ -148,11 +265,13 @@ fn main(rt: HostRuntime) -> ExitCode {
         Ok(words) => words,
         Err(error) => return without_words(&rt, &error, USAGE),
     };
-    let [format, table] = words.as_slice() else {
-        return usage(&rt, USAGE);
-    };
-    if is_flag(format.as_str()) || is_flag(table.as_str()) {
-        return usage(&rt, USAGE);
+    if let [word] = words.as_slice() {
+        if word.as_str() == "--help" {
+            return ended(rt.print(HELP), WRITTEN);
+        }
     }
-    draw(&rt, format.as_str(), table.as_str())
+    match asked_by(words.as_slice()) {
+        Some(asked) => draw(&rt, asked),
+        None => usage(&rt, USAGE),
+    }
 }

@@ -1,39 +1,32 @@
-//! The lines of a table as rows of cells.
+//! The records of a table as rows of cells.
 
 use crate::faults::Faults;
 use interpolator::{Error, View};
-use std::alloc::Global;
+use records::Record;
 
-/// The length of the bar of the number that measures its line.
+/// The length of the bar of the number that measures its record.
 const UNIT: u128 = 100;
 
-/// The height of a line's bars together, with the gap after them.
+/// The height of a record's bars together, with the gap after them.
 const ROW: u128 = 82;
 
 /// The height of the space above all bars.
 const HEAD: u128 = 64;
 
-/// How many numbers a line has at least.
+/// How many numbers a record has at least.
 const FEWEST: usize = 2;
 
-/// Which word of a line measures it: the second number, after the name.
+/// Which field of a record measures it: the second number, after the name.
 const MEASURE: usize = 2;
 
-/// The cells of all lines, one after the other, and where each line ends.
+/// The cells of all records, one after the other, and where each record ends.
 #[derive(Drop)]
 pub struct Rows<'a> {
     pub cells: Vec<View<'a>>,
     pub ends: Vec<usize>,
 }
 
-/// A word of a line, and the column at which it begins.
-#[derive(Clone, Copy)]
-struct Word<'a> {
-    column: usize,
-    text: &'a str,
-}
-
-/// How far from the top a line is, with `before` other lines above it.
+/// How far from the top a record is, with `before` others above it.
 pub fn place_of(before: usize) -> u128 {
     HEAD.saturating_add(ROW.saturating_mul(before as u128))
 }
@@ -43,86 +36,73 @@ fn length_of(number: u64, measure: u64) -> u128 {
     u128::from(number).saturating_mul(UNIT) / u128::from(measure).max(1)
 }
 
-/// The words of a line, with a space between each two.
-fn words_of(alloc: Global, line: &str) -> Result<Vec<Word<'_>>, Error> {
-    let mut words = Vec::new(alloc);
-    let mut column = 1usize;
-    for text in line.split(' ') {
-        words.push(Word { column, text })?;
-        column = column
-            .saturating_add(text.chars().count())
-            .saturating_add(1);
+/// The text of the field of a record at this index, without the white space around it.
+fn text_at<'a>(record: &'a Record<'_>, index: usize) -> &'a str {
+    match record.fields.get(index) {
+        Some(field) => field.as_str().trim(),
+        None => "",
     }
-    Ok(words)
 }
 
-/// The name of a line: its first word.
-fn name_of(line: &str) -> &str {
-    line.split(' ').next().unwrap_or("")
-}
-
-/// How many words follow the name of a line.
-fn number_count(line: &str) -> usize {
-    line.split(' ').skip(1).count()
-}
-
-/// Reports a word that is no number.
-fn tell_not_number(alloc: Global, faults: &mut Faults<'_>, word: &Word<'_>) -> Result<(), Error> {
-    let text = word.text;
-    let why = format!(in alloc; "`{text}` is no whole number from 0 to {}", u64::MAX)?;
-    faults.tell(word.column, why.as_str())
-}
-
-/// Reports a measure of 0, with which no bar can be in proportion.
-fn tell_no_measure(faults: &mut Faults<'_>, word: &Word<'_>) -> Result<(), Error> {
-    faults.tell(
-        word.column,
-        "the second number, which measures its line, is 0",
-    )
-}
-
-/// The numbers of a line, which follow its name. A word that is none is a fault, and so is a
-/// measure of 0.
-fn numbers_of(
-    alloc: Global,
-    faults: &mut Faults<'_>,
-    words: &[Word<'_>],
-) -> Result<Vec<u64>, Error> {
-    let mut numbers = Vec::new(alloc);
-    for (index, word) in words.iter().enumerate().skip(1) {
-        match word.text.parse::<u64>() {
-            Ok(number) if index == MEASURE && number == 0 => tell_no_measure(faults, word)?,
-            Ok(number) => numbers.push(number)?,
-            Err(_) => tell_not_number(alloc, faults, word)?,
+/// The number in the field of a record at this index. Tells it, if it is none, or is the measure and
+/// 0, with which no bar can be in proportion.
+fn number_at(faults: &mut Faults<'_>, record: &Record<'_>, index: usize) -> Result<u64, Error> {
+    let text = text_at(record, index);
+    let column = index.saturating_add(1);
+    match text.parse::<u64>() {
+        Ok(number) if index == MEASURE && number == 0 => {
+            let why = "the second number, which measures its line, is 0";
+            faults.tell(record.line, column, why)?;
+            Ok(number)
         }
+        Ok(number) => Ok(number),
+        Err(_) => {
+            let most = u64::MAX;
+            let why = format!(in faults.alloc; "`{text}` is no whole number from 0 to {most}")?;
+            faults.tell(record.line, column, why.as_str())?;
+            Ok(0)
+        }
+    }
+}
+
+/// The numbers of a record, which follow its name.
+fn numbers_of(faults: &mut Faults<'_>, record: &Record<'_>) -> Result<Vec<u64>, Error> {
+    let mut numbers = Vec::new(faults.alloc);
+    for index in 1..record.fields.len() {
+        numbers.push(number_at(faults, record, index)?)?;
     }
     Ok(numbers)
 }
 
-/// Reports a line with too few or too many numbers: the first line needs at least as many as are
-/// wanted, the others as many as the first has.
+/// How many numbers a record has after its name.
+fn count_of(record: &Record<'_>) -> usize {
+    record.fields.len().saturating_sub(1)
+}
+
+/// Tells a record with too few or too many numbers: the first needs at least as many as the format
+/// draws, the others as many as the first has.
 fn check_count(
-    alloc: Global,
     faults: &mut Faults<'_>,
-    line: &str,
-    count: usize,
-    wanted: usize,
+    record: &Record<'_>,
+    first: usize,
+    drawn: usize,
 ) -> Result<(), Error> {
+    let count = count_of(record);
+    let fewest = drawn.max(FEWEST);
     let noun = if count == 1 { "number" } else { "numbers" };
-    let end = line.chars().count().saturating_add(1);
-    if faults.at_first_line() {
-        if count < wanted {
-            let why = format!(in alloc; "{count} {noun}, but at least {wanted} are wanted")?;
-            faults.tell(end, why.as_str())?;
-        }
-    } else if count != wanted {
-        let why = format!(in alloc; "{count} {noun}, but line 1 has {wanted}")?;
-        faults.tell(end, why.as_str())?;
+    let column = count.min(first).saturating_add(2);
+    if record.line > 1 && count != first {
+        let why = format!(in faults.alloc; "{count} {noun}, but line 1 has {first}")?;
+        faults.tell(record.line, column, why.as_str())?;
+    }
+    if record.line <= 1 && count < fewest {
+        let why = format!(in faults.alloc; "{count} {noun}, but at least {fewest} are wanted")?;
+        faults.tell(record.line, column, why.as_str())?;
     }
     Ok(())
 }
 
-/// Appends the cells of a line, which is this far from the top.
+/// Appends the cells of a record, which is this far from the top.
 fn push_cells<'a>(
     cells: &mut Vec<View<'a>>,
     place: u128,
@@ -139,39 +119,25 @@ fn push_cells<'a>(
     Ok(())
 }
 
-/// Reads a line, and reports its faults. Returns its numbers.
-fn read_line(
-    alloc: Global,
+/// The rows of records, each with as many numbers as the first, which has at least as many as the
+/// format draws. What is wrong with them is told.
+pub fn rows_of_records<'a>(
     faults: &mut Faults<'_>,
-    line: &str,
-    wanted: usize,
-) -> Result<Vec<u64>, Error> {
-    faults.next_line();
-    let words = words_of(alloc, line)?;
-    let numbers = numbers_of(alloc, faults, &words)?;
-    check_count(alloc, faults, line, number_count(line), wanted)?;
-    Ok(numbers)
-}
-
-/// Reads the lines of a table, each with as many numbers as the first, which has at least as many
-/// as the format draws.
-pub fn rows_of_table<'a>(
-    alloc: Global,
-    faults: &mut Faults<'_>,
-    table: &'a str,
+    records: &'a [Record<'_>],
     drawn: usize,
 ) -> Result<Rows<'a>, Error> {
-    let first = number_count(table.lines().next().unwrap_or(""));
-    let mut cells = Vec::new(alloc);
-    let mut ends = Vec::new(alloc);
-    for line in table.lines() {
-        let wanted = if ends.is_empty() {
-            drawn.max(FEWEST)
-        } else {
-            first
-        };
-        let numbers = read_line(alloc, faults, line, wanted)?;
-        push_cells(&mut cells, place_of(ends.len()), name_of(line), &numbers)?;
+    let first = records.first().map_or(0, count_of);
+    let mut cells = Vec::new(faults.alloc);
+    let mut ends = Vec::new(faults.alloc);
+    for record in records {
+        let numbers = numbers_of(faults, record)?;
+        check_count(faults, record, first, drawn)?;
+        push_cells(
+            &mut cells,
+            place_of(ends.len()),
+            text_at(record, 0),
+            &numbers,
+        )?;
         ends.push(cells.len())?;
     }
     Ok(Rows { cells, ends })

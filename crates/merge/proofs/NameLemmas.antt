@@ -1,8 +1,11 @@
 -- Names, and which of them were seen.
 use Rattle.std.proofs.Common.{◌≡◌, ◌∙◌, refl, sym, ap, ℕ, ◌+◌, ◌<◌, Bool, true, false, ◌||◌, cond, List, []}
 use Rattle.std.proofs.Common.{◌∷◌, ◌++◌, map, length, take, drop, get_or, append_assoc}
-use Rattle.std.proofs.Common.{Option, Some, is_some}
-use Rattle.std.proofs.lemmas.List.{drop_more, map_more}
+use Rattle.std.proofs.Common.{Option, None, Some, is_some, nat_lt, not}
+use Rattle.std.proofs.lemmas.List.{drop_more, length-map, map_more}
+use Rattle.std.specs.List.{position, prefix_len}
+use Rattle.merge.specs.Columns.{column_named, is_named, names_in}
+use Rattle.merge.specs.declared.columns.Column.{Column}
 use Rattle.std.proofs.lemmas.Map.Text.{btree_map_updates_str}
 use Rattle.std.specs.BTreeMap.{BTreeMap, UpdatesBy}
 use Rattle.std.specs.Borrow.{Bor}
@@ -61,3 +64,18 @@ pub knows_next : {X : Type 0} (name_of : X → List ℕ) (columns : List X) (n :
     → Knows seen (map name_of (take (n + 1) columns))
 knows_next name_of columns n column seen within knows = λ name.
     rw (map_more name_of columns n column within) (knows name)
+
+-- the first column of a name is where the name is first
+prefix_named : (columns : List Column) (name : List ℕ)
+    → prefix_len (λ column. not (is_named name column)) columns
+    ≡ prefix_len (λ other. not (bytes_eq other name)) (names_in columns)
+prefix_named [] name = refl
+prefix_named (column ∷ columns) name = rw (prefix_named columns name) refl
+
+pub position_named : (columns : List Column) (name : List ℕ)
+    → position (is_named name) columns ≡ column_named (names_in columns) name
+position_named columns name =
+    ap (λ n. cond (nat_lt n (length columns)) (Some n) None) (prefix_named columns name)
+    ∙ ap (λ n. cond (nat_lt (prefix_len (λ other. not (bytes_eq other name)) (names_in columns)) n)
+    (Some (prefix_len (λ other. not (bytes_eq other name)) (names_in columns))) None)
+    (sym (length-map {B = List ℕ} columns (λ column. column.name.now)))

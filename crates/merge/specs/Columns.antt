@@ -1,8 +1,8 @@
 -- The columns of a table, which its first line names: of texts, or of numbers. Texts are bytes.
-use Rattle.std.specs.Prelude.{ℕ, ◌-◌, List, codes, eqb, length, map, take, if◌then◌else◌}
+use Rattle.std.specs.Prelude.{ℕ, Bool, ◌-◌, List, codes, eqb, length, map, take, if◌then◌else◌}
 use Rattle.std.specs.Prelude.{Option, None, Some}
-use Rattle.std.specs.List.{ends_with}
-use Rattle.std.specs.Str.{trim}
+use Rattle.std.specs.List.{ends_with, position}
+use Rattle.std.specs.Str.{bytes_eq, trim}
 use Rattle.merge.specs.declared.columns.Column.{Column}
 use Rattle.merge.specs.declared.columns.Kind.{Kind}
 use Rattle.merge.specs.declared.columns.Kind.TheVariants as kinds
@@ -14,6 +14,18 @@ as_column column = (column.name.now, column.kind)
 -- what the fields of columns are
 abbrev pub kinds_in : List Column → List Kind
 kinds_in columns = map (λ column. column.kind) columns
+
+-- the names of columns
+abbrev pub names_in : List Column → List (List ℕ)
+names_in columns = map (λ column. column.name.now) columns
+
+-- a column has this name
+abbrev pub is_named : (name : List ℕ) → Column → Bool
+is_named name column = bytes_eq column.name.now name
+
+-- the place of a name among others, from 0
+abbrev pub column_named : List (List ℕ) → List ℕ → Option ℕ
+column_named names name = position (λ other. bytes_eq other name) names
 
 -- a text without an ending, if it ends so
 abbrev pub without : (ending text : List ℕ) → Option (List ℕ)

@@ -1,17 +1,16 @@
--- What the letters of a template and a table are. Template, table, lines and fields are bytes, and
+-- What the letters of templates and a table are. Templates, table, lines and fields are bytes, and
 -- letters are characters.
-use Rattle.std.specs.Prelude.{◌≡◌, ◌≢◌, ◌⊎◌, ℕ, Bool, false, true, List, [], ◌++◌, map}
-use Rattle.std.specs.Prelude.{None, Some, Option, Result, Ok, Err, MatchResult}
+use Rattle.std.specs.Prelude.{◌≡◌, ◌≢◌, ◌⊎◌, ⊤, ℕ, Bool, false, true, List, [], ◌++◌, map}
+use Rattle.std.specs.Prelude.{None, Some, Option, Result, Ok, Err}
 use Rattle.std.specs.Borrow.{Bor}
 use Rattle.std.specs.Str.{chars}
 use Rattle.interpolator.specs.At.{outermost, text_of}
 use Rattle.interpolator.specs.Contexts.{found_by_pairs}
-use Rattle.interpolator.specs.Faults.{Fault as Wrong, answer_of, no_memory}
+use Rattle.interpolator.specs.Faults.{Fault as Wrong, answer_of, fault as as_answer}
 use Rattle.interpolator.specs.Meaning.Environments.{environment}
 use Rattle.interpolator.specs.Meaning.Meanings.{Meaning, means}
 use Rattle.interpolator.specs.Prepared.Rows.{PreparedFormat, found_by_row, pair_names, row_at}
 use Rattle.interpolator.specs.Slots.{slots_of}
-use Rattle.interpolator.specs.Template.Collecting.{AnswersFirst}
 use Rattle.interpolator.specs.Template.NodeSamples.{faults_over}
 use Rattle.interpolator.specs.Views.{Shown, shown_as_value}
 use Rattle.interpolator.specs.declared.Error.{Error}
@@ -19,14 +18,18 @@ use Rattle.interpolator.specs.declared.Formattable.{Formattable}
 use Rattle.interpolator.specs.declared.Spec.{Spec}
 use Rattle.interpolator.specs.declared.Trait.{Trait}
 use Rattle.interpolator.specs.declared.View.{View}
-use Rattle.merge.specs.Table.{AreFaults, AreFaultsIn, AreFaultsOf, HasHeader, HasTrouble, IsTable}
-use Rattle.merge.specs.Table.{IsToldOf, Joins, kinds_of, names_of}
-use Rattle.records.specs.Tables.{At, Entry, Gives}
+use Rattle.merge.specs.Columns.{column_named}
+use Rattle.merge.specs.Table.{AreFaultsBy, HasNoHeader, HasTrouble, IsToldOf, Joins, kinds_of}
+use Rattle.merge.specs.Table.{names_of}
+use Rattle.records.specs.Heads.{Starts}
+use Rattle.records.specs.Tables.{AreEntries, At, Entry, Gives, GivesRecord}
 use Rattle.records.specs.declared.separator.Separator.{Separator}
-use Rattle.merge.specs.Values.{AreShown, as_value, example_slots}
+use Rattle.merge.specs.Values.{AreShown, as_value, example_slots, is_empty_at}
 use Rattle.merge.specs.declared.columns.Kind.{Kind}
 use Rattle.merge.specs.declared.letters.Fault.{Fault}
 use Rattle.merge.specs.declared.letters.Fault.TheVariants as why
+use Rattle.merge.specs.declared.letters.Letters.{Letters}
+use Rattle.merge.specs.declared.letters.Templates.{Templates}
 use Rattle.merge.specs.declared.table.LineFault.{LineFault}
 use Rattle.merge.specs.declared.table.Trouble.{Trouble}
 
@@ -51,11 +54,23 @@ pub record HasNames (names : List (List ℕ)) (kinds : List Kind) (sample : Samp
 
 -- ---- letters
 
--- a template that is prepared for the names of a header
-abbrev pub form_of : (template : List ℕ) → (header : List (List ℕ)) → PreparedFormat
-form_of template header = record { text = template; names = names_of header }
+-- a template that is prepared for some names
+abbrev pub form_of : (template : List ℕ) → (names : List (List ℕ)) → PreparedFormat
+form_of template names = record { text = template; names = names }
 
--- what it means with a row of values
+-- the template of a record: the other one, if its field in the column is empty
+abbrev pub form_by : Letters → (is_empty : Bool) → PreparedFormat
+form_by letters true = letters.other
+form_by letters false = letters.letter
+
+abbrev pub form_in : Letters → (column : Option ℕ) → (fields : List (List ℕ)) → PreparedFormat
+form_in letters None fields = letters.letter
+form_in letters (Some column) fields = form_by letters (is_empty_at column fields)
+
+abbrev pub form_for : Letters → (fields : List (List ℕ)) → PreparedFormat
+form_for letters fields = form_in letters letters.column fields
+
+-- what a template means with a row of values
 abbrev pub letter_means : PreparedFormat → Row → Meaning
 letter_means form row = means view_shows (environment (found_by_row form.names (row_at row)))
     (outermost (chars form.text))
@@ -75,16 +90,16 @@ pub record IsLetterOf (form : PreparedFormat) (kinds : List Kind) (fields : List
   pub is : IsLetterWith form views letter
 
 -- a text is the letter of a record, with which nothing is wrong
-abbrev pub IsLetter : PreparedFormat → List Kind → Entry → (letter : List ℕ) → Type 0
-IsLetter form kinds (Ok (line, fields)) letter =
-    HasTrouble kinds fields None × IsLetterOf form kinds fields letter
-IsLetter form kinds (Err fault) letter = ⊥
+abbrev pub IsLetter : Letters → List Kind → Entry → (letter : List ℕ) → Type 0
+IsLetter letters kinds (Ok (line, fields)) letter =
+    HasTrouble kinds fields None × IsLetterOf (form_for letters fields) kinds fields letter
+IsLetter letters kinds (Err fault) letter = ⊥
 
 -- a text is the letters of some records, one after the other
-abbrev pub AreLetters : PreparedFormat → List Kind → (rows : List Entry) → (text : List ℕ) → Type 0
-AreLetters form kinds rows text = Joins (IsLetter form kinds) rows text
+abbrev pub AreLetters : Letters → List Kind → (rows : List Entry) → (text : List ℕ) → Type 0
+AreLetters letters kinds rows text = Joins (IsLetter letters kinds) rows text
 
--- ---- faults of the template
+-- ---- templates
 
 -- the faults of a template with a sample
 abbrev pub faults_with : List ℕ → Sample → List Wrong
@@ -96,88 +111,143 @@ pub record IsReady (form : PreparedFormat) (kinds : List Kind) (sample : Sample)
   pub has : HasNames form.names kinds sample
   pub none : faults_with form.text sample ≡ []
 
--- a template has no fault with an example of each column under its name
-abbrev pub IsSound : PreparedFormat → List Kind → Type 0
-IsSound form kinds = (sample : Sample) × IsReady form kinds sample
+-- so it is with both templates
+pub record AreReady (letters : Letters) (kinds : List Kind) (sample : Sample) : Type 0 where
+  pub letter : IsReady letters.letter kinds sample
+  pub other : IsReady letters.other kinds sample
 
--- an error is the first fault that a template has with the examples
-abbrev pub IsFault : PreparedFormat → List Kind → Error → Type 0
-IsFault form kinds error = (sample : Sample) × HasNames form.names kinds sample
-    × AnswersFirst (faults_with form.text sample) (Some (answer_of error))
+-- errors are all faults that a template has with an example of each column, and there are some
+pub record HasFaults (form : PreparedFormat) (kinds : List Kind) (errors : List Error) : Type 0
+  where
+    pub sample : Sample
+    pub has : HasNames form.names kinds sample
+    pub all : map answer_of errors ≡ map as_answer (faults_with form.text sample)
+    pub some : errors ≢ []
 
--- a template is wrong with an error: its fault, or that memory was refused
-abbrev pub IsWrong : PreparedFormat → List Kind → Error → Type 0
-IsWrong form kinds error = (answer_of error ≡ no_memory) ⊎ IsFault form kinds error
+-- the column whose empty fields choose the other template, if one is asked for
+abbrev pub IsChosen : (names : List (List ℕ)) → Option (Bor (List ℕ)) → Option ℕ → Type 0
+IsChosen names None column = column ≡ None
+IsChosen names (Some name) column =
+    (place : ℕ) × (column_named names name.now ≡ Some place) × (column ≡ Some place)
+
+-- this column is looked up, or there is none of the name
+abbrev pub LooksUp : (names : List (List ℕ)) → Option (Bor (List ℕ)) → Result (Option ℕ) Fault
+    → Type 0
+LooksUp names name (Ok column) = IsChosen names name column
+LooksUp names name (Err fault) = (wanted : Bor (List ℕ)) × (name ≡ Some wanted)
+    × (column_named names wanted.now ≡ None) × (fault ≡ why.NoColumn)
+
+-- templates are prepared for columns of these names
+pub record ArePrepared (templates : Templates) (names : List (List ℕ)) (letters : Letters) : Type 0
+  where
+    pub same_letter : letters.letter ≡ form_of templates.letter.now names
+    pub same_other : letters.other ≡ form_of templates.other.now names
+    pub chosen : IsChosen names templates.column letters.column
+
+-- why templates are not: no column has the name that is asked for, a template has these faults, or
+-- memory ran out
+abbrev pub Spoils : Templates → (names : List (List ℕ)) → List Kind → Fault → Type 0
+Spoils templates names kinds why.NoColumn = (name : Bor (List ℕ))
+    × (templates.column ≡ Some name) × (column_named names name.now ≡ None)
+Spoils templates names kinds (why.Template errors) =
+    HasFaults (form_of templates.letter.now names) kinds errors.items
+Spoils templates names kinds (why.Other errors) =
+    HasFaults (form_of templates.other.now names) kinds errors.items
+Spoils templates names kinds (why.Table told) = ⊥
+Spoils templates names kinds why.Stopped = ⊤
+
+-- templates were prepared, and have no fault with the sample; or they were not
+abbrev pub Prepares : Templates → (names : List (List ℕ)) → List Kind → Sample
+    → Result Letters Fault → Type 0
+Prepares templates names kinds sample (Ok letters) =
+    ArePrepared templates names letters × AreReady letters kinds sample
+Prepares templates names kinds sample (Err fault) = Spoils templates names kinds fault
 
 -- ---- what is written
 
--- a letter is appended to a text, unless memory was refused
-abbrev pub PutsLetter : PreparedFormat → (views : List View) → (old new : List ℕ)
-    → Result (Unit {0}) Error → Type 0
-PutsLetter form views old new result = MatchResult result
-    (λ _. (letter : List ℕ) × IsLetterWith form views letter × (new ≡ old ++ letter))
-    (λ error. answer_of error ≡ no_memory)
+-- a letter is appended to a text
+abbrev pub PutsLetter : PreparedFormat → (views : List View) → (old new : List ℕ) → Type 0
+PutsLetter form views old new =
+    (letter : List ℕ) × IsLetterWith form views letter × (new ≡ old ++ letter)
 
--- the letter of fields is appended to a text, if nothing is wrong with them
-abbrev pub PutsIf : PreparedFormat → List Kind → (fields : List (List ℕ)) → (old new : List ℕ)
-    → Option Trouble → Type 0
-PutsIf form kinds fields old new None =
-    (letter : List ℕ) × IsLetterOf form kinds fields letter × (new ≡ old ++ letter)
-PutsIf form kinds fields old new (Some trouble) = new ≡ old
+-- the letter of fields is appended to a text, if it is asked for and nothing is wrong with them
+abbrev pub PutsIf : Letters → List Kind → (writes : Bool) → (fields : List (List ℕ))
+    → (old new : List ℕ) → Option Trouble → Type 0
+PutsIf letters kinds writes fields old new (Some trouble) = new ≡ old
+PutsIf letters kinds false fields old new None = new ≡ old
+PutsIf letters kinds true fields old new None = (letter : List ℕ)
+    × IsLetterOf (form_for letters fields) kinds fields letter × (new ≡ old ++ letter)
 
--- a record has its letter appended to a text, or what is told of it to what was found
-pub record WritesEntry (form : PreparedFormat) (kinds : List Kind) (entry : Entry)
+-- what is told of a record is appended to what was found; and, if that is asked for and nothing was
+-- found, its letter to a text
+pub record WritesEntry (letters : Letters) (kinds : List Kind) (writes : Bool) (entry : Entry)
     (old new : List LineFault) (text new_text : List ℕ) : Type 0 where
   pub told : List LineFault
   pub is : IsToldOf kinds entry told
   pub found : new ≡ old ++ told
-  pub puts : told ≡ []
-      → (letter : List ℕ) × IsLetter form kinds entry letter × (new_text ≡ text ++ letter)
+  pub puts : writes ≡ true → new ≡ []
+      → (letter : List ℕ) × IsLetter letters kinds entry letter × (new_text ≡ text ++ letter)
+  pub keeps : writes ≡ false → new_text ≡ text
 
 -- a table goes on with an entry, which is written; or it is at its end
-abbrev pub WritesNext : Separator → PreparedFormat → List Kind → (more : Bool) → (from to : At)
+abbrev pub WritesNext : Separator → Letters → List Kind → (writes more : Bool) → (from to : At)
     → (old new : List LineFault) → (text new_text : List ℕ) → Type 0
-WritesNext separator form kinds true from to old new text new_text =
+WritesNext separator letters kinds writes true from to old new text new_text =
     (entry : Entry) × Gives separator entry from to
-    × WritesEntry form kinds entry old new text new_text
-WritesNext separator form kinds false from to old new text new_text =
+    × WritesEntry letters kinds writes entry old new text new_text
+WritesNext separator letters kinds writes false from to old new text new_text =
     (from.text ≡ []) × (new ≡ old) × (new_text ≡ text)
 
--- the faults of some rows were found; if there are none, a text is their letters
-pub record WritesRows (form : PreparedFormat) (kinds : List Kind) (rows : List Entry)
-    (text : List ℕ) (found : List LineFault) : Type 0 where
-  pub faults : AreFaults kinds rows found
-  pub letters : found ≡ [] → AreLetters form kinds rows text
+-- the faults of names and rows were found; if letters are asked for and there are no faults, the
+-- letters of the rows were appended to a text
+pub record WritesRows (letters : Letters) (names : List (List ℕ)) (kinds : List Kind)
+    (writes : Bool) (rows : List Entry) (old new : List ℕ) (found : List LineFault) : Type 0 where
+  pub faults : AreFaultsBy names kinds rows found
+  pub puts : writes ≡ true → found ≡ []
+      → (text : List ℕ) × AreLetters letters kinds rows text × (new ≡ old ++ text)
+  pub keeps : writes ≡ false → new ≡ old
 
--- a text is the letters of a template and a table, with neither of which anything is wrong
-pub record IsMerged (separator : Separator) (template table letters : List ℕ) : Type 0 where
-  pub header : List (List ℕ)
-  pub rows : List Entry
-  pub is : IsTable separator table header rows
-  pub sound : IsSound (form_of template header) (kinds_of header)
-  pub whole : AreFaultsOf header rows []
-  pub are_letters : AreLetters (form_of template header) (kinds_of header) rows letters
+-- the letters of all rows from a place on were appended to a text, and nothing is wrong with them or
+-- with the names; or these are the faults of both, and then the text stays, unless a part of the
+-- letters is wanted
+abbrev pub MergesFrom : Separator → Letters → (names : List (List ℕ)) → List Kind
+    → (partial : Bool) → (from : At) → (old new : List ℕ) → Result (Unit {0}) Fault → Type 0
+MergesFrom separator letters names kinds partial from old new (Ok _) = (rows : List Entry)
+    × AreEntries separator rows from × AreFaultsBy names kinds rows []
+    × (text : List ℕ) × AreLetters letters kinds rows text × (new ≡ old ++ text)
+MergesFrom separator letters names kinds partial from old new (Err (why.Table told)) =
+    (rows : List Entry) × AreEntries separator rows from × AreFaultsBy names kinds rows told.items
+    × (told.items ≢ []) × (partial ≡ false → new ≡ old)
+MergesFrom separator letters names kinds partial from old new (Err why.Stopped) = ⊤
+MergesFrom separator letters names kinds partial from old new (Err _) = ⊥
 
--- a template is wrong with an error, by the header of a table: its fault, or memory was refused
-abbrev pub IsWrongIn : Separator → (template table : List ℕ) → Error → Type 0
-IsWrongIn separator template table error = (answer_of error ≡ no_memory)
-    ⊎ ((header : List (List ℕ)) × (after : At) × HasHeader separator table header after
-    × IsFault (form_of template header) (kinds_of header) error)
+-- so it is with templates and a header, if they can be prepared for its columns; or they can not,
+-- and the text stays
+abbrev pub MergesAfter : Separator → Templates → (header : List (List ℕ)) → (partial : Bool)
+    → (after : At) → (old new : List ℕ) → Result (Unit {0}) Fault → Type 0
+MergesAfter separator templates header partial after old new result =
+    ((letters : Letters) × (sample : Sample) × ArePrepared templates (names_of header) letters
+    × AreReady letters (kinds_of header) sample
+    × MergesFrom separator letters (names_of header) (kinds_of header) partial after old new result)
+    ⊎ ((fault : Fault) × (result ≡ Err fault)
+    × Spoils templates (names_of header) (kinds_of header) fault × (new ≡ old))
 
--- why there are no letters: the template is wrong with an error, or the table has these faults
-abbrev pub Prevents : Separator → (template table : List ℕ) → Fault → Type 0
-Prevents separator template table (why.Template error) =
-    IsWrongIn separator template table error
-Prevents separator template table (why.Table told) =
-    AreFaultsIn separator table told.items × (told.items ≢ [])
+-- a table has no header, for these faults, or memory ran out
+abbrev pub LacksHeader : Separator → (start : At) → Fault → Type 0
+LacksHeader separator start (why.Table told) = HasNoHeader separator start told.items
+LacksHeader separator start why.Stopped = ⊤
+LacksHeader separator start _ = ⊥
 
--- a fault is that of these lines, or memory was refused
+-- the letters of templates and a table are appended to a text; or the faults of these are told
+abbrev pub Merges : Separator → Templates → (table : List ℕ) → (partial : Bool)
+    → (old new : List ℕ) → Result (Unit {0}) Fault → Type 0
+Merges separator templates table partial old new result = (start : At) × Starts table start
+    × (((header : List (List ℕ)) × (after : At) × GivesRecord separator header start after
+    × MergesAfter separator templates header partial after old new result)
+    ⊎ ((fault : Fault) × (result ≡ Err fault) × LacksHeader separator start fault × (new ≡ old)))
+
+-- a fault is that of these lines, or memory ran out
 abbrev pub IsOneFault : Fault → List LineFault → Type 0
-IsOneFault (why.Template error) told = answer_of error ≡ no_memory
 IsOneFault (why.Table faults) told = faults.items ≡ told
-
--- columns are those of a header
-pub record AreColumns (header : List (List ℕ)) (names : List (List ℕ)) (kinds : List Kind) : Type 0
-  where
-    pub same_names : names ≡ names_of header
-    pub same_kinds : kinds ≡ kinds_of header
+IsOneFault why.Stopped told = ⊤
+IsOneFault _ told = ⊥

@@ -10,8 +10,7 @@ use Rattle.merge.specs.declared.columns.Kind.{Kind}
 use Rattle.merge.specs.declared.table.LineFault.{LineFault}
 use Rattle.merge.specs.declared.table.Trouble.{Trouble}
 use Rattle.merge.specs.declared.table.Trouble.TheVariants as troubles
-use Rattle.records.specs.Heads.{Starts}
-use Rattle.records.specs.Tables.{AreEntries, At, Entry, GivesFault, GivesRecord}
+use Rattle.records.specs.Tables.{At, Entry, GivesFault}
 use Rattle.records.specs.declared.fault.Fault.{Fault}
 use Rattle.records.specs.declared.separator.Separator.{Separator}
 
@@ -27,19 +26,6 @@ names_of header = map (λ column. column.0) (columns_of header)
 
 abbrev pub kinds_of : (header : List (List ℕ)) → List Kind
 kinds_of header = map (λ column. column.1) (columns_of header)
-
--- the first record of a table is its header, with other records after it
-pub record HasHeader (separator : Separator) (table : List ℕ) (header : List (List ℕ)) (after : At)
-    : Type 0 where
-  pub start : At
-  pub starts : Starts table start
-  pub first : GivesRecord separator header start after
-
--- a table has a header, and these records and faults after it
-abbrev pub IsTable : Separator → (table : List ℕ) → (header : List (List ℕ)) → (rows : List Entry)
-    → Type 0
-IsTable separator table header rows =
-    (after : At) × HasHeader separator table header after × AreEntries separator rows after
 
 -- ---- a record
 
@@ -107,20 +93,14 @@ repeats_after before (name ∷ more) =
 abbrev pub repeats : List (List ℕ) → List LineFault
 repeats names = repeats_after [] names
 
--- these are the faults of a table with this header and these rows
-abbrev pub AreFaultsOf : (header : List (List ℕ)) → (rows : List Entry) → List LineFault → Type 0
-AreFaultsOf header rows told = (others : List LineFault) × AreFaults (kinds_of header) rows others
-    × (told ≡ repeats (names_of header) ++ others)
+-- these are the faults of a table with columns of these names, and these rows
+abbrev pub AreFaultsBy : (names : List (List ℕ)) → List Kind → (rows : List Entry)
+    → List LineFault → Type 0
+AreFaultsBy names kinds rows told =
+    (others : List LineFault) × AreFaults kinds rows others × (told ≡ repeats names ++ others)
 
 -- a table has no header: it is empty, or goes on with no record
-abbrev pub HasNoHeader : Separator → (table : List ℕ) → List LineFault → Type 0
-HasNoHeader separator table told = (start : At) × Starts table start
-    × (((start.text ≡ []) × (told ≡ with_line 1 (Some troubles.Empty)))
+abbrev pub HasNoHeader : Separator → (start : At) → List LineFault → Type 0
+HasNoHeader separator start told = ((start.text ≡ []) × (told ≡ with_line 1 (Some troubles.Empty)))
     ⊎ ((fault : Fault) × (after : At) × GivesFault separator fault start after
-    × (told ≡ broken fault)))
-
--- these are the faults of a table: if it has a header, of all its names and rows
-abbrev pub AreFaultsIn : Separator → (table : List ℕ) → List LineFault → Type 0
-AreFaultsIn separator table told = HasNoHeader separator table told
-    ⊎ ((header : List (List ℕ)) × (rows : List Entry) × IsTable separator table header rows
-    × AreFaultsOf header rows told)
+    × (told ≡ broken fault))

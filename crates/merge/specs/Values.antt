@@ -1,6 +1,7 @@
 -- The fields of a line as values: which are what their columns want, and what their views are.
 -- Fields are bytes.
-use Rattle.std.specs.Prelude.{◌≡◌, ◌⊎◌, ⊤, ℕ, ◌+◌, pos, List, [], ◌∷◌, Option, None, Some}
+use Rattle.std.specs.Prelude.{◌≡◌, ◌⊎◌, ⊤, ℕ, ◌+◌, pos, Bool, true, false, List, [], ◌∷◌}
+use Rattle.std.specs.Prelude.{Option, None, Some, slice_get}
 use Rattle.std.specs.Borrow.{Bor}
 use Rattle.std.specs.Str.{trim}
 use Rattle.interpolator.specs.DecimalTexts.{Spells}
@@ -37,6 +38,15 @@ IsMisfit number (kind ∷ more) (field ∷ fields) found =
     (Fits kind field × IsMisfit (number + 1) more fields found)
     ⊎ (¬ Fits kind field × (found ≡ Some number))
 IsMisfit _ _ _ _ = ⊥
+
+-- a field is there, and empty
+abbrev pub is_empty_field : Option (List ℕ) → Bool
+is_empty_field (Some []) = true
+is_empty_field _ = false
+
+-- the field at a place, from 0, is empty
+abbrev pub is_empty_at : ℕ → (fields : List (List ℕ)) → Bool
+is_empty_at place fields = is_empty_field (slice_get fields place)
 
 -- a view as a value: a number fills the slots of debug, display and exponents, a text those of
 -- debug and display

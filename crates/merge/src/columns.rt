@@ -1,7 +1,9 @@
 //! The columns of a table: their names, and what their fields are.
 
 ghost use Rattle.std.specs.Prelude.{◌≡◌, IfOk, map};
-ghost use Rattle.merge.specs.Columns.{as_column, column_of, kinds_in};
+ghost use Rattle.merge.specs.Columns.{as_column, column_named, column_of, is_named, kinds_in};
+ghost use Rattle.merge.specs.Columns.{names_in};
+ghost use Rattle.std.specs.List.{position};
 ghost use Rattle.records.specs.Spellings.{text_of};
 
 use records::Field;
@@ -47,7 +49,7 @@ fn column_of(field: &str) -> Column<'_>
 pub fn columns_of<'a>(alloc: Global, fields: &'a [Field<'_>]) -> Result<Vec<Column<'a>>, AllocError>
     ensures kinds { IfOk result (λ columns. kinds_in columns.items
         ≡ map (λ column. column.1) (map column_of (map text_of fields.now))) }
-    ensures names { IfOk result (λ columns. map (λ column. column.name.now) columns.items
+    ensures names { IfOk result (λ columns. names_in columns.items
         ≡ map (λ column. column.0) (map column_of (map text_of fields.now))) }
 {
     let mut columns = Vec::with_capacity(alloc, fields.len())?;
@@ -60,11 +62,32 @@ pub fn columns_of<'a>(alloc: Global, fields: &'a [Field<'_>]) -> Result<Vec<Colu
 /// The names of columns.
 pub fn names_of<'a>(alloc: Global, columns: &[Column<'a>]) -> Result<Vec<&'a str>, AllocError>
     ensures { IfOk result (λ names.
-        map (λ x. x.now) names.items ≡ map (λ column. column.name.now) columns.now) }
+        map (λ x. x.now) names.items ≡ names_in columns.now) }
 {
     let mut names = Vec::with_capacity(alloc, columns.len())?;
     for column in columns.iter() {
         names.push(column.name)?;
     }
     Ok(names)
+}
+
+/// Whether a column has this name.
+fn is_named(column: &Column<'_>, name: &str) -> bool
+    ensures { result ≡ is_named name.now column.now }
+{
+    column.name == name
+}
+
+/// The place of the first column that has this name, from 0.
+fn place_of(columns: &[Column<'_>], name: &str) -> Option<usize>
+    ensures { result ≡ position (is_named name.now) columns.now }
+{
+    columns.iter().position(|column| is_named(column, name))
+}
+
+/// The place of the column of a name, from 0.
+pub fn column_named(columns: &[Column<'_>], name: &str) -> Option<usize>
+    ensures { result ≡ column_named (names_in columns.now) name.now }
+{
+    place_of(columns, name)
 }

@@ -12,33 +12,63 @@
 //! separator is that of `--separator`, which is `,`, `;` or `tab`; without it, that of the three
 //! which the first line alone has, or else the comma. Blank lines at the end are no records; any
 //! other blank line is a record of one empty field, so it is reported in a table of two columns or
-//! more. A byte order mark at the head of either file is skipped. The table is UTF-8, or with
-//! `--latin1` Latin-1; the template is UTF-8.
+//! more. A byte order mark at the head of a file is skipped. The table is UTF-8, or with `--latin1`
+//! Latin-1; templates are UTF-8.
 //!
-//! The template is checked with the columns before the first letter, and its fault is shown in its
-//! line, as a compiler does. All records of the table that have a fault are reported, by their first
-//! line, and all places where the table goes on with no record. In both cases no letter is written.
-//! The status is 0 if the letters are written, 1 after a fault of the template or of the table, 2
-//! after wrong use, and 3 after a refused write or for a file that cannot be read.
+//! With `--if-empty title=PLAIN`, the letter of a record whose field `title` is empty is made by the
+//! template in the file PLAIN.
+//!
+//! Templates are checked with the columns before the first letter, and all faults of the first that
+//! has any are shown in their lines, as a compiler does. All records of the table that have a fault
+//! are reported, by their first line, and all places where the table goes on with no record. In both
+//! cases no letter is written; but with `--partial` those of the records before the first fault are.
+//! So the table is read twice, or once with `--partial`, and each letter is written as it is made.
+//!
+//! A flag that is given again counts as it was given last; `--` ends the flags, and `--help` as the
+//! first word prints help. The status is 0 if the letters are written, 1 after a fault of a template
+//! or of the table, 2 after wrong use, and 3 after a refused write or for a file that cannot be read.
 #![tactic(auto)]
 
 mod columns;
 mod letters;
+mod output;
 mod table;
+mod told;
 mod values;
 
-use interpolator::{Error, Source, explain_with_names};
-use letters::{Fault, merged};
-use records::{BadByte, Field, Problem, ReadError, Reader, Separator, latin1, text_in};
-use std::alloc::Global;
+use interpolator::{Error, IoWriter};
+use letters::{Fault, Templates, merge};
+use output::Output;
+use records::{BadByte, Separator, latin1, text_in};
 use std::fs;
 use std::process::ExitCode;
-use table::{LineFault, Trouble};
+use told::{Files, told};
 use words::program::{
     FAULT, REFUSED, WRITTEN, arguments, ended, is_flag, usage, without_mark, without_words,
 };
 
-const USAGE: &str = "usage: merge [--separator , | ; | tab] [--latin1] TEMPLATE TABLE";
+const USAGE: &str = "usage: merge [--separator , | ; | tab] [--latin1] [--partial] \
+    [--if-empty NAME=TEMPLATE] [--] TEMPLATE TABLE";
+
+const HELP: &str = "\
+Writes a letter for each record of a table.
+
+usage: merge [FLAG..] [--] TEMPLATE TABLE
+
+  --separator , | ; | tab    what is between two fields; else that which line 1 alone has, or a comma
+  --latin1                   the table is Latin-1, not UTF-8
+  --partial                  if a record is wrong, write the letters of those before it
+  --if-empty NAME=TEMPLATE   another template for the records whose field NAME is empty
+  --help                     print this
+
+The first line of the table names its columns; `price:` names a column of numbers, `price`.
+
+example: with `Dear {name}, {item} costs {price:.2}.` in letter.txt, and in people.csv
+  name,item,price:
+  Ann,tea,2.5
+the line `merge letter.txt people.csv` writes
+  Dear Ann, tea costs 2.50.
+";
 
 /// What the command line asks for.
 #[derive(Clone, Copy)]
@@ -47,163 +77,105 @@ struct Asked<'a> {
     table: &'a str,
     separator: Option<Separator>,
     is_latin1: bool,
-}
-
-/// The files of the command line, and their texts.
-#[derive(Clone, Copy)]
-struct Files<'a> {
-    template_name: &'a str,
-    template: &'a str,
-    table_name: &'a str,
-    table: &'a str,
-    separator: Separator,
-}
-
-/// Fills in the fields of the header; none, if it has a fault.
-fn read_header<'a>(
-    alloc: Global,
-    files: Files<'a>,
-    fields: &mut Vec<Field<'a>>,
-) -> Result<(), Error> {
-    match Reader::new(files.table, files.separator).next_record(alloc, fields) {
-        Ok(_) => Ok(()),
-        Err(ReadError::Fault(_)) => Ok(()),
-        Err(ReadError::NoMemory) => Err(Error::NoMemory),
-    }
-}
-
-/// Why a table goes on with no record.
-fn told_problem(problem: Problem) -> &'static str {
-    match problem {
-        Problem::Unclosed => "a quote that is never closed",
-        Problem::StrayQuote => {
-            "a stray quote: write the field in quotes, and double those in it"
-        }
-        Problem::AfterQuote => "text after a closing quote: double the quotes in a field",
-        Problem::LoneReturn => "a carriage return without a newline",
-    }
-}
-
-/// The fault of a line, as a line of text, in a table whose header has `wanted` names.
-fn told_line(alloc: Global, table: &str, fault: LineFault, wanted: usize) -> Result<String, Error> {
-    let line = fault.line;
-    let told = match fault.trouble {
-        Trouble::Broken(broken) => {
-            let column = broken.place.column;
-            let why = told_problem(broken.problem);
-            format!(in alloc; "{table}:{line}:{column}: {why}\n")?
-        }
-        Trouble::Empty => format!(in alloc; "{table}: the table is empty: it has no names\n")?,
-        Trouble::Fields(count) => {
-            let noun = if count == 1 { "field" } else { "fields" };
-            format!(in alloc; "{table}:{line}: {count} {noun}, but line 1 has {wanted}\n")?
-        }
-        Trouble::Twice(column) => format!(in alloc;
-            "{table}:{line}: column {column} has the name of an earlier column\n"
-        )?,
-        Trouble::NotNumber(column) => format!(in alloc;
-            "{table}:{line}: column {column} wants a number, such as -7 or 12.50\n"
-        )?,
-    };
-    Ok(told)
-}
-
-/// The faults of a table, a line for each.
-fn told_lines(alloc: Global, files: Files<'_>, faults: &[LineFault]) -> Result<String, Error> {
-    let mut fields = Vec::new(alloc);
-    read_header(alloc, files, &mut fields)?;
-    let wanted = fields.len();
-    let mut told = String::new(alloc);
-    for fault in faults {
-        let line = told_line(alloc, files.table_name, *fault, wanted)?;
-        told.push_str(line.as_str())?;
-    }
-    Ok(told)
-}
-
-/// A fault of the template, shown in its line, and below it the names, if one is missing.
-fn picture(
-    alloc: Global,
-    files: Files<'_>,
-    error: &Error,
-    names: &[&str],
-) -> Result<String, Error> {
-    let source = Source {
-        name: files.template_name,
-        first_line: 1,
-        text: files.template,
-        start: 0,
-        format: files.template,
-    };
-    let mut told = explain_with_names(alloc, &source, error, names)?;
-    told.push('\n')?;
-    Ok(told)
-}
-
-/// A fault of the template, with the names that the header gives.
-fn told_fault(alloc: Global, files: Files<'_>, error: &Error) -> Result<String, Error> {
-    let mut fields = Vec::new(alloc);
-    read_header(alloc, files, &mut fields)?;
-    let columns = columns::columns_of(alloc, fields.as_slice())?;
-    let names = columns::names_of(alloc, columns.as_slice())?;
-    picture(alloc, files, error, names.as_slice())
-}
-
-/// Why there are no letters: a fault of the template, or lines of the table.
-fn told(alloc: Global, files: Files<'_>, fault: &Fault) -> Result<String, Error> {
-    match fault {
-        Fault::Template(Error::NoMemory) => Err(Error::NoMemory),
-        Fault::Template(error) => told_fault(alloc, files, error),
-        Fault::Table(faults) => told_lines(alloc, files, faults.as_slice()),
-    }
-}
-
-/// The separator that a word names.
-fn separator_in(word: &str) -> Option<Separator> {
-    match word {
-        "," => Some(Separator::Comma),
-        ";" => Some(Separator::Semicolon),
-        "tab" | "\t" => Some(Separator::Tab),
-        _ => None,
-    }
+    is_partial: bool,
+    /// The name of a column, and of the template for its empty fields.
+    if_empty: Option<(&'a str, &'a str)>,
 }
 
 /// What the words ask for: flags, and then two files.
 fn asked_by<'a>(words: &'a [String]) -> Option<Asked<'a>> {
     let mut rest = words;
-    let mut separator = None;
-    let mut is_latin1 = false;
+    let mut asked = Asked {
+        template: "",
+        table: "",
+        separator: None,
+        is_latin1: false,
+        is_partial: false,
+        if_empty: None,
+    };
     loop {
         match rest {
             [flag, word, more @ ..] if flag.as_str() == "--separator" => {
-                separator = Some(separator_in(word.as_str())?);
+                asked.separator = Some(Separator::named(word.as_str())?);
+                rest = more;
+            }
+            [flag, word, more @ ..] if flag.as_str() == "--if-empty" => {
+                asked.if_empty = Some(word.as_str().split_once('=')?);
                 rest = more;
             }
             [flag, more @ ..] if flag.as_str() == "--latin1" => {
-                is_latin1 = true;
+                asked.is_latin1 = true;
                 rest = more;
             }
+            [flag, more @ ..] if flag.as_str() == "--partial" => {
+                asked.is_partial = true;
+                rest = more;
+            }
+            [flag, template, table] if flag.as_str() == "--" => {
+                asked.template = template.as_str();
+                asked.table = table.as_str();
+                return Some(asked);
+            }
             [template, table] if !is_flag(template.as_str()) && !is_flag(table.as_str()) => {
-                return Some(Asked {
-                    template: template.as_str(),
-                    table: table.as_str(),
-                    separator,
-                    is_latin1,
-                });
+                asked.template = template.as_str();
+                asked.table = table.as_str();
+                return Some(asked);
             }
             _ => return None,
         }
     }
 }
 
-/// Writes the letters of a template and a table, or why there are none.
+/// Ends a run for lack of memory.
+fn out_of_memory(rt: &HostRuntime) -> ExitCode {
+    ended(eprintln!(rt; "{}", Error::NoMemory), FAULT)
+}
+
+/// Ends a run that wrote what it could.
+fn stopped(rt: &HostRuntime, output: Output<'_>) -> ExitCode {
+    match output.into_error() {
+        Some(error) => ended(eprintln!(rt; "cannot write: {error}"), REFUSED),
+        None => out_of_memory(rt),
+    }
+}
+
+/// Writes the letters of templates and a table, or why they are missing.
 fn write_letters(rt: &HostRuntime, files: Files<'_>) -> ExitCode {
-    match merged(rt.alloc(), files.template, files.table, files.separator) {
-        Ok(letters) => ended(rt.print(letters.as_str()), WRITTEN),
-        Err(fault) => match told(rt.alloc(), files, &fault) {
-            Ok(told) => ended(eprint!(rt; "{told}"), FAULT),
-            Err(_) => ended(eprintln!(rt; "{}", Error::NoMemory), FAULT),
-        },
+    let alloc = rt.alloc();
+    let mut out = IoWriter::new(alloc, Output::new(rt));
+    let templates = Templates {
+        letter: files.template,
+        other: files.other,
+        column: files.column,
+    };
+    let merged = merge(
+        alloc,
+        &mut out,
+        templates,
+        files.table,
+        files.separator,
+        files.is_partial,
+    );
+    if let Err(Fault::Stopped) = merged {
+        return stopped(rt, out.into_inner());
+    }
+    if out.flush().is_err() {
+        return stopped(rt, out.into_inner());
+    }
+    let Err(fault) = merged else {
+        return ExitCode::from(WRITTEN);
+    };
+    match told(alloc, files, &fault) {
+        Ok(told) => ended(eprint!(rt; "{told}"), FAULT),
+        Err(_) => out_of_memory(rt),
+    }
+}
+
+/// The bytes of a file, or how the run ends without them.
+fn bytes_in(rt: &HostRuntime, name: &str) -> Result<Vec<u8>, ExitCode> {
+    match fs::read(rt, name) {
+        Ok(bytes) => Ok(bytes),
+        Err(error) => Err(ended(eprintln!(rt; "{name}: {error}"), REFUSED)),
     }
 }
 
@@ -218,52 +190,72 @@ fn not_utf8(rt: &HostRuntime, name: &str, bad: BadByte, advice: &str) -> ExitCod
     )
 }
 
-/// Merges the texts of two files.
-fn merge_texts(rt: &HostRuntime, asked: Asked<'_>, template: &str, table: &str) -> ExitCode {
+/// The bytes of a file as text, or how the run ends without it.
+fn text_of<'a>(
+    rt: &HostRuntime,
+    name: &str,
+    bytes: &'a [u8],
+    advice: &str,
+) -> Result<&'a str, ExitCode> {
+    match text_in(bytes) {
+        Ok(text) => Ok(without_mark(text)),
+        Err(bad) => Err(not_utf8(rt, name, bad, advice)),
+    }
+}
+
+/// Merges texts.
+fn merge_texts(
+    rt: &HostRuntime,
+    asked: Asked<'_>,
+    template: &str,
+    other: &str,
+    table: &str,
+) -> ExitCode {
     let separator = match asked.separator {
         Some(separator) => separator,
         None => Separator::told_by(table).unwrap_or(Separator::Comma),
     };
+    let (column, other_name) = match asked.if_empty {
+        Some((column, name)) => (Some(column), name),
+        None => (None, ""),
+    };
     let files = Files {
         template_name: asked.template,
-        template: without_mark(template),
+        template,
+        other_name,
+        other,
+        column,
         table_name: asked.table,
         table,
         separator,
+        is_partial: asked.is_partial,
     };
     write_letters(rt, files)
 }
 
-/// Merges a template and the bytes of a table.
-fn merge_bytes(rt: &HostRuntime, asked: Asked<'_>, template: &str, table: &[u8]) -> ExitCode {
+/// Merges files, or ends the run without one.
+fn merge_files(rt: &HostRuntime, asked: Asked<'_>) -> Result<ExitCode, ExitCode> {
+    let template = bytes_in(rt, asked.template)?;
+    let template = text_of(rt, asked.template, template.as_slice(), "")?;
+    let other = match asked.if_empty {
+        Some((_, name)) => bytes_in(rt, name)?,
+        None => Vec::new(rt.alloc()),
+    };
+    let other_name = match asked.if_empty {
+        Some((_, name)) => name,
+        None => "",
+    };
+    let other = text_of(rt, other_name, other.as_slice(), "")?;
+    let table = bytes_in(rt, asked.table)?;
     if asked.is_latin1 {
-        return match latin1(rt.alloc(), table) {
-            Ok(text) => merge_texts(rt, asked, template, text.as_str()),
-            Err(_) => ended(eprintln!(rt; "{}", Error::NoMemory), FAULT),
+        return match latin1(rt.alloc(), table.as_slice()) {
+            Ok(text) => Ok(merge_texts(rt, asked, template, other, text.as_str())),
+            Err(_) => Err(out_of_memory(rt)),
         };
     }
-    match text_in(table) {
-        Ok(text) => merge_texts(rt, asked, template, text),
-        Err(bad) => not_utf8(rt, asked.table, bad, "; is this Latin-1? try --latin1"),
-    }
-}
-
-/// Merges two files.
-fn merge(rt: &HostRuntime, asked: Asked<'_>) -> ExitCode {
-    let template_name = asked.template;
-    let template = match fs::read(rt, template_name) {
-        Ok(bytes) => bytes,
-        Err(error) => return ended(eprintln!(rt; "{template_name}: {error}"), REFUSED),
-    };
-    let table_name = asked.table;
-    let table = match fs::read(rt, table_name) {
-        Ok(bytes) => bytes,
-        Err(error) => return ended(eprintln!(rt; "{table_name}: {error}"), REFUSED),
-    };
-    match text_in(template.as_slice()) {
-        Ok(text) => merge_bytes(rt, asked, text, table.as_slice()),
-        Err(bad) => not_utf8(rt, template_name, bad, ""),
-    }
+    let advice = "; is this Latin-1? try --latin1";
+    let table = text_of(rt, asked.table, table.as_slice(), advice)?;
+    Ok(merge_texts(rt, asked, template, other, table))
 }
 
 fn main(rt: HostRuntime) -> ExitCode {
@@ -271,8 +263,16 @@ fn main(rt: HostRuntime) -> ExitCode {
         Ok(words) => words,
         Err(error) => return without_words(&rt, &error, USAGE),
     };
-    match asked_by(words.as_slice()) {
-        Some(asked) => merge(&rt, asked),
-        None => usage(&rt, USAGE),
+    if let [word, ..] = words.as_slice() {
+        if word.as_str() == "--help" {
+            return ended(rt.print(HELP), WRITTEN);
+        }
+    }
+    let Some(asked) = asked_by(words.as_slice()) else {
+        return usage(&rt, USAGE);
+    };
+    match merge_files(&rt, asked) {
+        Ok(status) => status,
+        Err(status) => status,
     }
 }

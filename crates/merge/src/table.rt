@@ -1,7 +1,8 @@
 //! The faults of a table.
 
 ghost use Rattle.std.specs.Prelude.{◌≡◌, ◌+◌, ◌^◌, ◌<◌, ◌++◌, ◌∷◌, [], ℕ, List, Decides, IfOk};
-ghost use Rattle.std.specs.Prelude.{length, map};
+ghost use Rattle.std.specs.Prelude.{MatchBool, false, length, true};
+ghost use Rattle.merge.specs.Columns.{names_in};
 ghost use Rattle.merge.specs.Names.{Knows};
 ghost use Rattle.merge.specs.Table.{broken, count_trouble, repeat_trouble, repeats, with_line};
 
@@ -90,7 +91,7 @@ fn push_repeat<'a>(
 /// The faults of the first line: one for each column that has the name of an earlier one.
 pub fn repeats_of(alloc: Global, columns: &[Column<'_>]) -> Result<Vec<LineFault>, AllocError>
     ensures { IfOk result (λ faults.
-        faults.items ≡ repeats (map (λ column. column.name.now) columns.now)) }
+        faults.items ≡ repeats (names_in columns.now)) }
 {
     let mut seen = BTreeMap::new(alloc);
     let mut faults = Vec::new(alloc);
@@ -105,4 +106,12 @@ pub fn is_clean(faults: &[LineFault]) -> bool
     ensures { Decides result (faults.now ≡ []) }
 {
     faults.is_empty()
+}
+
+/// Whether letters go on to be written: they do if that is asked for, and nothing is wrong.
+pub fn goes_on(writes: bool, faults: &[LineFault]) -> bool
+    ensures on { writes ≡ true → faults.now ≡ [] → result ≡ true }
+    ensures off { writes ≡ false → result ≡ false }
+{
+    writes && faults.is_empty()
 }

@@ -4,6 +4,7 @@ ghost use Rattle.std.specs.Prelude.{◌≡◌, IfOk, MatchOption, MatchResult, S
 ghost use Rattle.interpolator.specs.Slots.{slots_of};
 ghost use Rattle.merge.specs.Columns.{kinds_in};
 ghost use Rattle.merge.specs.Values.{AreShown, Fits, IsMisfit, Shows, as_value, example_by};
+ghost use Rattle.merge.specs.Values.{is_empty_at};
 ghost use Rattle.records.specs.Spellings.{text_of};
 ghost use Rattle.merge.specs.declared.columns.Kind.TheVariants.{Number};
 
@@ -95,5 +96,15 @@ pub fn example_of<'a>(
     match kind {
         Kind::Text => as_value(text),
         Kind::Number => as_value(number),
+    }
+}
+
+/// Whether the field of a column is empty.
+pub fn is_empty_at(fields: &[Field<'_>], column: usize) -> bool
+    ensures { result ≡ is_empty_at column (map text_of fields.now) }
+{
+    match fields.get(column) {
+        Some(field) => field.as_str().is_empty(),
+        None => false,
     }
 }

@@ -1,108 +1,58 @@
--- The entries of a column, one after the other.
-use Rattle.std.proofs.Common.{◌≡◌, ◌+◌, ◌<◌, ℕ, zero, suc, refl, ap, subst, ◌∙◌, arith}
-use Rattle.std.proofs.Common.{List, [], ◌∷◌, ◌++◌, map, take, get_or, length}
-use Rattle.std.proofs.Common.{None, Option, Some, option_map}
-use Rattle.std.proofs.lemmas.List.{map-append, map_more}
-use Rattle.std.proofs.lemmas.List.Elements.{All-push}
-use Rattle.std.proofs.lemmas.Option.{unwrap_or-slice_get}
+-- Cells, one after the other.
+use Rattle.std.proofs.Common.{◌≡◌, ◌+◌, ◌<◌, ℕ, suc, refl, ap, sym, arith}
+use Rattle.std.proofs.Common.{List, [], ◌∷◌, ◌++◌, map, take, take-suc, get_or, length}
+use Rattle.std.proofs.Common.{Err, IfErr, Result, subst}
+use Rattle.std.proofs.lemmas.List.{map_more}
 use Rattle.std.specs.Borrow.{Bor}
-use Rattle.std.specs.List.{All, slice_get}
-use Rattle.std.specs.Option.{unwrap_or}
-use Rattle.std.proofs.Common.{Err, IfErr, Result, true, false}
-use Rattle.interpolator.specs.DecimalTexts.{Explains, Spells}
+use Rattle.interpolator.specs.DecimalTexts.{Explains}
+use Rattle.interpolator.specs.declared.decimal.Decimal.{Decimal}
 use Rattle.interpolator_syntax.specs.declared.error.NumberError.{NumberError}
 use Rattle.interpolator_syntax.specs.declared.error.NumberError.TheVariants.{InvalidDigit}
-use Rattle.report.specs.Totals.{IsNumber, Spell, column, entry_at}
-use Rattle.interpolator.specs.declared.decimal.Decimal.{Decimal}
-
--- ---- a column of lines, each lent
-
-module _ (index : ℕ) where
-  abbrev pub entries : List (Bor (List ℕ)) → List (List ℕ)
-  entries some_lines = column index (map (λ x. x.now) some_lines)
-
-  -- the entries of the lines so far, and of one more
-  entries_more : (some_lines : List (Bor (List ℕ))) (n : ℕ) (line : Bor (List ℕ)) →
-      n < length some_lines →
-      entries (take (n + 1) some_lines)
-      ≡ entries (take n some_lines) ++ (entry_at index (get_or some_lines n line).now ∷ [])
-  entries_more some_lines n line within =
-      ap (λ (xs : List (List ℕ)). column index xs)
-      (map_more (λ x. x.now) some_lines n line within)
-      ∙ map-append (entry_at index) (map (λ x. x.now) (take n some_lines))
-      ((get_or some_lines n line).now ∷ [])
-
-  pub length-entries : (some_lines : List (Bor (List ℕ))) →
-      length (entries some_lines) ≡ length some_lines
-  length-entries [] = refl
-  length-entries (x ∷ xs) = ap suc (length-entries xs)
-
-  -- the entry of the line at this place
-  pub entry_there : (some_lines : List (Bor (List ℕ))) (n : ℕ) (line : Bor (List ℕ)) (d : List ℕ) →
-      n < length some_lines →
-      get_or (entries some_lines) n d ≡ entry_at index (get_or some_lines n line).now
-  entry_there [] n line d h = absurd (omega arith)
-  entry_there (x ∷ xs) zero line d h = refl
-  entry_there (x ∷ xs) (suc n) line d h = entry_there xs n line d (omega arith)
-
-  pub take-entries : (some_lines : List (Bor (List ℕ))) (n : ℕ) →
-      take n (entries some_lines) ≡ entries (take n some_lines)
-  take-entries [] zero = refl
-  take-entries [] (suc n) = refl
-  take-entries (x ∷ xs) zero = refl
-  take-entries (x ∷ xs) (suc n) = ap (λ es. entry_at index x.now ∷ es) (take-entries xs n)
-
-  -- the number of one entry more
-  spell_more : (texts : List (List ℕ)) (numbers : List Decimal) (text : List ℕ) (number : Decimal) →
-      Spell texts numbers → Spells text number →
-      Spell (texts ++ (text ∷ [])) (numbers ++ (number ∷ []))
-  spell_more [] [] text number all one = (one, all)
-  spell_more [] (n ∷ ns) text number all one = absurd all
-  spell_more (t ∷ ts) [] text number all one = absurd all
-  spell_more (t ∷ ts) (n ∷ ns) text number all one =
-      (all.0, spell_more ts ns text number all.1 one)
-
-  pub spell_step : (some_lines : List (Bor (List ℕ))) (n : ℕ) (line : Bor (List ℕ))
-      (numbers more : List Decimal) (number : Decimal) → n < length some_lines →
-      Spell (entries (take n some_lines)) numbers →
-      Spells (entry_at index (get_or some_lines n line).now) number →
-      more ≡ numbers ++ (number ∷ []) → Spell (entries (take (n + 1) some_lines)) more
-  spell_step some_lines n line numbers more number within all one e =
-      rw (e, entries_more some_lines n line within)
-      (spell_more (entries (take n some_lines)) numbers _ number all one)
-
-  pub numeric_step : (some_lines : List (Bor (List ℕ))) (n : ℕ) (line : Bor (List ℕ)) →
-      n < length some_lines → All IsNumber (entries (take n some_lines)) →
-      IsNumber (entry_at index (get_or some_lines n line).now) →
-      All IsNumber (entries (take (n + 1) some_lines))
-  numeric_step some_lines n line within all one =
-      rw (entries_more some_lines n line within)
-      (All-push IsNumber (entries (take n some_lines)) _ all one)
-
-  pub numeric_there : (some_lines : List (Bor (List ℕ))) (n : ℕ) (line : Bor (List ℕ)) →
-      n < length some_lines → All IsNumber (entries some_lines) →
-      IsNumber (entry_at index (get_or some_lines n line).now)
-  numeric_there some_lines n line within all =
-      subst IsNumber (entry_there some_lines n line [] within)
-      (all n [] (rw (length-entries some_lines) within))
-
-pub not_both : false ≡ true → ⊥
-not_both e = grind arith
+use Rattle.report.specs.Totals.{AreCells, IsCell, numbers_in}
+use Rattle.report.specs.declared.totals.Cell.{Cell}
+use Rattle.report.specs.declared.totals.Cell.TheVariants.{Empty, Large, Number, Other}
 
 -- a text with a character that is no digit is no number
 pub no_digit : (read : Result Decimal NumberError) (text : List ℕ) →
-    IfErr read (λ error. Explains text error) → read ≡ Err InvalidDigit → ¬ (IsNumber text)
-no_digit read text why e (units, scale, spelled) =
+    IfErr read (λ error. Explains text error) → read ≡ Err InvalidDigit → IsCell text Other
+no_digit read text why e =
     let fault : IfErr {T = Decimal} {E = NumberError} (Err InvalidDigit)
     (λ error. Explains text error) =
     subst (λ (r : Result Decimal NumberError). IfErr r (λ error. Explains text error)) e why in
-    fault.1 units scale spelled
+    (fault.0, λ number. fault.1 number.0 number.1 number.2)
 
--- what an iterator gives at a place, or the empty text
-pub entry_or : (r : Option (Bor (List ℕ))) (all : List (List ℕ)) (n : ℕ)
-    (other found : Bor (List ℕ)) → found ≡ unwrap_or r other → other.now ≡ []
-    → option_map (λ x. x.now) r ≡ slice_get all n → found.now ≡ get_or all n []
-entry_or None all n other found e o h = ap (λ x. x.now) e
-    ∙ (o ∙ (ap (λ (x : Option (List ℕ)). unwrap_or x []) h ∙ unwrap_or-slice_get all n []))
-entry_or (Some x) all n other found e o h = ap (λ x. x.now) e
-    ∙ (ap (λ (y : Option (List ℕ)). unwrap_or y []) h ∙ unwrap_or-slice_get all n [])
+-- what one text more is
+cells_more : (texts : List (List ℕ)) (cells : List Cell) (text : List ℕ) (cell : Cell) →
+    AreCells texts cells → IsCell text cell →
+    AreCells (texts ++ (text ∷ [])) (cells ++ (cell ∷ []))
+cells_more [] [] text cell all one = (one, all)
+cells_more [] (_ ∷ _) text cell all one = absurd all
+cells_more (_ ∷ _) [] text cell all one = absurd all
+cells_more (_ ∷ texts) (_ ∷ cells) text cell all one =
+    (all.0, cells_more texts cells text cell all.1 one)
+
+pub cells_step : (entries : List (Bor (List ℕ))) (n : ℕ) (entry : Bor (List ℕ))
+    (cells more : List Cell) (cell : Cell) → n < length entries →
+    AreCells (map (λ x. x.now) (take n entries)) cells →
+    IsCell (get_or entries n entry).now cell → more ≡ cells ++ (cell ∷ []) →
+    AreCells (map (λ x. x.now) (take (n + 1) entries)) more
+cells_step entries n entry cells more cell within all one e =
+    rw (e, map_more (λ x. x.now) entries n entry within)
+    (cells_more (map (λ x. x.now) (take n entries)) cells _ cell all one)
+
+numbers_more : (cells others : List Cell) →
+    numbers_in (cells ++ others) ≡ numbers_in cells ++ numbers_in others
+numbers_more [] others = refl
+numbers_more (Empty ∷ cells) others = numbers_more cells others
+numbers_more (Number number ∷ cells) others = ap (λ ns. number ∷ ns) (numbers_more cells others)
+numbers_more (Large ∷ cells) others = numbers_more cells others
+numbers_more (Other ∷ cells) others = numbers_more cells others
+
+-- the numbers of one cell more
+pub numbers_step : (cells : List Cell) (n : ℕ) (d : Cell) (so_far more : List Decimal) →
+    n < length cells → so_far ≡ numbers_in (take n cells) →
+    more ≡ so_far ++ numbers_in (get_or cells n d ∷ []) → more ≡ numbers_in (take (n + 1) cells)
+numbers_step cells n d so_far more within is e =
+    let next : n + 1 ≡ suc n = omega arith in
+    rw (e, is, next, take-suc cells n d within)
+    (sym (numbers_more (take n cells) (get_or cells n d ∷ [])))

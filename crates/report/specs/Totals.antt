@@ -1,35 +1,44 @@
--- What the total of a column is.
-use Rattle.std.specs.Prelude.{◌≡◌, ◌==◌, ◌+ℤ◌, ◌*ℤ◌, ◌-◌, ◌<◌, ℕ, ℤ, pos, Bool, ⊤, FitsSigned}
-use Rattle.std.specs.Prelude.{List, [], ◌∷◌, get_or, length, map, max, take}
+-- What the total of cells is.
+use Rattle.std.specs.Prelude.{◌≡◌, ◌≢◌, ◌+ℤ◌, ◌*ℤ◌, ◌-◌, ℕ, ℤ, pos, ⊤, FitsSigned}
+use Rattle.std.specs.Prelude.{List, [], ◌∷◌, Bool, true, false, None, Some, length, max}
 use Rattle.std.specs.Int.{int_pow, w128}
-use Rattle.std.specs.List.{slice_split}
+use Rattle.std.specs.List.{position}
 use Rattle.interpolator.specs.DecimalTexts.{Spells, SpellsDecimal}
 use Rattle.interpolator.specs.declared.decimal.Decimal.{Decimal}
+use Rattle.report.specs.declared.totals.Cell.{Cell}
+use Rattle.report.specs.declared.totals.Cell.TheVariants.{Empty, Large, Number, Other}
 use Rattle.report.specs.declared.totals.NoTotal.{NoTotal}
 use Rattle.report.specs.declared.totals.NoTotal.TheVariants as none
-
--- `,`
-abbrev pub is_comma : ℕ → Bool
-is_comma c = c == 44
-
--- the entry of a line in the column at this index
-abbrev pub entry_at : ℕ → List ℕ → List ℕ
-entry_at index line = get_or (slice_split is_comma line) index []
-
--- the entries of a column
-abbrev pub column : ℕ → List (List ℕ) → List (List ℕ)
-column index some_lines = map (entry_at index) some_lines
+use Rattle.report.specs.declared.totals.Total.{Total}
 
 -- the text is a number, however large
 abbrev pub IsNumber : List ℕ → Type 0
 IsNumber text = (units : ℤ) × (scale : ℕ) × SpellsDecimal text units scale
 
--- each text spells the number in its place
-abbrev pub Spell : List (List ℕ) → List Decimal → Type 0
-Spell [] [] = ⊤
-Spell [] (_ ∷ _) = ⊥
-Spell (_ ∷ _) [] = ⊥
-Spell (text ∷ texts) (number ∷ numbers) = Spells text number × Spell texts numbers
+-- what a text is: empty, a number of 128 bits, a larger one, or no number
+abbrev pub IsCell : List ℕ → Cell → Type 0
+IsCell text Empty = text ≡ []
+IsCell text (Number number) = Spells text number
+IsCell text Large = IsNumber text × ((number : Decimal) → ¬ (Spells text number))
+IsCell text Other = (text ≢ []) × ¬ (IsNumber text)
+
+-- what each text is
+abbrev pub AreCells : List (List ℕ) → List Cell → Type 0
+AreCells [] [] = ⊤
+AreCells [] (_ ∷ _) = ⊥
+AreCells (_ ∷ _) [] = ⊥
+AreCells (text ∷ texts) (cell ∷ cells) = IsCell text cell × AreCells texts cells
+
+-- a cell is a number of more than 128 bits
+abbrev pub is_large : Cell → Bool
+is_large Large = true
+is_large _ = false
+
+-- the numbers among cells
+abbrev pub numbers_in : List Cell → List Decimal
+numbers_in [] = []
+numbers_in (Number number ∷ cells) = number ∷ numbers_in cells
+numbers_in (_ ∷ cells) = numbers_in cells
 
 -- the units of a number, counted at a scale that is not less
 abbrev pub units_at : ℕ → Decimal → ℤ
@@ -50,17 +59,23 @@ abbrev pub exact_sum : List Decimal → Decimal
 exact_sum numbers = let scale = greatest_scale numbers in
     record { units = sum_at scale numbers; scale = scale }
 
--- the total of entries: the exact sum of the numbers that they spell
-abbrev pub IsTotal : (entries : List (List ℕ)) → Decimal → Type 0
-IsTotal entries total =
-    (numbers : List Decimal) × Spell entries numbers × (total ≡ exact_sum numbers)
+-- a sum of so many numbers
+abbrev pub total_with : Decimal → ℕ → Total
+total_with sum counted = record { sum = sum; counted = counted }
 
--- why entries have no total: for memory; since the first that is no number of 128 bits has so many
--- before it; or since the total has more
-abbrev pub Explains : (entries : List (List ℕ)) → NoTotal → Type 0
-Explains entries none.NoMemory = ⊤
-Explains entries (none.Number before) =
-    (before < length entries) × ((number : Decimal) → ¬ (Spells (get_or entries before []) number))
-    × (numbers : List Decimal) × Spell (take before entries) numbers
-Explains entries none.Sum =
-    (total : Decimal) × IsTotal entries total × ¬ (FitsSigned w128 total.units)
+-- the exact sum of some numbers, and how many they are
+abbrev pub exact_total : List Decimal → Total
+exact_total numbers = total_with (exact_sum numbers) (length numbers)
+
+-- the total of cells, none of which is too large: that of the numbers among them
+abbrev pub IsTotal : List Cell → Total → Type 0
+IsTotal cells total =
+    (position is_large cells ≡ None) × (total ≡ exact_total (numbers_in cells))
+
+-- why cells have no total: for memory; since the first that is too large has so many before it; or
+-- since none is, and the sum is
+abbrev pub Explains : List Cell → NoTotal → Type 0
+Explains cells none.NoMemory = ⊤
+Explains cells (none.Number before) = position is_large cells ≡ Some before
+Explains cells none.Sum = (position is_large cells ≡ None)
+    × ¬ (FitsSigned w128 (exact_sum (numbers_in cells)).units)

@@ -1,6 +1,7 @@
 //! What is wrong with a file.
 
 use interpolator::Error;
+use records::Place;
 use std::alloc::Global;
 
 /// The faults of a file, as lines of text.
@@ -21,11 +22,25 @@ impl<'a> Faults<'a> {
     }
 
     /// Adds a fault of the line of this number.
-    pub fn tell(&mut self, number: usize, why: &str) -> Result<(), Error> {
+    pub fn tell(&mut self, line: usize, why: &str) -> Result<(), Error> {
         let file = self.file;
-        let told = format!(in self.alloc; "{file}:{number}: {why}\n")?;
+        let told = format!(in self.alloc; "{file}:{line}: {why}\n")?;
         self.told.push_str(told.as_str())?;
         Ok(())
+    }
+
+    /// Adds a fault at a place.
+    pub fn tell_at(&mut self, place: Place, why: &str) -> Result<(), Error> {
+        let file = self.file;
+        let Place { line, column } = place;
+        let told = format!(in self.alloc; "{file}:{line}:{column}: {why}\n")?;
+        self.told.push_str(told.as_str())?;
+        Ok(())
+    }
+
+    /// Whether there are none.
+    pub fn is_empty(&self) -> bool {
+        self.told.is_empty()
     }
 
     /// All faults; empty if there are none.

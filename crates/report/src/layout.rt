@@ -1,69 +1,36 @@
-//! The table: columns side by side, with their totals below.
+//! The page: records side by side in columns, with their totals below them.
 
-use crate::totals::entry_at;
+use crate::columns::Column;
+use crate::feet::{Foot, push_feet};
+use crate::rows::{Group, entry_in};
 use interpolator::{
-    Decimal, Error, Formattable, Pairs, Prepared, Row, Template, TextBuffer, TextWrite, Value,
-    View, iformat, items_of,
+    Error, Formattable, Pairs, Prepared, Row, Template, TextBuffer, TextWrite, Value, View,
+    items_of,
 };
+use records::{Record, Separator, push_record};
 use std::alloc::Global;
 
-/// A column.
-#[derive(Clone, Copy)]
-pub struct Column {
-    /// How many characters the widest of its name and its entries has.
-    width: usize,
-    /// Its total, if all its entries are numbers.
-    total: Option<Decimal>,
-}
-
-impl Column {
-    /// The column with this name at this index of the lines, without a total.
-    pub fn new(name: &str, lines: &[&str], index: usize) -> Column {
-        let mut width = name.chars().count();
-        for line in lines {
-            width = width.max(entry_at(line, index).chars().count());
-        }
-        Column { width, total: None }
-    }
-
-    /// The column with this total.
-    pub fn with_total(self, total: Decimal) -> Column {
-        Column {
-            total: Some(total),
-            ..self
+/// How many characters wide a column is, with what it has below it.
+fn width_of(column: &Column<'_>, index: usize, feet: &[Foot]) -> usize {
+    let mut width = column.width;
+    for foot in feet {
+        if let Some(text) = foot.texts.get(index) {
+            width = width.max(text.chars().count());
         }
     }
-
-    /// The text at the foot of the column: its total, or in the first column the label of the line.
-    fn foot(self, alloc: Global, is_first: bool) -> Result<String, Error> {
-        match self.total {
-            Some(total) => iformat!(in alloc; "{total}", total),
-            None if is_first => Ok(String::from_str(alloc, "total")?),
-            None => Ok(String::new(alloc)),
-        }
-    }
-}
-
-/// The last line: the text at the foot of each column.
-fn feet_of(alloc: Global, columns: &[Column]) -> Result<Vec<String>, Error> {
-    let mut feet = Vec::new(alloc);
-    for column in columns {
-        feet.push(column.foot(alloc, feet.is_empty())?)?;
-    }
-    Ok(feet)
+    width
 }
 
 /// The format of a row: its items by their indices, each in the width of its column.
-fn row_format(alloc: Global, columns: &[Column], feet: &[String]) -> Result<String, Error> {
+fn row_format(alloc: Global, columns: &[Column<'_>], feet: &[Foot]) -> Result<String, Error> {
     let mut format = String::new(alloc);
-    for (index, (column, foot)) in columns.iter().zip(feet).enumerate() {
+    for (index, column) in columns.iter().enumerate() {
         let gap = if index == 0 { "" } else { "  " };
-        let side = if column.total.is_some() { '>' } else { '<' };
-        let width = column.width.max(foot.chars().count());
+        let side = if column.is_numeric { '>' } else { '<' };
+        let width = width_of(column, index, feet);
         let item = format!(in alloc; "{gap}{{:i{index}({{:{side}{width}}})}}")?;
         format.push_str(item.as_str())?;
     }
-    format.push('\n')?;
     Ok(format)
 }
 
@@ -75,51 +42,194 @@ fn prepared_row(alloc: Global, format: &str) -> Result<Prepared, Error> {
     template.prepare(alloc, &Pairs(&[("", Formattable::iter(&items))]))
 }
 
-/// The entries of a line.
-fn entries_of(alloc: Global, line: &str) -> Result<Vec<View<'_>>, Error> {
-    let mut entries = Vec::new(alloc);
-    for field in line.split(',') {
-        entries.push(View::Text(field))?;
+/// The prepared format of a row; none if rows are written as records.
+fn row_of(
+    alloc: Global,
+    columns: &[Column<'_>],
+    feet: &[Foot],
+    is_csv: bool,
+) -> Result<Option<Prepared>, Error> {
+    if is_csv {
+        return Ok(None);
     }
-    Ok(entries)
+    let format = row_format(alloc, columns, feet)?;
+    Ok(Some(prepared_row(alloc, format.as_str())?))
 }
 
-/// Writes a row of entries.
-fn write_row<V: Value>(
+/// The page, as far as it is written.
+#[derive(Drop)]
+struct Page {
     alloc: Global,
-    out: &mut TextBuffer,
-    row: &Prepared,
-    entries: &[V],
-) -> Result<(), Error> {
+    /// The format of a row; none if it is written as records.
+    row: Option<Prepared>,
+    out: String,
+}
+
+/// The text of a row of entries.
+fn row_text<V: Value>(alloc: Global, row: &Prepared, entries: &[V]) -> Result<String, Error> {
     let items = items_of(alloc, entries)?;
-    let answer = row.write(alloc, out, &Row(&[Formattable::iter(&items)]));
+    let mut out = TextBuffer::new(alloc);
+    let answer = row.write(alloc, &mut out, &Row(&[Formattable::iter(&items)]));
     // The buffer refuses a text only if memory runs out.
     if out.refused() {
         return Err(Error::NoMemory);
     }
-    answer
-}
-
-/// Writes a line of the file as a row.
-fn write_line(
-    alloc: Global,
-    out: &mut TextBuffer,
-    row: &Prepared,
-    line: &str,
-) -> Result<(), Error> {
-    let entries = entries_of(alloc, line)?;
-    write_row(alloc, out, row, &entries)
-}
-
-/// The table of all lines of a file, with the line of totals.
-pub fn table_of(alloc: Global, columns: &[Column], lines: &[&str]) -> Result<String, Error> {
-    let feet = feet_of(alloc, columns)?;
-    let format = row_format(alloc, columns, &feet)?;
-    let row = prepared_row(alloc, format.as_str())?;
-    let mut out = TextBuffer::new(alloc);
-    for line in lines {
-        write_line(alloc, &mut out, &row, line)?;
-    }
-    write_row(alloc, &mut out, &row, &feet)?;
+    answer?;
     Ok(out.into_string())
+}
+
+/// The entries as what a row has.
+fn views_of<'a>(alloc: Global, entries: &[&'a str]) -> Result<Vec<View<'a>>, Error> {
+    let mut views = Vec::with_capacity(alloc, entries.len())?;
+    for entry in entries {
+        views.push(View::Text(entry))?;
+    }
+    Ok(views)
+}
+
+/// Adds a text, with a blank for each control character.
+fn push_shown(out: &mut String, text: &str) -> Result<(), Error> {
+    for c in text.chars() {
+        out.push(if c.is_control() { ' ' } else { c })?;
+    }
+    Ok(())
+}
+
+impl Page {
+    /// Adds a line of entries.
+    fn push(&mut self, entries: &[&str]) -> Result<(), Error> {
+        match &self.row {
+            None => push_record(&mut self.out, Separator::Comma, entries)?,
+            Some(row) => {
+                let views = views_of(self.alloc, entries)?;
+                let text = row_text(self.alloc, row, &views)?;
+                push_shown(&mut self.out, text.trim_end())?;
+                self.out.push('\n')?;
+            }
+        }
+        Ok(())
+    }
+
+    /// Adds a line with the names of columns.
+    fn push_names(&mut self, columns: &[Column<'_>]) -> Result<(), Error> {
+        let mut names = Vec::with_capacity(self.alloc, columns.len())?;
+        for column in columns {
+            names.push(column.name)?;
+        }
+        self.push(&names)
+    }
+
+    /// Adds a record.
+    fn push_entries(&mut self, record: &Record<'_>) -> Result<(), Error> {
+        let mut entries = Vec::with_capacity(self.alloc, record.fields.len())?;
+        for index in 0..record.fields.len() {
+            entries.push(entry_in(record, index))?;
+        }
+        self.push(&entries)
+    }
+
+    /// Adds a line of totals.
+    fn push_foot(&mut self, foot: &Foot) -> Result<(), Error> {
+        let mut texts = Vec::with_capacity(self.alloc, foot.texts.len())?;
+        for text in &foot.texts {
+            texts.push(text.as_str())?;
+        }
+        self.push(&texts)
+    }
+
+    /// Adds the first of these lines of totals, those that have this number. Returns the others.
+    fn push_feet<'a>(&mut self, feet: &'a [Foot], part: usize) -> Result<&'a [Foot], Error> {
+        let mut count = 0usize;
+        for foot in feet {
+            if foot.part != part {
+                break;
+            }
+            self.push_foot(foot)?;
+            count = count.saturating_add(1);
+        }
+        Ok(feet.get(count..).unwrap_or(&[]))
+    }
+
+    /// Adds all records.
+    fn push_all(&mut self, records: &[Record<'_>]) -> Result<(), Error> {
+        for record in records {
+            self.push_entries(record)?;
+        }
+        Ok(())
+    }
+
+    /// Adds the records of a group.
+    fn push_group(&mut self, records: &[Record<'_>], group: &Group) -> Result<(), Error> {
+        for place in &group.places {
+            if let Some(record) = records.get(*place) {
+                self.push_entries(record)?;
+            }
+        }
+        Ok(())
+    }
+}
+
+/// The label of the totals of a group, which is that of a text.
+fn label_of(
+    alloc: Global,
+    records: &[Record<'_>],
+    group: &Group,
+    by: usize,
+) -> Result<String, Error> {
+    let place = group.places.first().copied().unwrap_or(0);
+    let text = records.get(place).map_or("", |record| entry_in(record, by));
+    Ok(format!(in alloc; "total {text}")?)
+}
+
+/// The lines of the totals of each group, and of all.
+fn all_feet(
+    alloc: Global,
+    columns: &[Column<'_>],
+    records: &[Record<'_>],
+    groups: &[Group],
+    by: usize,
+) -> Result<Vec<Foot>, Error> {
+    let mut feet = Vec::new(alloc);
+    for (before, group) in groups.iter().enumerate() {
+        let label = label_of(alloc, records, group, by)?;
+        let part = before.saturating_add(1);
+        push_feet(
+            alloc,
+            &mut feet,
+            columns,
+            part,
+            group.places.len(),
+            label.as_str().trim_end(),
+        )?;
+    }
+    push_feet(alloc, &mut feet, columns, 0, records.len(), "total")?;
+    Ok(feet)
+}
+
+/// The page of these records, in groups by the column at this index, if there are any groups.
+pub fn page_of(
+    alloc: Global,
+    columns: &[Column<'_>],
+    records: &[Record<'_>],
+    groups: &[Group],
+    by: usize,
+    is_csv: bool,
+) -> Result<String, Error> {
+    let feet = all_feet(alloc, columns, records, groups, by)?;
+    let mut page = Page {
+        alloc,
+        row: row_of(alloc, columns, &feet, is_csv)?,
+        out: String::new(alloc),
+    };
+    page.push_names(columns)?;
+    let mut left = feet.as_slice();
+    for (before, group) in groups.iter().enumerate() {
+        page.push_group(records, group)?;
+        left = page.push_feet(left, before.saturating_add(1))?;
+    }
+    if groups.is_empty() {
+        page.push_all(records)?;
+    }
+    page.push_feet(left, 0)?;
+    Ok(page.out)
 }

@@ -1,33 +1,55 @@
-//! `report FILE`: prints a file of comma-separated fields as a table, with totals.
+//! `report FILE`: prints the records of a file as a table, with totals.
 //!
-//! The first line names the columns, and each line after it has an entry for each. A column is as
-//! wide, in characters, as the widest of its name, its entries and the text at its foot. A column
-//! whose entries are all numbers, such as `7` and `-12.50`, is aligned to the right, and has its
-//! total at its foot: exactly, with as many digits after the point as the entry that has the most.
-//! Quotes have no meaning, so no entry has a comma in it.
+//! The first record names the columns, and each other has a field for each. Records are spelled as
+//! the crate `records` reads them: fields may stand in quotes, with separators, line ends and
+//! doubled quotes in them. The separator is that of `--separator`, which is `,`, `;` or `tab`;
+//! without it, that of the three which the first line alone has, or else the comma. Blank lines at
+//! the end and a byte order mark at the head are skipped. The file is UTF-8, or with `--latin1`
+//! Latin-1. White space around a field does not count.
 //!
-//! All lines with another number of fields are reported, and of each column of numbers the first
-//! line whose number has more than 128 bits, its point left out; or else, at line 1, that the total
-//! has more. Then no table is written.
+//! A column is summed if `--total` names it; without `--total`, if its name ends in `:`, as `count:`,
+//! which is not shown, or if more of its entries are numbers than are not, some with a point, as
+//! -12.50: so years and post codes are not summed. An empty entry counts as none, and so does with
+//! `--lenient` one that is no number; without, this is a fault. The total is exact, with as many
+//! digits after the point as the entry that has the most. If a total leaves out some records, a
+//! line `counted` below it says of how many it is. `--group city` puts records of one city
+//! together, with totals below them. Below the header alone there are none.
+//!
+//! A column is as wide, in characters, as the widest of its name, its entries and its totals, and
+//! aligned to the right if it is summed or all its entries are numbers. A line end in a field is
+//! shown as a blank, as is any other control character, and blanks at the end of a line are left
+//! out. `--csv` writes records with commas, and fields as they are.
+//!
+//! What is wrong is told by line and column: a byte that is no UTF-8; else all places where the file
+//! goes on with no record, and all records with another number of fields than the first line; else
+//! a name that no column has; else in each column all entries that are no numbers, and the first
+//! number with more than 128 bits, its point left out, or at line 1 that the total has more. Then no
+//! table is written. The status is 0 if it is, 1 after such a fault, 2 after wrong use, and 3 after
+//! a refused write or for a file that cannot be read.
 #![tactic(auto)]
 
+mod asked;
+mod columns;
 mod faults;
+mod feet;
+mod input;
 mod layout;
 mod places;
+mod rows;
 mod totals;
 
+use asked::{Asked, HELP, USAGE, asked_by};
+use columns::{check_names, columns_of, index_of};
 use faults::Faults;
+use input::read_records;
 use interpolator::Error;
-use layout::{Column, table_of};
+use layout::page_of;
+use records::{BadByte, Record, Separator, latin1, text_in};
+use rows::{entry_in, groups_by};
 use std::alloc::Global;
 use std::fs;
 use std::process::ExitCode;
-use totals::{NoTotal, is_numeric, total_of};
-use words::program::{
-    FAULT, REFUSED, WRITTEN, arguments, ended, is_flag, usage, without_mark, without_words,
-};
-
-const USAGE: &str = "usage: report FILE";
+use words::program::{FAULT, REFUSED, WRITTEN, arguments, ended, usage, without_words};
 
 /// What a file is reported as.
 #[derive(Drop)]
@@ -38,115 +60,97 @@ enum Report {
     Faults(String),
 }
 
-/// How many fields a line has: a blank line has none.
-fn field_count(line: &str) -> usize {
-    if line.is_empty() {
-        return 0;
-    }
-    line.split(',').count()
-}
-
-/// Adds what is wrong with a line whose fields are not as many as the columns.
-fn check_line(
+/// The page of these records below a header. What is wrong with them is told.
+fn page_below(
     faults: &mut Faults<'_>,
-    number: usize,
-    line: &str,
-    wanted: usize,
-) -> Result<(), Error> {
-    let count = field_count(line);
-    if count == wanted {
-        return Ok(());
+    asked: Asked<'_>,
+    header: &Record<'_>,
+    records: &[Record<'_>],
+) -> Result<String, Error> {
+    let alloc = faults.alloc;
+    if let Some(names) = asked.totals {
+        check_names(faults, header, names)?;
     }
-    let noun = if count == 1 { "field" } else { "fields" };
-    let why = format!(in faults.alloc; "{count} {noun}, but line 1 has {wanted}")?;
-    faults.tell(number, why.as_str())
+    let by = match asked.group {
+        Some(name) => index_of(faults, header, name)?,
+        None => None,
+    };
+    let groups = match by {
+        Some(index) => groups_by(alloc, records, index)?,
+        None => Vec::new(alloc),
+    };
+    let columns = columns_of(faults, asked, header, records, &groups)?;
+    let by = by.unwrap_or(0);
+    page_of(alloc, &columns, records, &groups, by, asked.is_csv)
 }
 
-/// Adds what is wrong with the lines after the first.
-fn check_lines(faults: &mut Faults<'_>, header: &str, lines: &[&str]) -> Result<(), Error> {
-    let wanted = field_count(header);
-    let mut number = 1usize;
-    for line in lines {
-        number = number.saturating_add(1);
-        check_line(faults, number, line, wanted)?;
-    }
-    Ok(())
+/// Whether a header names no columns.
+fn is_blank(header: &Record<'_>) -> bool {
+    header.fields.len() <= 1 && entry_in(header, 0).is_empty()
 }
 
-/// Adds to the faults that an entry of a column is too large: that of the line after so many.
-fn tell_number(faults: &mut Faults<'_>, name: &str, before: usize) -> Result<(), Error> {
-    let why = format!(in faults.alloc; "the number of `{name}` has more than 128 bits")?;
-    faults.tell(before.saturating_add(2), why.as_str())
-}
-
-/// Adds to the faults that the total of a column is too large: at the line that names it.
-fn tell_sum(faults: &mut Faults<'_>, name: &str) -> Result<(), Error> {
-    let why = format!(in faults.alloc; "the total of `{name}` has more than 128 bits")?;
-    faults.tell(1, why.as_str())
-}
-
-/// The column with this name at this index. If it has no total since a number is too large, this is
-/// added to the faults.
-fn column_of(
+/// The page of all records. What is wrong with them is told.
+fn page_of_all(
     faults: &mut Faults<'_>,
-    name: &str,
-    lines: &[&str],
-    index: usize,
-) -> Result<Column, Error> {
-    let column = Column::new(name, lines, index);
-    if !is_numeric(lines, index) {
-        return Ok(column);
+    asked: Asked<'_>,
+    records: &[Record<'_>],
+) -> Result<String, Error> {
+    match records {
+        [header, below @ ..] if !is_blank(header) => page_below(faults, asked, header, below),
+        _ => {
+            faults.tell(1, "the first line names no columns")?;
+            Ok(String::new(faults.alloc))
+        }
     }
-    match total_of(faults.alloc, lines, index) {
-        Ok(total) => return Ok(column.with_total(total)),
-        Err(NoTotal::Number(before)) => tell_number(faults, name, before)?,
-        Err(NoTotal::Sum) => tell_sum(faults, name)?,
-        Err(NoTotal::NoMemory) => return Err(Error::NoMemory),
-    }
-    Ok(column)
-}
-
-/// The columns that the first line names.
-fn columns_of(faults: &mut Faults<'_>, header: &str, lines: &[&str]) -> Result<Vec<Column>, Error> {
-    let mut columns = Vec::new(faults.alloc);
-    for (index, name) in header.split(',').enumerate() {
-        columns.push(column_of(faults, name, lines, index)?)?;
-    }
-    Ok(columns)
-}
-
-/// The report of a file that names no columns.
-fn without_columns(mut faults: Faults<'_>) -> Result<Report, Error> {
-    faults.tell(1, "the first line names no columns")?;
-    Ok(Report::Faults(faults.into_text()))
 }
 
 /// The report of a file's text.
-fn report_on(alloc: Global, file: &str, text: &str) -> Result<Report, Error> {
-    let mut faults = Faults::new(alloc, file);
-    let all = text.lines().collect::<Vec<&str>>(alloc)?;
-    let [header, lines @ ..] = all.as_slice() else {
-        return without_columns(faults);
+fn report_on(alloc: Global, asked: Asked<'_>, text: &str) -> Result<Report, Error> {
+    let mut faults = Faults::new(alloc, asked.file);
+    let separator = match asked.separator {
+        Some(separator) => separator,
+        None => Separator::told_by(text).unwrap_or(Separator::Comma),
     };
-    if header.is_empty() {
-        return without_columns(faults);
+    let records = read_records(&mut faults, text, separator)?;
+    if !faults.is_empty() {
+        return Ok(Report::Faults(faults.into_text()));
     }
-    check_lines(&mut faults, header, lines)?;
-    let columns = columns_of(&mut faults, header, lines)?;
-    let told = faults.into_text();
-    if !told.is_empty() {
-        return Ok(Report::Faults(told));
+    let page = page_of_all(&mut faults, asked, &records)?;
+    if !faults.is_empty() {
+        return Ok(Report::Faults(faults.into_text()));
     }
-    Ok(Report::Table(table_of(alloc, &columns, &all)?))
+    Ok(Report::Table(page))
+}
+
+/// The report of a file with a byte that is no UTF-8.
+fn report_bad(alloc: Global, asked: Asked<'_>, bad: BadByte) -> Result<Report, Error> {
+    let mut faults = Faults::new(alloc, asked.file);
+    let byte = bad.byte;
+    let why = format!(in alloc; "byte 0x{byte:02X} is no UTF-8; is this Latin-1? try --latin1")?;
+    faults.tell_at(bad.place, why.as_str())?;
+    Ok(Report::Faults(faults.into_text()))
+}
+
+/// The report of a file's bytes.
+fn report_bytes(alloc: Global, asked: Asked<'_>, bytes: &[u8]) -> Result<Report, Error> {
+    if asked.is_latin1 {
+        let text = latin1(alloc, bytes)?;
+        return report_on(alloc, asked, text.as_str());
+    }
+    match text_in(bytes) {
+        Ok(text) => report_on(alloc, asked, text),
+        Err(bad) => report_bad(alloc, asked, bad),
+    }
 }
 
 /// Prints the table of a file, or what is wrong with it.
-fn print_report(rt: &HostRuntime, file: &str) -> ExitCode {
-    let text = match fs::read_to_string(rt, file) {
-        Ok(text) => text,
+fn print_report(rt: &HostRuntime, asked: Asked<'_>) -> ExitCode {
+    let file = asked.file;
+    let bytes = match fs::read(rt, file) {
+        Ok(bytes) => bytes,
         Err(error) => return ended(eprintln!(rt; "{file}: {error}"), REFUSED),
     };
-    match report_on(rt.alloc(), file, without_mark(text.as_str())) {
+    match report_bytes(rt.alloc(), asked, &bytes) {
         Ok(Report::Table(table)) => ended(rt.print(table.as_str()), WRITTEN),
         Ok(Report::Faults(faults)) => ended(eprint!(rt; "{faults}"), FAULT),
         Err(error) => ended(eprintln!(rt; "{error}"), FAULT),
@@ -158,8 +162,13 @@ fn main(rt: HostRuntime) -> ExitCode {
         Ok(words) => words,
         Err(error) => return without_words(&rt, &error, USAGE),
     };
-    match words.as_slice() {
-        [file] if !is_flag(file.as_str()) => print_report(&rt, file.as_str()),
-        _ => usage(&rt, USAGE),
+    if let [word] = words.as_slice() {
+        if word.as_str() == "--help" {
+            return ended(rt.print(HELP), WRITTEN);
+        }
+    }
+    match asked_by(words.as_slice()) {
+        Some(asked) => print_report(&rt, asked),
+        None => usage(&rt, USAGE),
     }
 }

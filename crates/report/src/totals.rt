@@ -1,82 +1,115 @@
-//! The total of a column.
+//! The total of cells.
 
-ghost use Rattle.std.specs.Prelude.{◌≡◌, FitsSigned, IfErr, IfOk, SomeIff, map, option_map};
-ghost use Rattle.std.specs.Prelude.{vec_items};
-ghost use Rattle.std.specs.Bool.{Decides};
+ghost use Rattle.std.specs.Prelude.{◌≡◌, ◌++◌, ◌∷◌, [], FitsSigned, IfErr, IfOk, SomeIff, map};
+ghost use Rattle.std.specs.Prelude.{None, option_map, vec_items};
 ghost use Rattle.std.specs.Int.{w128};
-ghost use Rattle.std.specs.List.{All};
-ghost use Rattle.interpolator.specs.DecimalTexts.{Spells, decimal_of};
-ghost use Rattle.report.specs.Totals.{Explains, IsNumber, IsTotal, Spell, column, entry_at};
-ghost use Rattle.report.specs.Totals.{exact_sum, greatest_scale};
+ghost use Rattle.std.specs.List.{position};
+ghost use Rattle.interpolator.specs.DecimalTexts.{decimal_of};
+ghost use Rattle.report.specs.Totals.{AreCells, Explains, IsCell, IsTotal, exact_sum};
+ghost use Rattle.report.specs.Totals.{exact_total, greatest_scale, is_large, numbers_in, total_with};
 ghost use Rattle.interpolator.specs.declared.decimal.Decimal.{Decimal};
+ghost use Rattle.report.specs.declared.totals.NoTotal.TheVariants.{NoMemory};
 
 use crate::places::{number_of, places_of};
 use interpolator::{Decimal, NumberError};
 use std::alloc::{AllocError, Global};
 
-/// Why a column has no total.
+/// What an entry is.
+#[derive(Clone, Copy)]
+pub enum Cell {
+    /// Empty.
+    Empty,
+    /// A number of 128 bits.
+    Number(Decimal),
+    /// A number of more.
+    Large,
+    /// No number.
+    Other,
+}
+
+/// The sum of the numbers among cells.
+#[derive(Clone, Copy)]
+pub struct Total {
+    pub sum: Decimal,
+    /// How many numbers there are.
+    pub counted: usize,
+}
+
+/// Why cells have no total.
 #[derive(Clone, Copy)]
 pub enum NoTotal {
     /// Memory ran out.
     NoMemory,
-    /// After so many lines comes the first whose entry is no number of 128 bits.
+    /// After so many cells comes the first number of more than 128 bits.
     Number(usize),
     /// The sum has more than 128 bits.
     Sum,
 }
 
-/// The entry of a line in the column at this index: empty, if the line has none.
-pub fn entry_at(line: &str, index: usize) -> &str
-    ensures { result.now ≡ entry_at index line.now }
-{
-    line.split(',').nth(index).unwrap_or("")
+impl From<AllocError> for NoTotal {
+    ghost from_gives = { λ _ why. why ≡ NoMemory };
+
+    fn from(_refused: AllocError) -> NoTotal {
+        NoTotal::NoMemory
+    }
 }
 
-/// Whether an entry is a number, however large.
-fn is_number(entry: &str) -> bool
-    ensures { Decides result (IsNumber entry.now) }
+/// What an entry is.
+fn cell_of(entry: &str) -> Cell
+    ensures { IsCell entry.now result }
 {
     match Decimal::parse(entry) {
-        Ok(_) => true,
-        Err(NumberError::Empty) => false,
-        Err(NumberError::InvalidDigit) => false,
-        Err(NumberError::PosOverflow) => true,
-        Err(NumberError::NegOverflow) => true,
+        Ok(number) => Cell::Number(number),
+        Err(NumberError::Empty) => Cell::Empty,
+        Err(NumberError::InvalidDigit) => Cell::Other,
+        Err(NumberError::PosOverflow) => Cell::Large,
+        Err(NumberError::NegOverflow) => Cell::Large,
     }
 }
 
-/// Whether all entries of a column are numbers, however large.
-pub fn is_numeric(lines: &[&str], index: usize) -> bool
-    ensures { Decides result (All IsNumber (column index (map (λ x. x.now) lines.now))) }
+/// What each entry is.
+pub fn cells_of(alloc: Global, entries: &[&str]) -> Result<Vec<Cell>, AllocError>
+    ensures { IfOk result (λ cells. AreCells (map (λ x. x.now) entries.now) cells.items) }
 {
-    for line in lines {
-        if !is_number(entry_at(line, index)) {
-            return false;
-        }
+    let mut cells = Vec::with_capacity(alloc, entries.len())?;
+    for entry in entries {
+        cells.push(cell_of(entry))?;
     }
-    true
+    Ok(cells)
 }
 
-/// The numbers of a column.
-///
-/// # Errors
-///
-/// `NoMemory`, or `Number`.
-fn numbers_of(alloc: Global, lines: &[&str], index: usize) -> Result<Vec<Decimal>, NoTotal>
-    ensures ok { IfOk result (λ numbers.
-        Spell (column index (map (λ x. x.now) lines.now)) numbers.items) }
-    ensures err { IfErr result (λ why.
-        Explains (column index (map (λ x. x.now) lines.now)) why) }
+/// Whether a cell is a number of more than 128 bits.
+fn is_large(cell: Cell) -> bool
+    ensures { result ≡ is_large cell }
+{
+    matches!(cell, Cell::Large)
+}
+
+/// How many cells come before the first number of more than 128 bits.
+fn first_large(cells: &[Cell]) -> Option<usize>
+    ensures { result ≡ position is_large cells.now }
+{
+    cells.iter().position(|cell| is_large(*cell))
+}
+
+/// Appends the number of a cell, if it is one.
+fn push_number(numbers: &mut Vec<Decimal>, cell: Cell) -> Result<(), AllocError>
+    ensures { IfOk result (λ _.
+        numbers.new.items ≡ numbers.old.items ++ numbers_in (cell ∷ [])) }
+{
+    if let Cell::Number(number) = cell {
+        numbers.push(number)?;
+    }
+    Ok(())
+}
+
+/// The numbers among cells.
+fn numbers_of(alloc: Global, cells: &[Cell]) -> Result<Vec<Decimal>, AllocError>
+    ensures { IfOk result (λ numbers. numbers.items ≡ numbers_in cells.now) }
 {
     let mut numbers = Vec::new(alloc);
-    for (before, line) in lines.iter().enumerate() {
-        match Decimal::parse(entry_at(line, index)) {
-            Ok(number) => match numbers.push(number) {
-                Ok(()) => {}
-                Err(_) => return Err(NoTotal::NoMemory),
-            },
-            Err(_) => return Err(NoTotal::Number(before)),
-        }
+    for cell in cells {
+        push_number(&mut numbers, *cell)?;
     }
     Ok(numbers)
 }
@@ -92,44 +125,57 @@ fn greatest_scale(numbers: &[Decimal]) -> u32
     scale
 }
 
-/// The decimal of these units, if there are any.
-fn with_scale(units: Option<i128>, scale: u32) -> Option<Decimal>
-    ensures { result ≡ option_map (λ units. decimal_of units scale) units }
+/// The total of these units, if there are any.
+fn with_scale(units: Option<i128>, scale: u32, counted: usize) -> Option<Total>
+    ensures { result ≡ option_map (λ units. total_with (decimal_of units scale) counted) units }
 {
     match units {
-        Some(units) => Some(Decimal { units, scale }),
+        Some(units) => Some(Total {
+            sum: Decimal { units, scale },
+            counted,
+        }),
         None => None,
     }
 }
 
-/// The sum of some numbers, if its units fit at the greatest of their scales.
-fn sum_of(alloc: Global, numbers: &[Decimal]) -> Result<Option<Decimal>, AllocError>
-    ensures { IfOk result (λ sum. SomeIff sum
-        (FitsSigned w128 (exact_sum numbers.now).units) (exact_sum numbers.now)) }
+/// The total of some numbers, if the units of their sum fit at the greatest of their scales.
+fn sum_of(alloc: Global, numbers: &[Decimal]) -> Result<Option<Total>, AllocError>
+    ensures { IfOk result (λ total. SomeIff total
+        (FitsSigned w128 (exact_sum numbers.now).units) (exact_total numbers.now)) }
 {
     let scale = greatest_scale(numbers);
     let places = places_of(alloc, numbers, scale)?;
-    Ok(with_scale(number_of(&places), scale))
+    Ok(with_scale(number_of(&places), scale, numbers.len()))
 }
 
-/// The total of a column: the exact sum of its entries, with as many digits after the point as the
-/// entry that has the most.
-///
-/// # Errors
-///
-/// - `NoMemory`: memory ran out.
-/// - `Number`: an entry is no number of 128 bits.
-/// - `Sum`: all are, and their exact sum has more.
-pub fn total_of(alloc: Global, lines: &[&str], index: usize) -> Result<Decimal, NoTotal>
-    ensures ok { IfOk result (λ total.
-        IsTotal (column index (map (λ x. x.now) lines.now)) total) }
-    ensures err { IfErr result (λ why.
-        Explains (column index (map (λ x. x.now) lines.now)) why) }
+/// The total of cells, of which none is too large.
+fn small_total(alloc: Global, cells: &[Cell]) -> Result<Total, NoTotal>
+    requires { position is_large cells.now ≡ None }
+    ensures ok { IfOk result (λ total. IsTotal cells.now total) }
+    ensures err { IfErr result (λ why. Explains cells.now why) }
 {
-    let numbers = numbers_of(alloc, lines, index)?;
+    let numbers = numbers_of(alloc, cells)?;
     match sum_of(alloc, &numbers) {
         Ok(Some(total)) => Ok(total),
         Ok(None) => Err(NoTotal::Sum),
         Err(_) => Err(NoTotal::NoMemory),
+    }
+}
+
+/// The total of cells: the exact sum of the numbers among them, with as many digits after the point
+/// as the number that has the most, and how many they are. An empty cell counts as none.
+///
+/// # Errors
+///
+/// - `NoMemory`: memory ran out.
+/// - `Number`: a cell is a number of more than 128 bits.
+/// - `Sum`: none is, and the exact sum has more.
+pub fn total_of(alloc: Global, cells: &[Cell]) -> Result<Total, NoTotal>
+    ensures ok { IfOk result (λ total. IsTotal cells.now total) }
+    ensures err { IfErr result (λ why. Explains cells.now why) }
+{
+    match first_large(cells) {
+        Some(before) => Err(NoTotal::Number(before)),
+        None => small_total(alloc, cells),
     }
 }

@@ -1,16 +1,10 @@
-use Rattle.std.proofs.Common.{sym}
 use Rattle.merge.specs.Columns.{kinds_in}
 use Rattle.merge.proofs.LetterLemmas.{rows_alike}
 use Rattle.merge.proofs.letters.write_letter.Goals as goal
 
-pub a_prepared_format_is_written-answer-requires-clause-names :
-    goal.a_prepared_format_is_written-answer-requires-clause-names
-a_prepared_format_is_written-answer-requires-clause-names c =
-    sym c.requires.ready.has.same_names
-
-pub a_prepared_format_is_written-answer-requires-clause-resembles :
-    goal.a_prepared_format_is_written-answer-requires-clause-resembles
-a_prepared_format_is_written-answer-requires-clause-resembles c =
+pub a_prepared_format_is_written-requires-clause-resembles :
+    goal.a_prepared_format_is_written-requires-clause-resembles
+a_prepared_format_is_written-requires-clause-resembles g c =
     rows_alike c.a_view_has_a_text_by_its_kind.ensures.kind c.as_slice.result.now
     c.args.frame.sample.now (kinds_in c.args.frame.columns.now) c.requires.shown.0
     c.args.views.now (rw c.as_slice.ensures.value c.in_ok-row.ensures)

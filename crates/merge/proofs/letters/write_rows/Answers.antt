@@ -1,11 +1,24 @@
-use Rattle.std.proofs.Common.{[], ◌++◌, ◌∙◌, ◌∷◌}
-use Rattle.merge.specs.Columns.{kinds_in}
-use Rattle.merge.proofs.TableLemmas.{all_read, one_read, rows_more}
+use Rattle.std.proofs.Common.{[], ◌++◌, ◌∙◌, ◌∷◌, refl}
+use Rattle.merge.specs.Columns.{kinds_in, names_in}
+use Rattle.merge.proofs.TableLemmas.{all_read, no_rows, none_read, one_read, rows_more}
 use Rattle.records.specs.Tables.{at, separator_of}
 use Rattle.merge.proofs.letters.write_rows.Goals as goal
 
+pub rows-init : goal.rows-init
+rows-init g c = record {
+  same = refl;
+  rows = (
+    [],
+    none_read (separator_of c.args.rest) (at c.args.rest),
+    rw c.in_ok-faults.ensures
+        (no_rows c.args.letters.now (names_in c.args.frame.columns.now)
+        (kinds_in c.args.frame.columns.now) c.args.writes
+        (g.W.TextWrite.written c.args.out.now).text),
+  );
+}
+
 pub rows-preserved : goal.rows-preserved
-rows-preserved c =
+rows-preserved g c =
     let so_far = c.rows.invariant.rows in
     let wrote = c.in_ok-write_next.ensures.ok in
     let by = rw c.rows.invariant.same at wrote in
@@ -15,14 +28,14 @@ rows-preserved c =
         so_far.0 ++ (one.0 ∷ []),
         one_read (separator_of c.args.rest) (at c.args.rest) (at c.rows.reader)
             (at c.write_next.new.reader) (so_far.0) (one.0) (so_far.1) (one.1),
-        rows_more c.args.letter.now (kinds_in c.args.frame.columns.now) (so_far.0) (one.0)
-            c.rows.faults.items c.write_next.new.faults.items c.rows.out.text
-            c.write_next.new.out.text (so_far.2) (one.2),
+        rows_more c.args.letters.now (names_in c.args.frame.columns.now)
+            (kinds_in c.args.frame.columns.now) c.args.writes (so_far.0) (one.0)
+            c.rows.faults.items c.write_next.new.faults.items _ _ _ (so_far.2) (one.2),
       );
     }
 
-pub returns-clause-ok : goal.returns-clause-ok
-returns-clause-ok c =
+pub returns : goal.returns
+returns g c =
     let so_far = c.rows.invariant.rows in
     let wrote = c.in_ok-write_next.ensures.ok in
     let end = rw c.if-branch.false at wrote in (

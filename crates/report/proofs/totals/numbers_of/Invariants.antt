@@ -1,8 +1,7 @@
-use Rattle.std.proofs.Common.{map, take}
-use Rattle.report.specs.Totals.{Spell, column}
+use Rattle.std.proofs.Common.{◌≡◌, take}
+use Rattle.report.specs.Totals.{numbers_in}
 use Rattle.report.proofs.totals.numbers_of.Given as goal
 
--- the numbers of the entries so far
-abbrev pub invariant-loop-before : goal.invariant-loop-before
-invariant-loop-before l =
-    Spell (column l.index (map (λ x. x.now) (take l.before l.lines))) l.numbers.items
+-- the numbers of the cells so far
+abbrev pub invariant-loop-cell : goal.invariant-loop-cell
+invariant-loop-cell l = l.numbers.items ≡ numbers_in (take l.cell-index l.cells)

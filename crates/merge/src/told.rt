@@ -1,0 +1,118 @@
+//! Why letters are missing, in lines.
+
+use crate::columns::{columns_of, names_of};
+use crate::letters::Fault;
+use crate::table::{LineFault, Trouble};
+use interpolator::{Error, Source, explain_with_names};
+use records::{Field, ReadError, Reader, Separator};
+use std::alloc::Global;
+
+/// The files of a command line, and their texts.
+#[derive(Clone, Copy)]
+pub struct Files<'a> {
+    pub template_name: &'a str,
+    pub template: &'a str,
+    pub other_name: &'a str,
+    pub other: &'a str,
+    /// The column whose empty fields choose the other template.
+    pub column: Option<&'a str>,
+    pub table_name: &'a str,
+    pub table: &'a str,
+    pub separator: Separator,
+    pub is_partial: bool,
+}
+
+/// Fills in the fields of the header; none, if it has a fault.
+fn read_header<'a>(
+    alloc: Global,
+    files: Files<'a>,
+    fields: &mut Vec<Field<'a>>,
+) -> Result<(), Error> {
+    match Reader::new(files.table, files.separator).next_record(alloc, fields) {
+        Ok(_) => Ok(()),
+        Err(ReadError::Fault(_)) => Ok(()),
+        Err(ReadError::NoMemory) => Err(Error::NoMemory),
+    }
+}
+
+/// The fault of a line, as a line of text, in a table whose header has `wanted` names.
+fn told_line(alloc: Global, table: &str, fault: LineFault, wanted: usize) -> Result<String, Error> {
+    let line = fault.line;
+    let told = match fault.trouble {
+        Trouble::Broken(broken) => {
+            let column = broken.place.column;
+            let why = broken.problem.as_str();
+            format!(in alloc; "{table}:{line}:{column}: {why}\n")?
+        }
+        Trouble::Empty => format!(in alloc; "{table}: the table is empty: it has no names\n")?,
+        Trouble::Fields(count) => {
+            let noun = if count == 1 { "field" } else { "fields" };
+            format!(in alloc; "{table}:{line}: {count} {noun}, but line 1 has {wanted}\n")?
+        }
+        Trouble::Twice(column) => format!(in alloc;
+            "{table}:{line}: column {column} has the name of an earlier column\n"
+        )?,
+        Trouble::NotNumber(column) => format!(in alloc;
+            "{table}:{line}: column {column} wants a number, such as -7 or 12.50\n"
+        )?,
+    };
+    Ok(told)
+}
+
+/// The faults of a table, a line for each.
+fn told_lines(alloc: Global, files: Files<'_>, faults: &[LineFault]) -> Result<String, Error> {
+    let mut fields = Vec::new(alloc);
+    read_header(alloc, files, &mut fields)?;
+    let wanted = fields.len();
+    let mut told = String::new(alloc);
+    for fault in faults {
+        let line = told_line(alloc, files.table_name, *fault, wanted)?;
+        told.push_str(line.as_str())?;
+    }
+    Ok(told)
+}
+
+/// The faults of a template, each shown in its line, and the names below it if one is missing.
+fn told_template(
+    alloc: Global,
+    files: Files<'_>,
+    name: &str,
+    text: &str,
+    faults: &[Error],
+) -> Result<String, Error> {
+    let mut fields = Vec::new(alloc);
+    read_header(alloc, files, &mut fields)?;
+    let columns = columns_of(alloc, fields.as_slice())?;
+    let names = names_of(alloc, columns.as_slice())?;
+    let source = Source {
+        name,
+        first_line: 1,
+        text,
+        start: 0,
+        format: text,
+    };
+    let mut told = String::new(alloc);
+    for fault in faults {
+        let picture = explain_with_names(alloc, &source, fault, names.as_slice())?;
+        told.push_str(picture.as_str())?;
+        told.push('\n')?;
+    }
+    Ok(told)
+}
+
+/// Why letters are missing: faults of a template, or of the table.
+pub fn told(alloc: Global, files: Files<'_>, fault: &Fault) -> Result<String, Error> {
+    match fault {
+        Fault::Template(faults) => {
+            told_template(alloc, files, files.template_name, files.template, faults)
+        }
+        Fault::Other(faults) => told_template(alloc, files, files.other_name, files.other, faults),
+        Fault::Table(faults) => told_lines(alloc, files, faults.as_slice()),
+        Fault::NoColumn => {
+            let table = files.table_name;
+            let name = files.column.unwrap_or("");
+            Ok(format!(in alloc; "{table}:1: no column has the name `{name}`\n")?)
+        }
+        Fault::Stopped => Err(Error::NoMemory),
+    }
+}

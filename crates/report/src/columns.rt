@@ -1,0 +1,214 @@
+//! The columns: their names, and their totals.
+
+use crate::asked::Asked;
+use crate::faults::Faults;
+use crate::rows::{Group, entries_of, entry_in};
+use crate::totals::{Cell, NoTotal, Total, cells_of, total_of};
+use interpolator::Error;
+use records::Record;
+use std::alloc::{AllocError, Global};
+
+/// A column.
+#[derive(Drop)]
+pub struct Column<'a> {
+    pub name: &'a str,
+    /// How many characters the widest of its name and its entries has.
+    pub width: usize,
+    /// Whether what it has are numbers.
+    pub is_numeric: bool,
+    /// Its total, and then that of each group; none if it is not summed.
+    pub totals: Vec<Total>,
+}
+
+/// Whether most of the cells that are not empty are numbers, some with a point; and whether all are.
+fn told_by(cells: &[Cell]) -> (bool, bool) {
+    let mut numbers = 0usize;
+    let mut others = 0usize;
+    let mut scale = 0;
+    for cell in cells {
+        match cell {
+            Cell::Empty => {}
+            Cell::Number(number) => {
+                numbers = numbers.saturating_add(1);
+                scale = number.scale.max(scale);
+            }
+            Cell::Large => numbers = numbers.saturating_add(1),
+            Cell::Other => others = others.saturating_add(1),
+        }
+    }
+    (numbers > others && scale > 0, numbers > 0 && others == 0)
+}
+
+/// The name that a field of the header gives, and whether it marks a column of numbers.
+fn name_of(field: &str) -> (&str, bool) {
+    match field.strip_suffix(":") {
+        Some(name) => (name.trim(), true),
+        None => (field, false),
+    }
+}
+
+/// Whether a name is one of those with commas between them.
+fn is_among(names: &str, name: &str) -> bool {
+    for one in names.split(',') {
+        if one.trim() == name {
+            return true;
+        }
+    }
+    false
+}
+
+/// How many characters the widest of some texts has.
+fn widest(name: &str, entries: &[&str]) -> usize {
+    let mut width = name.chars().count();
+    for entry in entries {
+        width = width.max(entry.chars().count());
+    }
+    width
+}
+
+/// Tells the cells of a column, at this index, that are no numbers.
+fn tell_others(
+    faults: &mut Faults<'_>,
+    records: &[Record<'_>],
+    cells: &[Cell],
+    name: &str,
+    index: usize,
+) -> Result<(), Error> {
+    let column = index.saturating_add(1);
+    let why = format!(in faults.alloc;
+        "column {column}, `{name}`, wants a number, such as -7 or 12.50"
+    )?;
+    for (record, cell) in records.iter().zip(cells) {
+        if matches!(cell, Cell::Other) {
+            faults.tell(record.line, why.as_str())?;
+        }
+    }
+    Ok(())
+}
+
+/// Adds the total of cells of these records. If there is none, tells why.
+fn push_total(
+    totals: &mut Vec<Total>,
+    faults: &mut Faults<'_>,
+    records: &[Record<'_>],
+    cells: &[Cell],
+    name: &str,
+) -> Result<(), Error> {
+    let (line, what) = match total_of(faults.alloc, cells) {
+        Ok(total) => {
+            totals.push(total)?;
+            return Ok(());
+        }
+        Err(NoTotal::Number(before)) => {
+            (
+                records.get(before).map_or(1, |record| record.line),
+                "number",
+            )
+        }
+        Err(NoTotal::Sum) => (1, "total"),
+        Err(NoTotal::NoMemory) => return Err(Error::NoMemory),
+    };
+    let why = format!(in faults.alloc; "the {what} of `{name}` has more than 128 bits")?;
+    faults.tell(line, why.as_str())
+}
+
+/// The cells of a group.
+fn cells_in(alloc: Global, cells: &[Cell], group: &Group) -> Result<Vec<Cell>, AllocError> {
+    let mut some = Vec::with_capacity(alloc, group.places.len())?;
+    for place in &group.places {
+        some.push(cells.get(*place).copied().unwrap_or(Cell::Empty))?;
+    }
+    Ok(some)
+}
+
+/// The total of a column, and then that of each group. Tells what has none.
+fn totals_of(
+    faults: &mut Faults<'_>,
+    records: &[Record<'_>],
+    groups: &[Group],
+    cells: &[Cell],
+    name: &str,
+) -> Result<Vec<Total>, Error> {
+    let mut totals = Vec::new(faults.alloc);
+    push_total(&mut totals, faults, records, cells, name)?;
+    if totals.is_empty() {
+        return Ok(totals);
+    }
+    for group in groups {
+        let some = cells_in(faults.alloc, cells, group)?;
+        push_total(&mut totals, faults, &[], &some, name)?;
+    }
+    Ok(totals)
+}
+
+/// The column at this index of the header and the records below it. What is wrong with it is told.
+fn column_of<'a>(
+    faults: &mut Faults<'_>,
+    asked: Asked<'_>,
+    header: &'a Record<'_>,
+    records: &[Record<'_>],
+    groups: &[Group],
+    index: usize,
+) -> Result<Column<'a>, Error> {
+    let alloc = faults.alloc;
+    let (name, is_marked) = name_of(entry_in(header, index));
+    let entries = entries_of(alloc, records, index)?;
+    let cells = cells_of(alloc, &entries)?;
+    let (has_decimals, has_numbers_alone) = told_by(&cells);
+    let is_summed = match asked.totals {
+        Some(names) => is_among(names, name),
+        None => is_marked || has_decimals,
+    };
+    let mut column = Column {
+        name,
+        width: widest(name, &entries),
+        is_numeric: is_summed || has_numbers_alone,
+        totals: Vec::new(alloc),
+    };
+    if is_summed && !records.is_empty() {
+        if !asked.is_lenient {
+            tell_others(faults, records, &cells, name, index)?;
+        }
+        column.totals = totals_of(faults, records, groups, &cells, name)?;
+    }
+    Ok(column)
+}
+
+/// The columns that the header names. What is wrong with them is told.
+pub fn columns_of<'a>(
+    faults: &mut Faults<'_>,
+    asked: Asked<'_>,
+    header: &'a Record<'_>,
+    records: &[Record<'_>],
+    groups: &[Group],
+) -> Result<Vec<Column<'a>>, Error> {
+    let mut columns = Vec::new(faults.alloc);
+    for index in 0..header.fields.len() {
+        columns.push(column_of(faults, asked, header, records, groups, index)?)?;
+    }
+    Ok(columns)
+}
+
+/// The index of the column with this name; none if there is none, which is told.
+pub fn index_of(
+    faults: &mut Faults<'_>,
+    header: &Record<'_>,
+    name: &str,
+) -> Result<Option<usize>, Error> {
+    for index in 0..header.fields.len() {
+        if name_of(entry_in(header, index)).0 == name {
+            return Ok(Some(index));
+        }
+    }
+    let why = format!(in faults.alloc; "no column has the name `{name}`")?;
+    faults.tell(1, why.as_str())?;
+    Ok(None)
+}
+
+/// Tells the names, with commas between them, that no column has.
+pub fn check_names(faults: &mut Faults<'_>, header: &Record<'_>, names: &str) -> Result<(), Error> {
+    for name in names.split(',') {
+        index_of(faults, header, name.trim())?;
+    }
+    Ok(())
+}
