@@ -9,7 +9,7 @@ use Rattle.interpolator_render.specs.declared.view.Sign.{Sign}
 use Rattle.interpolator_render.specs.declared.view.Sign.TheVariants as signs
 use Rattle.interpolator_render.specs.declared.view.Spec.{Spec}
 use Rattle.interpolator_render.specs.declared.view.Trait.TheVariants.{Display}
-use Rattle.interpolator_render.specs.Decimals.{decimal_text}
+use Rattle.interpolator_digits.specs.Decimals.{decimal_text}
 use Rattle.interpolator_render.specs.Numbers.{distance_from_zero, is_negative, sign_text}
 use Rattle.interpolator_render.specs.Padding.{fill_before, padded_number}
 use Rattle.interpolator_render.specs.Texts.{has_text, view_text}

@@ -12,7 +12,7 @@ use Rattle.std.proofs.lemmas.Str.Pattern.{IsSplitOnceResult, split_after, split_
 use Rattle.interpolator_syntax.specs.declared.error.NumberError.{NumberError}
 use Rattle.interpolator_syntax.specs.declared.error.NumberError.TheVariants.{NegOverflow}
 use Rattle.interpolator_syntax.specs.declared.error.NumberError.TheVariants.{PosOverflow}
-use Rattle.interpolator_render.specs.Decimals.{after_point}
+use Rattle.interpolator_digits.specs.Decimals.{after_point}
 use Rattle.interpolator.specs.DecimalTexts.{AreParts, Explains, HasSign, IsInRange}
 use Rattle.interpolator.specs.DecimalTexts.{IsTooLong, Spells, SpellsDecimal, decimal_of, signed}
 use Rattle.interpolator.specs.declared.decimal.Decimal.{Decimal}

@@ -3,7 +3,7 @@ use Rattle.std.specs.Prelude.{◌≡◌, ◌≢◌, ◌⊎◌, ℕ, ℤ, pos, ne
 use Rattle.std.specs.Prelude.{List, [], ◌++◌, length, codes, FitsSigned}
 use Rattle.std.specs.Int.{w128}
 use Rattle.std.specs.Str.Parse.{AllDigits, IsNumeral, digits_value}
-use Rattle.interpolator_render.specs.Decimals.{after_point}
+use Rattle.interpolator_digits.specs.Decimals.{after_point}
 use Rattle.interpolator_syntax.specs.declared.error.NumberError.{NumberError}
 use Rattle.interpolator_syntax.specs.declared.error.NumberError.TheVariants.{Empty, InvalidDigit}
 use Rattle.interpolator_syntax.specs.declared.error.NumberError.TheVariants.{PosOverflow}

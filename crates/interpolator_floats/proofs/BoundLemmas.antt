@@ -1,19 +1,16 @@
 -- Which decimals read as a float: those inside its bounds, and no others, in each format.
-use Rattle.std.proofs.Common.{◌≡◌, ◌⊎◌, ℕ, ◌<◌, ◌≤◌, ◌-◌, ◌+◌, ◌*◌, ◌/◌, ◌%◌, ◌^◌, false, T, if◌then◌else◌, ◌==◌}
+use Rattle.std.proofs.Common.{◌≡◌, ◌⊎◌, ℕ, ◌<◌, ◌≤◌, ◌-◌, ◌+◌, ◌*◌, ◌/◌, ◌%◌, ◌^◌, if◌then◌else◌, ◌==◌}
 use Rattle.std.proofs.Common.{sym, ap, ◌∙◌, arith, eq-zero-or-pos, inl, inr, subst, pow-add, mul_assoc}
-use Rattle.std.proofs.Math.Nat.{mul_comm, mul_right_comm, mul-le-mul_right, mul-le-mul_left, mul-lt-mul_of_pos_right, div-lt_iff_lt-mul, le-div_iff_mul-le, lt_of_lt_of_le, le_trans, mul-pos, pow-le-pow_right}
+use Rattle.std.proofs.Math.Nat.{mul_comm, mul-le-mul_right, mul-le-mul_left, mul-lt-mul_of_pos_right, div-lt_iff_lt-mul, le-div_iff_mul-le, lt_of_lt_of_le, le_trans, mul-pos, pow-le-pow_right}
 use native.Mathlib.Nat.{eq_of_mul-eq-mul_right}
 use lib.Pow.{pow_pos}
-use lib.Ieee.{Float, Format, binary32, binary64, nan, inf, fin, down, low, prec, round, size}
+use lib.Ieee.{low, size}
 use lib.Ieee.Digits.{size-lt, size_reaches}
-use lib.Ieee.Exact.{HasValue}
-use lib.Ieee.Fits.{down_pos, nearest-le}
+use lib.Ieee.Fits.{nearest-le}
 use lib.Ieee.Nearest.{closest, nearest-ge}
 use Prim.Native.Nat.{compare}
 use lib.Ieee.Order.{drop}
-use lib.Ieee.Scale.{round_val, round_under, grid, overflow}
-use Rattle.interpolator_floats.proofs.ReadLemmas.{closest_inside, closest_only, finite_of, slack-le}
-use Rattle.interpolator_floats.specs.Floats.{IsInside}
+use Rattle.interpolator_floats.proofs.ReadLemmas.{closest_inside, closest_only, slack-le}
 
 -- one more if a mantissa is even
 abbrev pub slack : ℕ → ℕ

@@ -10,7 +10,7 @@ use lib.Ieee.Exact.{HasValue}
 use lib.Ieee.Fits.{down_pos}
 use lib.Ieee.Order.{drop}
 use native.Mathlib.Nat.{eq_of_mul-eq-mul_right}
-use Rattle.interpolator_render.proofs.ExponentLemmas.{pow_some}
+use Rattle.interpolator_digits.proofs.ExponentLemmas.{pow_some}
 use Rattle.interpolator_floats.proofs.BoundLemmas.{dropped_least, dropped_most, slack}
 use Rattle.interpolator_floats.proofs.DecideLemmas.{bounds_narrow, inside, low_choice, low_next, near_choice, near_high, near_low, near_most, slack_odd, some_count, tens_choice, within}
 use Rattle.interpolator_floats.proofs.ReadLemmas.{slack-le}

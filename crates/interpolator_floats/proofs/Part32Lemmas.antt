@@ -1,6 +1,6 @@
 -- The parts of an f32 by its pattern, in the steps of an f64.
-use Rattle.std.proofs.Common.{◌≡◌, ℕ, zero, suc, ◌<◌, ◌≤◌, ◌-◌, ◌+◌, ◌*◌, ◌/◌, ◌%◌, ◌^◌, Bool, true, false, ℤ, cond, T, not, leb, eqb}
-use Rattle.std.proofs.Common.{refl, sym, ap, ◌∙◌, arith, subst, true≢false}
+use Rattle.std.proofs.Common.{◌≡◌, ℕ, suc, ◌<◌, ◌≤◌, ◌-◌, ◌+◌, ◌*◌, ◌/◌, ◌%◌, ◌^◌, Bool, true, false, ℤ, cond, T, not, leb, eqb}
+use Rattle.std.proofs.Common.{sym, ap, ◌∙◌, arith, subst, true≢false}
 use Rattle.std.proofs.Common.{mul_assoc, pow-add}
 use Rattle.std.specs.Float.{float_is_finite}
 use lib.Ieee.{Float, nan, inf, fin, binary32, odd, fits, is_nan, of_bits, of_fields, to_bits}

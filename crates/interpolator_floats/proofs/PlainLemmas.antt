@@ -2,13 +2,14 @@
 use Rattle.std.proofs.Common.{◌≡◌, ◌≢◌, ℕ, zero, suc, ◌<◌, ◌≤◌, ◌-◌, ◌+◌, ◌*◌, ◌/◌, ◌%◌, ◌^◌, Bool, false, None, [], ◌∷◌, ◌++◌, replicate}
 use Rattle.std.proofs.Common.{refl, sym, ap, ◌∙◌, arith, eq-zero-or-pos, inl, inr, pow-add, pow-suc, mul_assoc, append-nil}
 use Rattle.std.proofs.Math.Nat.{div-eq_of_lt, div-one, mod-eq_of_lt, mul-le-mul_right, mul-lt-mul_of_pos_right, pow-le-pow_right}
-use Rattle.interpolator_render.specs.Decimals.{after_point, decimal_exponent_text, decimal_text, placed, scale_of, scaled_tail}
-use Rattle.interpolator_render.specs.Digits.{digit_text}
-use Rattle.interpolator_render.specs.Exponent.{exponent_of, scientific, significant_digits, with_point}
-use Rattle.interpolator_render.proofs.DecimalLemmas.{plain_decimal, remainder_fits}
-use Rattle.interpolator_render.proofs.DigitLemmas.{digit_text_one, digit_text_some, digit_text_step, digit_text_zero}
-use Rattle.interpolator_render.proofs.ExponentLemmas.{digit_text_scaled, pow_some, scientific_plain, trimmed_other, trimmed_zero}
-use Rattle.interpolator_render.proofs.LawLemmas.{exponent_bounds_of, exponent_of_zero, glyph_some}
+use Rattle.interpolator_digits.specs.Decimals.{after_point, decimal_exponent_text, decimal_text, placed, scale_of, scaled_tail}
+use Rattle.interpolator_digits.specs.Digits.{digit_text}
+use Rattle.interpolator_digits.specs.Exponent.{exponent_of, scientific, significant_digits, with_point}
+use Rattle.interpolator_digits.proofs.DecimalLemmas.{plain_decimal, remainder_fits}
+use Rattle.interpolator_digits.proofs.DigitLemmas.{digit_text_one, digit_text_some, digit_text_step, digit_text_zero}
+use Rattle.interpolator_digits.proofs.ExponentLemmas.{digit_text_scaled, pow_some, scientific_plain, trimmed_other, trimmed_zero}
+use Rattle.interpolator_digits.proofs.ExponentLemmas.{exponent_bounds_of, exponent_of_zero}
+use Rattle.interpolator_digits.proofs.DigitLemmas.{glyph_some}
 use Rattle.interpolator_floats.proofs.FormLemmas.{pow_less}
 use Rattle.interpolator_floats.specs.ExponentTexts.{scientific_text, signed_tail}
 use Rattle.interpolator_floats.specs.ShortestDigits.{IsTrimmed, plain_text}

@@ -15,7 +15,7 @@ use lib.Ieee.Exact.{HasValue}
 use lib.Ieee.Nearest.{closest, closest_same}
 use lib.Ieee.Order.{drop}
 use lib.Ieee.Scale.{round_val, round_under, grid, finite}
-use Rattle.interpolator_render.proofs.ExponentLemmas.{pow_some}
+use Rattle.interpolator_digits.proofs.ExponentLemmas.{pow_some}
 use Rattle.interpolator_floats.specs.Floats.{IsInside}
 
 abbrev Cmp : Ordering → ℕ → ℕ → Type 0

@@ -3,7 +3,7 @@ use Rattle.std.proofs.Common.{◌≡◌, ◌⊎◌, ℕ, ◌<◌, ◌≤◌, ◌
 use Rattle.std.proofs.Common.{inl, inr, refl, sym, ap, ◌∙◌, arith, subst, pow-add, mul_assoc}
 use Rattle.std.proofs.Math.Nat.{mul_comm, mul-le-mul_right, mul-lt-mul_of_pos_right}
 use lib.Pow.{pow_pos}
-use Rattle.interpolator_render.specs.Exponent.{distance}
+use Rattle.interpolator_digits.specs.Exponent.{distance}
 use Rattle.interpolator_floats.proofs.BoundLemmas.{slack}
 use Rattle.interpolator_floats.proofs.ReadLemmas.{slack-le}
 use Rattle.interpolator_floats.proofs.ShortLemmas.{cross, distance_scaled}

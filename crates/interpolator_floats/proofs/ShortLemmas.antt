@@ -1,11 +1,11 @@
 -- Of the decimals inside a float's bounds the shortest, from a choice at one scale.
-use Rattle.std.proofs.Common.{◌≡◌, ◌≢◌, ℕ, zero, suc, ◌<◌, ◌≤◌, ◌-◌, ◌+◌, ◌*◌, ◌/◌, ◌%◌, ◌^◌, Bool, true, false, true≢false}
+use Rattle.std.proofs.Common.{◌≡◌, ◌≢◌, ℕ, zero, suc, ◌<◌, ◌≤◌, ◌-◌, ◌+◌, ◌*◌, ◌%◌, ◌^◌, Bool, true, false, true≢false}
 use Rattle.std.proofs.Common.{refl, sym, ap, ◌∙◌, arith, eq-zero-or-pos, inl, inr, subst, pow-add, pow-suc, mul_assoc}
-use Rattle.std.proofs.Math.Nat.{mul_comm, mul_right_comm, mul-le-mul, mul-le-mul_right, mul-le-mul_left, mul-lt-mul_of_pos_right, lt_of_mul-lt-mul_right, lt_of_lt_of_le, lt_of_le_of_lt, le_trans, mul-pos, pow-le-pow_right, mul-sub}
+use Rattle.std.proofs.Math.Nat.{mul_comm, mul-le-mul_right, mul-le-mul_left, mul-lt-mul_of_pos_right, lt_of_mul-lt-mul_right, mul-pos, mul-sub}
 use native.Mathlib.Nat.{eq_of_mul-eq-mul_right, lt_of_not-le, not-le_of_lt, le_of_mul-le-mul_right}
-use Rattle.interpolator_render.specs.Exponent.{distance, exponent_of}
-use Rattle.interpolator_render.proofs.ExponentLemmas.{pow_more, pow_some}
-use Rattle.interpolator_render.proofs.LawLemmas.{exponent_bounds_of}
+use Rattle.interpolator_digits.specs.Exponent.{distance, exponent_of}
+use Rattle.interpolator_digits.proofs.ExponentLemmas.{pow_more, pow_some}
+use Rattle.interpolator_digits.proofs.ExponentLemmas.{exponent_bounds_of}
 use Rattle.interpolator_floats.specs.Floats.{IsChoice, IsInside}
 use Rattle.interpolator_floats.specs.Shortest.{IsNoLonger}
 

@@ -9,8 +9,8 @@ use lib.Ieee.Exact.{HasValue}
 use lib.Ieee.Fits.{down_pos}
 use lib.Ieee.Order.{drop}
 use lib.Ieee.Scale.{round_val, round_under, grid, overflow}
-use Rattle.interpolator_render.specs.Exponent.{distance}
-use Rattle.interpolator_render.proofs.ExponentLemmas.{pow_some}
+use Rattle.interpolator_digits.specs.Exponent.{distance}
+use Rattle.interpolator_digits.proofs.ExponentLemmas.{pow_some}
 use Rattle.interpolator_floats.proofs.BoundLemmas.{dropped_least, dropped_most, inside_reads, reads_inside, slack}
 use Rattle.interpolator_floats.proofs.ReadLemmas.{finite_of, slack-le}
 use Rattle.interpolator_floats.proofs.ShortLemmas.{In, coarse_equal, cross, distance_scaled, fewest_fine, from_scale, greater_fine, nearest_fine, same_in}

@@ -4,10 +4,10 @@ use Rattle.std.specs.Prelude.{false, if◌then◌else◌, ◌==◌, ◌&&◌, na
 use Rattle.std.specs.Prelude.{None, List, ◌++◌, replicate}
 use lib.Ieee.{Float, Format, fin, up, down, low, prec}
 use lib.Ieee.Order.{drop}
-use Rattle.interpolator_render.specs.Characters.{zero_digit}
-use Rattle.interpolator_render.specs.Decimals.{after_point, decimal_exponent_text, decimal_text}
-use Rattle.interpolator_render.specs.Decimals.{placed}
-use Rattle.interpolator_render.specs.Digits.{digit_text}
+use Rattle.interpolator_digits.specs.Characters.{zero_digit}
+use Rattle.interpolator_digits.specs.Decimals.{after_point, decimal_exponent_text, decimal_text}
+use Rattle.interpolator_digits.specs.Decimals.{placed}
+use Rattle.interpolator_digits.specs.Digits.{digit_text}
 use Rattle.interpolator_floats.specs.declared.shortest.Shortest.{Shortest}
 use Rattle.interpolator_floats.specs.Shortest.{units_down, units_up}
 

@@ -2,8 +2,8 @@
 ghost use Rattle.std.specs.Prelude.{◌≡◌, ◌+◌, ◌*◌, ◌/◌, ◌%◌, ◌^◌, ◌<◌, ◌≤◌, IfSome, IsSome, IsTrue};
 ghost use Rattle.std.specs.Prelude.{Some};
 ghost use Rattle.std.specs.Float.{float_is_finite};
-ghost use Rattle.interpolator_render.specs.Decimals.{decimal_text, split_text, units_text};
-ghost use Rattle.interpolator_render.specs.Exponent.{nearest};
+ghost use Rattle.interpolator_digits.specs.Decimals.{decimal_text, split_text, units_text};
+ghost use Rattle.interpolator_digits.specs.Exponent.{nearest};
 ghost use Rattle.interpolator_floats.specs.Floats.{float_scale, float_text, float_units};
 
 use crate::parts::odd_parts;

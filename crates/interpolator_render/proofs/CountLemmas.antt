@@ -7,14 +7,15 @@ use Rattle.std.proofs.Common.{eq-zero-or-pos, lt_of_mul-lt-mul_right}
 use Rattle.std.proofs.lemmas.Bool.{cases_eq, cases_lt}
 use Rattle.std.proofs.lemmas.List.{length-replicate}
 use Rattle.std.proofs.Math.Nat.{pow-le-pow_right}
-use Rattle.interpolator_render.specs.Digits.{digit_text}
-use Rattle.interpolator_render.specs.Exponent.{exponent_of, nearest, rounding, scientific, IsNearest}
-use Rattle.interpolator_render.proofs.DigitLemmas.{digit_text_some, digit_text_zero}
-use Rattle.interpolator_render.proofs.DigitLemmas.{length-digit_text-le}
-use Rattle.interpolator_render.proofs.ExponentLemmas.{pow_some, scientific_short, scientific_long}
-use Rattle.interpolator_render.proofs.ExponentLemmas.{scientific_placed}
+use Rattle.interpolator_digits.specs.Digits.{digit_text}
+use Rattle.interpolator_digits.specs.Exponent.{exponent_of, nearest, rounding, scientific, IsNearest}
+use Rattle.interpolator_digits.proofs.DigitLemmas.{digit_text_some, digit_text_zero}
+use Rattle.interpolator_digits.proofs.DigitLemmas.{length-digit_text-le}
+use Rattle.interpolator_digits.proofs.ExponentLemmas.{pow_some, scientific_short, scientific_long}
+use Rattle.interpolator_digits.proofs.ExponentLemmas.{scientific_placed}
 use Rattle.std.specs.Str.Parse.{digits_value}
-use Rattle.interpolator_render.proofs.LawLemmas.{exponent_bounds_of, nearest_is_nearest}
+use Rattle.interpolator_digits.proofs.ExponentLemmas.{exponent_bounds_of}
+use Rattle.interpolator_render.proofs.LawLemmas.{nearest_is_nearest}
 use Rattle.interpolator_render.proofs.LawLemmas.{digits_read}
 
 -- a number between two powers of ten has one digit more than the lower says

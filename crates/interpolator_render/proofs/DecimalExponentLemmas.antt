@@ -6,19 +6,20 @@ use Rattle.std.specs.Str.Parse.{AllDigits, IsNumeral, digits_value}
 use Rattle.std.proofs.Common.{inl, inr, if◌then◌else◌}
 use Rattle.std.proofs.lemmas.Bool.{cases_eq, cases_lt}
 use Rattle.std.proofs.lemmas.List.{length-replicate}
-use Rattle.interpolator_render.specs.Decimals.{DenotesUnits, after_point, decimal_exponent_text}
-use Rattle.interpolator_render.specs.Decimals.{rounded_units, scale_of, scaled_tail}
-use Rattle.interpolator_render.specs.Digits.{digit_text}
-use Rattle.interpolator_render.specs.Exponent.{exponent_of, nearest, rounding, scientific}
-use Rattle.interpolator_render.specs.Exponent.{significant_digits, with_point, with_zeros}
+use Rattle.interpolator_digits.specs.Decimals.{DenotesUnits, after_point, decimal_exponent_text}
+use Rattle.interpolator_digits.specs.Decimals.{rounded_units, scale_of, scaled_tail}
+use Rattle.interpolator_digits.specs.Digits.{digit_text}
+use Rattle.interpolator_digits.specs.Exponent.{exponent_of, nearest, rounding, scientific}
+use Rattle.interpolator_digits.specs.Exponent.{significant_digits, with_point, with_zeros}
 use Rattle.interpolator_render.proofs.CountLemmas.{scientific_count, scientific_rounded}
 use Rattle.interpolator_render.proofs.CountLemmas.{scientific_whole}
 use Rattle.interpolator_render.proofs.DecimalLawLemmas.{digits_are, numeral, value_both}
 use Rattle.interpolator_render.proofs.DecimalLawLemmas.{zeros_before}
-use Rattle.interpolator_render.proofs.DigitLemmas.{digit_text_some}
-use Rattle.interpolator_render.proofs.ExponentLemmas.{pow_some, scientific_long}
-use Rattle.interpolator_render.proofs.ExponentLemmas.{scientific_plain, scientific_short}
-use Rattle.interpolator_render.proofs.LawLemmas.{digits_read, exponent_of_zero, trimmed_tail}
+use Rattle.interpolator_digits.proofs.DigitLemmas.{digit_text_some}
+use Rattle.interpolator_digits.proofs.ExponentLemmas.{pow_some, scientific_long}
+use Rattle.interpolator_digits.proofs.ExponentLemmas.{scientific_plain, scientific_short}
+use Rattle.interpolator_render.proofs.LawLemmas.{digits_read, trimmed_tail}
+use Rattle.interpolator_digits.proofs.ExponentLemmas.{exponent_of_zero}
 
 -- ---- powers of ten
 

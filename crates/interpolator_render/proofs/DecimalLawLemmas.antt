@@ -9,15 +9,15 @@ use Rattle.std.specs.Int.Digits.{AllBelowBase, digits_of}
 use Rattle.std.specs.Str.Parse.{AllDigits, IsNumeral, digits_value, digits_value_after}
 use Rattle.std.proofs.lemmas.Bool.Decides.{nat_tests}
 use Rattle.std.proofs.lemmas.Int.Digits.{all_below_base_digits_of}
-use Rattle.interpolator_render.specs.Decimals.{SpellsUnits, decimal_exponent_text, decimal_text}
-use Rattle.interpolator_render.specs.Decimals.{placed, units_at, units_text}
-use Rattle.interpolator_render.specs.Digits.{digit_text}
-use Rattle.interpolator_render.specs.Exponent.{IsNearest, exponent_text}
+use Rattle.interpolator_digits.specs.Decimals.{SpellsUnits, decimal_exponent_text, decimal_text}
+use Rattle.interpolator_digits.specs.Decimals.{placed, units_at, units_text}
+use Rattle.interpolator_digits.specs.Digits.{digit_text}
+use Rattle.interpolator_digits.specs.Exponent.{IsNearest, exponent_text}
 use Rattle.interpolator_render.proofs.CountLemmas.{value_of_zeros}
-use Rattle.interpolator_render.proofs.DecimalLemmas.{length-placed, placed_none, placed_some}
-use Rattle.interpolator_render.proofs.DecimalLemmas.{remainder_fits}
-use Rattle.interpolator_render.proofs.DigitLemmas.{digit_text_map, digit_text_some, digit_text_zero}
-use Rattle.interpolator_render.proofs.ExponentLemmas.{pow_some}
+use Rattle.interpolator_digits.proofs.DecimalLemmas.{length-placed, placed_none, placed_some}
+use Rattle.interpolator_digits.proofs.DecimalLemmas.{remainder_fits}
+use Rattle.interpolator_digits.proofs.DigitLemmas.{digit_text_map, digit_text_some, digit_text_zero}
+use Rattle.interpolator_digits.proofs.ExponentLemmas.{pow_some}
 use Rattle.interpolator_render.proofs.LawLemmas.{digits_read, nearest_is_nearest}
 
 -- ---- texts of digits

@@ -7,16 +7,16 @@ use Rattle.std.proofs.Common.{Bool, List, ◌++◌, ◌==◌, ◌≡◌, ◌<◌
 use Rattle.std.proofs.lemmas.Bool.{cases_lt}
 use Rattle.std.proofs.lemmas.List.{length-replicate}
 use Rattle.interpolator_render.specs.declared.view.Spec.{Spec}
-use Rattle.interpolator_render.specs.Decimals.{placed, after_point, split_text, scaled_tail}
-use Rattle.interpolator_render.specs.Decimals.{decimal_exponent_text, scale_of, shown_scaled}
-use Rattle.interpolator_render.specs.Digits.{digit_text}
+use Rattle.interpolator_digits.specs.Decimals.{placed, after_point, split_text, scaled_tail}
+use Rattle.interpolator_digits.specs.Decimals.{decimal_exponent_text, scale_of, shown_scaled}
+use Rattle.interpolator_digits.specs.Digits.{digit_text}
 use Rattle.interpolator_render.specs.DigitBuffers.{Buffered, put_before}
-use Rattle.interpolator_render.specs.Exponent.{exponent_tail, mark, scientific}
+use Rattle.interpolator_digits.specs.Exponent.{exponent_tail, mark, scientific}
 use Rattle.interpolator_render.specs.Padding.{IsNumberLayout, IsNumberRow, fill_of, row_fill}
 use Rattle.interpolator_render.specs.Padding.{padded_number}
-use Rattle.interpolator_render.proofs.DecimalLemmas.{length-placed, placed_none, placed_some}
+use Rattle.interpolator_digits.proofs.DecimalLemmas.{length-placed, placed_none, placed_some}
 use Rattle.interpolator_render.proofs.DigitBufferLemmas.{grown_twice}
-use Rattle.interpolator_render.proofs.DigitLemmas.{length-digit_text-le}
+use Rattle.interpolator_digits.proofs.DigitLemmas.{length-digit_text-le}
 use Rattle.interpolator_render.proofs.ExponentRowLemmas.{decimal_digits, digits_row, two_digits}
 use Rattle.interpolator_render.proofs.NumberLemmas.{number_parts}
 

@@ -10,10 +10,10 @@ use Rattle.std.proofs.Math.Seq.{take-append-add, drop-append-add}
 use Rattle.std.proofs.Math.Nat.{pow-le-pow_left}
 use Rattle.interpolator_render.specs.declared.number_form.Radix.{Radix}
 use Rattle.interpolator_render.specs.declared.view.Spec.{Spec}
-use Rattle.interpolator_render.specs.Digits.{digit_text}
+use Rattle.interpolator_digits.specs.Digits.{digit_text}
 use Rattle.interpolator_render.specs.Numbers.{base_of, is_upper}
 use Rattle.interpolator_render.specs.Padding.{IsNumberRow, row_fill}
-use Rattle.interpolator_render.proofs.DigitLemmas.{length-digit_text-le}
+use Rattle.interpolator_digits.proofs.DigitLemmas.{length-digit_text-le}
 use Rattle.interpolator_render.specs.DigitBuffers.{Buffered, IsBuffered, buffer_row, put_before, put_after}
 use Rattle.interpolator_render.proofs.LayoutLemmas.{IsAscii-replicate}
 

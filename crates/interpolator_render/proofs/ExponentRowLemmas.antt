@@ -5,14 +5,14 @@ use Rattle.std.proofs.Common.{append_assoc, length-append, Option, unwrap_or}
 use Rattle.std.specs.Fmt.{digit_glyph}
 use Rattle.std.proofs.lemmas.Bool.Decides.{nat_tests}
 use Rattle.std.proofs.lemmas.List.{length-replicate}
-use Rattle.interpolator_render.specs.Digits.{digit_text}
+use Rattle.interpolator_digits.specs.Digits.{digit_text}
 use Rattle.interpolator_render.specs.declared.view.Spec.{Spec}
 use Rattle.interpolator_render.specs.Padding.{IsNumberRow, row_fill}
-use Rattle.interpolator_render.specs.Exponent.{exponent_tail, exponent_text, leading, with_point}
-use Rattle.interpolator_render.specs.Exponent.{scientific, shown_text}
+use Rattle.interpolator_digits.specs.Exponent.{exponent_tail, exponent_text, leading, with_point}
+use Rattle.interpolator_digits.specs.Exponent.{scientific, shown_text}
 use Rattle.interpolator_render.specs.DigitBuffers.{Buffered, put_before}
-use Rattle.interpolator_render.proofs.DigitLemmas.{digit_count_step, length-digit_text-le}
-use Rattle.interpolator_render.proofs.DigitLemmas.{digit_text_some, low_count, one_count}
+use Rattle.interpolator_digits.proofs.DigitLemmas.{digit_count_step, length-digit_text-le}
+use Rattle.interpolator_digits.proofs.DigitLemmas.{digit_text_some, low_count, one_count}
 use Rattle.interpolator_render.proofs.DigitBufferLemmas.{grown_twice}
 
 -- ---- room

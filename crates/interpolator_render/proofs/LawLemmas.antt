@@ -6,26 +6,25 @@ use Rattle.std.proofs.Common.{map, get_or, replicate, refl, ap, arith, length-ap
 use Rattle.std.proofs.Common.{if◌then◌else◌, ◌==◌, ◌&&◌, inl, inr, unwrap_or, None, pow_pos}
 use Rattle.std.proofs.Common.{mul-le-mul_right, eq-zero-or-pos}
 use Rattle.std.specs.Fmt.{digit_glyph}
-use Rattle.std.specs.Int.Digits.{digits_of, AllBelowBase}
+use Rattle.std.specs.Int.Digits.{AllBelowBase}
 use Rattle.std.specs.Char.{digit_value}
 use Rattle.std.specs.Str.Parse.{digits_value}
 use Rattle.std.proofs.lemmas.Bool.{cases_lt, cases_order}
 use Rattle.std.proofs.lemmas.Bool.Decides.{nat_tests}
 use Rattle.std.proofs.lemmas.Int.{ints}
-use Rattle.std.proofs.lemmas.Int.Digits.{digits_value_is, number_digits_of, number_lt}
-use Rattle.std.proofs.lemmas.Int.Digits.{length-digits_of-le, length-digits_of_step}
+use Rattle.std.proofs.lemmas.Int.Digits.{digits_value_is, number_digits_of}
 use Rattle.std.proofs.lemmas.Int.Digits.{all_below_base_digits_of, first_digits_of}
-use Rattle.std.proofs.lemmas.List.{length-map, length-replicate}
+use Rattle.std.proofs.lemmas.List.{length-replicate}
 use Rattle.interpolator_render.specs.declared.view.Bits.{Bits}
 use Rattle.interpolator_render.specs.declared.view.Spec.{Spec}
-use Rattle.interpolator_render.specs.Digits.{digit_text}
-use Rattle.interpolator_render.specs.Exponent.{exponent_of, nearest, significant_digits, less_zeros, IsNearest}
-use Rattle.interpolator_render.specs.Exponent.{distance}
+use Rattle.interpolator_digits.specs.Digits.{digit_text}
+use Rattle.interpolator_digits.specs.Exponent.{nearest, significant_digits, less_zeros, IsNearest}
+use Rattle.interpolator_digits.specs.Exponent.{distance}
 use Rattle.interpolator_render.specs.Numbers.{twos_complement, remainder}
 use Rattle.interpolator_render.specs.Padding.{padded_number, padded_text, displayed_text}
 use Rattle.interpolator_render.specs.Views.{bit_count}
 use Rattle.interpolator_render.specs.Written.{Written, Appends}
-use Rattle.interpolator_render.proofs.DigitLemmas.{digit_text_zero, digit_text_map}
+use Rattle.interpolator_digits.proofs.DigitLemmas.{digit_text_map, glyph_some}
 use Rattle.interpolator_render.proofs.NumberLemmas.{before_within}
 
 -- ---- digits
@@ -43,9 +42,6 @@ digits_read base n upper l h =
     let low = all_below_base_digits_of base n l in
     grind (arith, nat_tests, digits_value_is, values_of_glyphs, number_digits_of)
 
-pub glyph_some : (d : ℕ) (upper : Bool) → 0 < d → digit_glyph upper d ≢ 48
-glyph_some d upper h = grind (arith, nat_tests)
-
 first_glyph : (upper : Bool) (ds : List ℕ) → 0 < get_or ds 0 0 →
     get_or (map (digit_glyph upper) ds) 0 0 ≢ 48
 first_glyph upper ds h = grind (arith, common_steps, glyph_some)
@@ -55,19 +51,6 @@ pub first_digit : (base n : ℕ) (upper : Bool) → 2 ≤ base → 0 < n →
 first_digit base n upper l h = grind (arith, digit_text_map, first_glyph, first_digits_of)
 
 pub ruleset digit_laws = (digits_read, first_digit)
-
--- ---- exponents
-
-pub exponent_bounds_of : (n : ℕ) → 0 < n → (10 ^ exponent_of n ≤ n) × (n < 10 ^ (exponent_of n + 1))
-exponent_bounds_of n h =
-    let low = all_below_base_digits_of 10 n (omega arith) in
-    let above = rw (number_digits_of 10 n (omega arith)) at (number_lt 10 (digits_of 10 n) low) in
-    let few = length-digits_of-le 10 (length (digits_of 10 n) - 1) n (omega arith) in
-    grind (arith, digit_text_map, length-map, length-digits_of_step, few)
-
--- zero has one digit
-pub exponent_of_zero : exponent_of 0 ≡ 0
-exponent_of_zero = grind (arith, digit_text_zero)
 
 -- ---- rounding
 

@@ -16,11 +16,12 @@ use Rattle.interpolator_render.specs.declared.view.Sign.{Sign}
 use Rattle.interpolator_render.specs.declared.view.Spec.{Spec}
 use Rattle.interpolator_render.specs.declared.view.Trait.{Trait}
 use Rattle.interpolator_render.specs.Characters.{single_quote, space, delete}
-use Rattle.interpolator_render.specs.Decimals.{decimal_body, decimal_exponent_text, decimal_text}
-use Rattle.interpolator_render.specs.Decimals.{units_at}
-use Rattle.interpolator_render.specs.Digits.{digit_text}
-use Rattle.interpolator_render.specs.Exponent.{exponent_of, significant_digits, scientific}
-use Rattle.interpolator_render.specs.Exponent.{with_point, exponent_text}
+use Rattle.interpolator_digits.specs.Decimals.{decimal_exponent_text, decimal_text}
+use Rattle.interpolator_render.specs.Forms.{decimal_body}
+use Rattle.interpolator_digits.specs.Decimals.{units_at}
+use Rattle.interpolator_digits.specs.Digits.{digit_text}
+use Rattle.interpolator_digits.specs.Exponent.{exponent_of, significant_digits, scientific}
+use Rattle.interpolator_digits.specs.Exponent.{with_point, exponent_text}
 use Rattle.interpolator_render.specs.Lengths.{IsShownWithin, most_digits, most_front, most_body}
 use Rattle.interpolator_render.specs.Lengths.{most_number, most_text, most_written, HasAtMost}
 use Rattle.interpolator_render.specs.Lengths.{usize_count, most_decimal, most_scaled}
@@ -34,10 +35,10 @@ use Rattle.interpolator_render.specs.Views.{Shown, signed_number, unsigned_numbe
 use Rattle.interpolator_render.specs.Views.{decimal_number, one_character, some_text, plain_text}
 use Rattle.interpolator_render.specs.Views.{integer_width}
 use Rattle.interpolator_render.proofs.CountLemmas.{scientific_count}
-use Rattle.interpolator_render.proofs.DecimalLemmas.{length-placed, remainder_fits, scaled_quotient}
+use Rattle.interpolator_digits.proofs.DecimalLemmas.{length-placed, remainder_fits, scaled_quotient}
 use Rattle.interpolator_render.proofs.DecimalRowLemmas.{length-pointed, length-scaled_tail}
-use Rattle.interpolator_render.proofs.DigitLemmas.{length-digit_text-le}
-use Rattle.interpolator_render.proofs.ExponentLemmas.{pow_some}
+use Rattle.interpolator_digits.proofs.DigitLemmas.{length-digit_text-le}
+use Rattle.interpolator_digits.proofs.ExponentLemmas.{pow_some}
 use Rattle.interpolator_render.proofs.ExponentRowLemmas.{two_digits, decimal_digits}
 use Rattle.interpolator_render.proofs.LawLemmas.{padded_text_count, padded_number_count}
 use Rattle.interpolator_render.proofs.LawLemmas.{trimmed_tail, twos_complement_below}

@@ -7,7 +7,7 @@ use Rattle.interpolator_render.specs.declared.number_form.NumberForm.TheVariants
 use Rattle.interpolator_render.specs.declared.number_form.Radix.TheVariants.{Decimal}
 use Rattle.interpolator_render.specs.declared.view.Sign.TheVariants.{Unset as NoSign}
 use Rattle.interpolator_render.specs.declared.view.Spec.{Spec}
-use Rattle.interpolator_render.specs.Digits.{digit_text}
+use Rattle.interpolator_digits.specs.Digits.{digit_text}
 use Rattle.interpolator_render.specs.Numbers.{number_text, sign_text}
 use Rattle.interpolator_render.specs.Padding.{fill_of, missing_to, number_fill, padded_number}
 use Rattle.interpolator_render.specs.Padding.{fill_before, IsNumberLayout}

@@ -12,7 +12,7 @@ use Rattle.interpolator_render.specs.declared.view.Sign.TheVariants.{Unset as No
 use Rattle.interpolator_render.specs.declared.view.Spec.{Spec}
 use Rattle.interpolator_render.specs.declared.view.Trait.{Trait}
 use Rattle.interpolator_render.specs.declared.view.Trait.TheVariants.{Display}
-use Rattle.interpolator_render.specs.Digits.{digit_text}
+use Rattle.interpolator_digits.specs.Digits.{digit_text}
 use Rattle.interpolator_render.specs.Numbers.{number_form, number_text, has_minus, magnitude}
 use Rattle.interpolator_render.specs.Numbers.{distance_from_zero, is_negative, sign_text}
 use Rattle.interpolator_render.specs.Padding.{displayed_text, padded_text, unset_spec}

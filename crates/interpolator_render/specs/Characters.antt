@@ -5,22 +5,6 @@ use Rattle.std.specs.Prelude.{ℕ, List, take, Option, Some, None}
 abbrev pub space : ℕ
 space = 32
 
--- `0`
-abbrev pub zero_digit : ℕ
-zero_digit = 48
-
--- `.`
-abbrev pub point : ℕ
-point = 46
-
--- `e`
-abbrev pub lower_e : ℕ
-lower_e = 101
-
--- `E`
-abbrev pub upper_e : ℕ
-upper_e = 69
-
 -- `"`
 abbrev pub double_quote : ℕ
 double_quote = 34

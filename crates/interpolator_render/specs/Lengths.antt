@@ -14,7 +14,7 @@ use Rattle.interpolator_render.specs.declared.number_form.Radix.TheVariants.{Upp
 use Rattle.interpolator_render.specs.declared.view.Spec.{Spec}
 use Rattle.interpolator_render.specs.declared.view.Trait.{Trait}
 use Rattle.interpolator_render.specs.declared.view.Trait.TheVariants.{Debug, Display, LowerExp, UpperExp}
-use Rattle.interpolator_render.specs.Decimals.{decimal_text}
+use Rattle.interpolator_digits.specs.Decimals.{decimal_text}
 use Rattle.interpolator_render.specs.Numbers.{distance_from_zero, front_text, number_form}
 use Rattle.interpolator_render.specs.Texts.{ViewText, has_text}
 use Rattle.interpolator_render.specs.Views.{Shown, signed_number, unsigned_number, some_text}

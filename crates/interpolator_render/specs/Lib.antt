@@ -7,10 +7,8 @@ pub mod Views
 pub mod Characters
 pub mod Layout
 pub mod Copies
-pub mod Digits
 pub mod DigitBuffers
-pub mod Exponent
-pub mod Decimals
+pub mod Forms
 pub mod Padding
 pub mod Numbers
 pub mod Quoting

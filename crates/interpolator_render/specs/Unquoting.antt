@@ -5,7 +5,7 @@ use Rattle.std.specs.Char.{digit_value}
 use Rattle.interpolator_render.specs.Characters.{backslash, carriage_return, close_brace}
 use Rattle.interpolator_render.specs.Characters.{double_quote, letter_n, letter_r, letter_t}
 use Rattle.interpolator_render.specs.Characters.{letter_u, newline, null, single_quote, tab}
-use Rattle.interpolator_render.specs.Characters.{zero_digit}
+use Rattle.interpolator_digits.specs.Characters.{zero_digit}
 
 -- the quotes of texts and of characters
 abbrev pub IsQuote : ℕ → Type 0

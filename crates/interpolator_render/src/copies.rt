@@ -3,7 +3,8 @@ ghost use Rattle.std.specs.Prelude.{◌≡◌, ◌+◌, ◌-◌, ◌*◌, ◌++�
 ghost use Rattle.std.specs.Prelude.{encode_utf8, encode_utf8_all, length};
 ghost use Rattle.std.specs.Char.{len_utf8};
 ghost use Rattle.std.specs.Str.{chars};
-ghost use Rattle.interpolator_render.specs.Characters.{space, zero_digit};
+ghost use Rattle.interpolator_digits.specs.Characters.{zero_digit};
+ghost use Rattle.interpolator_render.specs.Characters.{space};
 ghost use Rattle.interpolator_render.specs.Copies.{IsRun};
 ghost use Rattle.interpolator_render.specs.Padding.{between_fill};
 ghost use Rattle.interpolator_render.specs.Written.{Puts, byte_count};

@@ -2,10 +2,10 @@
 ghost use Rattle.std.specs.Prelude.{◌≡◌, ◌+◌, ◌^◌, ◌<◌, ◌≤◌, ◌++◌, [], false, replicate};
 ghost use Rattle.std.specs.Prelude.{Bool, ℕ, None, if◌then◌else◌, true, unwrap_or, ◌==◌, ◌∷◌};
 ghost use Rattle.interpolator_render.specs.declared.view.Sign.TheVariants.{Unset};
-ghost use Rattle.interpolator_render.specs.Characters.{point, zero_digit};
-ghost use Rattle.interpolator_render.specs.Decimals.{after_point, decimal_text, placed, split_text};
+ghost use Rattle.interpolator_digits.specs.Characters.{point, zero_digit};
+ghost use Rattle.interpolator_digits.specs.Decimals.{after_point, decimal_text, placed, split_text};
 ghost use Rattle.interpolator_render.specs.DigitBuffers.{put_before};
-ghost use Rattle.interpolator_render.specs.Digits.{digit_text};
+ghost use Rattle.interpolator_digits.specs.Digits.{digit_text};
 ghost use Rattle.interpolator_render.specs.Numbers.{IsShortAscii, distance_from_zero, is_negative};
 ghost use Rattle.interpolator_render.specs.Numbers.{sign_text};
 ghost use Rattle.interpolator_render.specs.Padding.{row_fill, padded_number};

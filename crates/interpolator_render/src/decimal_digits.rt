@@ -1,7 +1,7 @@
 //! The arithmetic of decimals: the digits that are shown before the point and after it.
 ghost use Rattle.std.specs.Prelude.{◌≡◌, ◌/◌, ◌%◌, ◌^◌, ◌<◌, ◌≤◌, None};
-ghost use Rattle.interpolator_render.specs.Decimals.{decimal_text, split_text};
-ghost use Rattle.interpolator_render.specs.Exponent.{nearest};
+ghost use Rattle.interpolator_digits.specs.Decimals.{decimal_text, split_text};
+ghost use Rattle.interpolator_digits.specs.Exponent.{nearest};
 
 use crate::scientific::{divided, nearest, power};
 
@@ -19,7 +19,7 @@ pub(crate) struct DecimalDigits {
 }
 
 /// Units rounded to a power of ten, and counted in it.
-#[tactic(auto, using(crate::proofs::DecimalLemmas::roundings))]
+#[tactic(auto, using(interpolator_digits::proofs::DecimalLemmas::roundings))]
 fn rounded_units(units: u128, dropped: usize) -> u128
     requires { 0 < dropped }
     ensures { result ≡ nearest units (10 ^ dropped) }
@@ -31,7 +31,7 @@ fn rounded_units(units: u128, dropped: usize) -> u128
 }
 
 /// A count of units, of which the last `places` digits are after the point.
-#[tactic(auto, using(crate::proofs::DecimalLemmas::splits))]
+#[tactic(auto, using(interpolator_digits::proofs::DecimalLemmas::splits))]
 fn split_at_point(count: u128, places: usize, zeros: usize) -> DecimalDigits
     ensures whole { result.whole ≡ count / 10 ^ places }
     ensures part { result.part ≡ count % 10 ^ places }
@@ -56,7 +56,7 @@ fn split_at_point(count: u128, places: usize, zeros: usize) -> DecimalDigits
 }
 
 /// As [`split_at_point`], of a number of 64 bits at a scale whose unit has as many.
-#[tactic(auto, using(crate::proofs::DecimalLemmas::short_units))]
+#[tactic(auto, using(interpolator_digits::proofs::DecimalLemmas::short_units))]
 #[inline(always)]
 pub(crate) fn short_split(units: u64, scale: usize) -> DecimalDigits
     requires { scale ≤ 19 }
@@ -76,7 +76,7 @@ pub(crate) fn short_split(units: u64, scale: usize) -> DecimalDigits
 }
 
 /// What is shown of units of 10 ^ -scale at a precision.
-#[tactic(auto, using(crate::proofs::DecimalLemmas::point_splits))]
+#[tactic(auto, using(interpolator_digits::proofs::DecimalLemmas::point_splits))]
 pub(crate) fn decimal_digits(units: u128, scale: u32, precision: Option<usize>) -> DecimalDigits
     ensures text { split_text result.whole result.part result.places result.zeros
         ≡ decimal_text precision scale units }

@@ -1,6 +1,6 @@
 //! A decimal in parts, padded to its width.
 ghost use Rattle.std.specs.Prelude.{◌++◌, replicate};
-ghost use Rattle.interpolator_render.specs.Characters.{zero_digit};
+ghost use Rattle.interpolator_digits.specs.Characters.{zero_digit};
 ghost use Rattle.interpolator_render.specs.Numbers.{IsShortAscii};
 ghost use Rattle.interpolator_render.specs.Padding.{padded_number};
 ghost use Rattle.interpolator_render.specs.Written.{Puts};

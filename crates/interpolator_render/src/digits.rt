@@ -3,7 +3,7 @@ ghost use Rattle.std.specs.Prelude.{◌≡◌, ◌<◌, ◌≤◌, ◌+◌, ◌-
 ghost use Rattle.std.specs.Prelude.{take, drop};
 ghost use Rattle.std.specs.Fmt.{digit_glyph};
 ghost use Rattle.std.specs.Str.{IsAscii};
-ghost use Rattle.interpolator_render.specs.Digits.{digit_text};
+ghost use Rattle.interpolator_digits.specs.Digits.{digit_text};
 
 use crate::digit_tables::{digit_in_base, pair_digits};
 
@@ -17,7 +17,7 @@ pub(crate) const GREATEST_U64: u128 = 0xffff_ffff_ffff_ffff;
 /// the number fits 64 bits. Returns where the digits begin, and what is left.
 ///
 /// The rest is then divided as a `u64`, which costs a fraction of a division of a `u128`.
-#[tactic(auto, using(crate::proofs::DigitLemmas::wide_steps))]
+#[tactic(auto, using(interpolator_digits::proofs::DigitLemmas::wide_steps))]
 #[inline(always)]
 fn write_wide(n: u128, base: u64, upper: bool, end: usize, out: &mut [u8; 128]) -> (usize, u64)
     requires lowest { 2 ≤ base }
@@ -44,7 +44,7 @@ fn write_wide(n: u128, base: u64, upper: bool, end: usize, out: &mut [u8; 128]) 
 
 /// Writes the last digit of a number that has more than one, at the place before `at`. Returns the
 /// number without that digit.
-#[tactic(auto, using(crate::proofs::DigitLemmas::last_steps))]
+#[tactic(auto, using(interpolator_digits::proofs::DigitLemmas::last_steps))]
 #[inline(always)]
 fn write_last(n: u64, base: u64, upper: bool, at: usize, out: &mut [u8; 128]) -> u64
     requires lowest { 2 ≤ base }
@@ -63,7 +63,7 @@ fn write_last(n: u64, base: u64, upper: bool, at: usize, out: &mut [u8; 128]) ->
 
 /// Writes all digits of a number but the first, ending at the place `end`. Returns where they
 /// begin, and the first digit.
-#[tactic(auto, using(crate::proofs::DigitLemmas::one_steps))]
+#[tactic(auto, using(interpolator_digits::proofs::DigitLemmas::one_steps))]
 #[inline(always)]
 pub(crate) fn write_low(
     n: u64,
@@ -95,7 +95,7 @@ pub(crate) fn write_low(
 /// Writes digits of a number from the last one on, ending at the place `end`, in base ten: two by
 /// each division, until one or two are left. Returns where the digits begin, and what is left of
 /// the number.
-#[tactic(auto, using(crate::proofs::DigitLemmas::pair_steps))]
+#[tactic(auto, using(interpolator_digits::proofs::DigitLemmas::pair_steps))]
 #[inline(always)]
 fn write_pairs(n: u64, end: usize, out: &mut [u8; 128]) -> (usize, u64)
     requires place { end ≤ 128 }
@@ -120,7 +120,7 @@ fn write_pairs(n: u64, end: usize, out: &mut [u8; 128]) -> (usize, u64)
 }
 
 /// As [`write_low`], in base ten and of a number of any width.
-#[tactic(auto, using(crate::proofs::DigitLemmas::low_decimal_steps))]
+#[tactic(auto, using(interpolator_digits::proofs::DigitLemmas::low_decimal_steps))]
 #[inline(always)]
 pub(crate) fn write_low_decimal(n: u128, end: usize, out: &mut [u8; 128]) -> (usize, u64)
     requires place { end ≤ 128 }
@@ -152,7 +152,7 @@ fn write_digits(n: u128, base: u64, upper: bool, out: &mut [u8; 128]) -> usize
 }
 
 /// Bytes below 128 as a text.
-#[tactic(auto, using(crate::proofs::DigitLemmas::ascii_texts))]
+#[tactic(auto, using(interpolator_digits::proofs::DigitLemmas::ascii_texts))]
 pub(crate) fn ascii_str(bytes: &[u8]) -> &str
     requires { IsAscii bytes.now }
     ensures { result.now ≡ bytes.now }

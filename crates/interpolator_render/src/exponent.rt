@@ -1,8 +1,8 @@
 //! Whole numbers in exponent form.
 ghost use Rattle.std.specs.Prelude.{◌≡◌, ◌<◌, ◌≤◌, false, replicate, unwrap_or};
-ghost use Rattle.interpolator_render.specs.Characters.{zero_digit};
-ghost use Rattle.interpolator_render.specs.Digits.{digit_text};
-ghost use Rattle.interpolator_render.specs.Exponent.{exponent_tail, leading, mark, shown_text};
+ghost use Rattle.interpolator_digits.specs.Characters.{zero_digit};
+ghost use Rattle.interpolator_digits.specs.Digits.{digit_text};
+ghost use Rattle.interpolator_digits.specs.Exponent.{exponent_tail, leading, mark, shown_text};
 ghost use Rattle.interpolator_render.specs.Numbers.{number_text, sign_text};
 ghost use Rattle.interpolator_render.specs.Padding.{row_fill, padded_number};
 ghost use Rattle.interpolator_render.specs.DigitBuffers.{put_before};

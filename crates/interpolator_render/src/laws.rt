@@ -5,14 +5,14 @@ ghost use Rattle.std.specs.Prelude.{◌≡◌, ◌+◌, ◌-◌, ◌*◌, ◌^�
 ghost use Rattle.std.specs.Prelude.{◌*ℤ◌, max, ℕ, ℤ, pos, Bool, List, Option, Some, None, IsTrue, false};
 ghost use Rattle.std.specs.Prelude.{length, replicate, slice_index, unwrap_or};
 ghost use Rattle.std.specs.Str.Parse.{digits_value};
-ghost use Rattle.interpolator_render.specs.Characters.{zero_digit};
-ghost use Rattle.interpolator_render.specs.Decimals.{SpellsUnits, decimal_text, units_at};
-ghost use Rattle.interpolator_render.specs.Decimals.{DenotesUnits, decimal_exponent_text};
-ghost use Rattle.interpolator_render.specs.Decimals.{rounded_units};
-ghost use Rattle.interpolator_render.specs.Digits.{digit_text};
-ghost use Rattle.interpolator_render.specs.Exponent.{exponent_of, exponent_text, nearest, scientific};
-ghost use Rattle.interpolator_render.specs.Exponent.{significant_digits};
-ghost use Rattle.interpolator_render.specs.Exponent.{IsNearest};
+ghost use Rattle.interpolator_digits.specs.Characters.{zero_digit};
+ghost use Rattle.interpolator_digits.specs.Decimals.{SpellsUnits, decimal_text, units_at};
+ghost use Rattle.interpolator_digits.specs.Decimals.{DenotesUnits, decimal_exponent_text};
+ghost use Rattle.interpolator_digits.specs.Decimals.{rounded_units};
+ghost use Rattle.interpolator_digits.specs.Digits.{digit_text};
+ghost use Rattle.interpolator_digits.specs.Exponent.{exponent_of, exponent_text, nearest, scientific};
+ghost use Rattle.interpolator_digits.specs.Exponent.{significant_digits};
+ghost use Rattle.interpolator_digits.specs.Exponent.{IsNearest};
 ghost use Rattle.interpolator_render.specs.Numbers.{twos_complement};
 ghost use Rattle.interpolator_render.specs.Padding.{padded_number, padded_text, displayed_text};
 ghost use Rattle.interpolator_render.specs.Quoting.{quotation};
@@ -38,7 +38,7 @@ pub fn digits_read_back()
 
 /// The exponent of a number above zero is the greatest e with 10^e at most the number. The exponent
 /// of zero is 0.
-#[tactic(auto, using(crate::proofs::LawLemmas::exponent_of_zero))]
+#[tactic(auto, using(interpolator_digits::proofs::ExponentLemmas::exponent_of_zero))]
 pub fn exponent_bounds()
     ensures some { (n : ℕ) → 0 < n → (10 ^ exponent_of n ≤ n) × (n < 10 ^ (exponent_of n + 1)) }
     ensures zero { exponent_of 0 ≡ 0 }

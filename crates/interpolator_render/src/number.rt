@@ -2,7 +2,7 @@
 ghost use Rattle.std.specs.Prelude.{◌≡◌, ◌<◌, ◌≤◌, ◌++◌, Bool, false, true, ℕ, List, codes, length};
 ghost use Rattle.std.specs.Prelude.{unwrap_or};
 ghost use Rattle.interpolator_render.specs.DigitBuffers.{put_before};
-ghost use Rattle.interpolator_render.specs.Digits.{digit_text};
+ghost use Rattle.interpolator_digits.specs.Digits.{digit_text};
 ghost use Rattle.interpolator_render.specs.declared.view.Sign.TheVariants.{Unset};
 ghost use Rattle.interpolator_render.specs.Numbers.{base_of, distance_from_zero, is_negative};
 ghost use Rattle.interpolator_render.specs.Numbers.{is_upper, number_text, sign_text};
@@ -177,7 +177,7 @@ fn put_decimal<W: TextWrite>(
 
 /// The digits of a number that has three.
 #[inline(always)]
-#[tactic(auto, using(crate::proofs::DigitLemmas::three_alone))]
+#[tactic(auto, using(interpolator_digits::proofs::DigitLemmas::three_alone))]
 fn three_digits(n: u64) -> [u8; 3]
     requires least { 100 ≤ n }
     requires most { n < 1000 }
@@ -201,7 +201,7 @@ fn put_many<W: TextWrite>(out: &mut W, n: u64) -> Result<(), Refusal>
 
 /// Writes the digits of a number that has more than one.
 #[inline(never)]
-#[tactic(auto, using(crate::proofs::DigitLemmas::pair_texts))]
+#[tactic(auto, using(interpolator_digits::proofs::DigitLemmas::pair_texts))]
 fn put_several<W: TextWrite>(out: &mut W, n: u64) -> Result<(), Refusal>
     requires { 10 ≤ n }
     ensures { Puts (W.written out.old) (digit_text 10 false n) result (W.written out.new) }

@@ -1,6 +1,6 @@
 //! A number in parts, padded to its width.
 ghost use Rattle.std.specs.Prelude.{◌≡◌, ◌++◌, replicate};
-ghost use Rattle.interpolator_render.specs.Characters.{zero_digit};
+ghost use Rattle.interpolator_digits.specs.Characters.{zero_digit};
 ghost use Rattle.interpolator_render.specs.Numbers.{IsShortAscii, sign_text};
 ghost use Rattle.interpolator_render.specs.Padding.{IsNumberLayout, padded_number};
 ghost use Rattle.interpolator_render.specs.Written.{Puts};

@@ -3,7 +3,7 @@ ghost use Rattle.std.specs.Prelude.{◌≡◌, ◌<◌, ◌++◌, ◌∷◌, [],
 ghost use Rattle.std.specs.List.{flat_map};
 ghost use Rattle.std.specs.Str.{chars};
 ghost use Rattle.interpolator_render.specs.Characters.{backslash};
-ghost use Rattle.interpolator_render.specs.Digits.{digit_text};
+ghost use Rattle.interpolator_digits.specs.Digits.{digit_text};
 ghost use Rattle.interpolator_render.specs.Quoting.{escape_letter, escape_of, quotation};
 ghost use Rattle.interpolator_render.specs.Written.{Puts, Writes};
 

@@ -4,7 +4,7 @@ ghost use Rattle.std.specs.Str.{chars};
 ghost use Rattle.interpolator_render.specs.Characters.{single_quote};
 ghost use Rattle.interpolator_render.specs.Padding.{displayed_text};
 ghost use Rattle.interpolator_render.specs.Quoting.{quotation};
-ghost use Rattle.interpolator_render.specs.Decimals.{decimal_body};
+ghost use Rattle.interpolator_render.specs.Forms.{decimal_body};
 ghost use Rattle.interpolator_render.specs.Texts.{padded_decimal, under, truth_text, view_text};
 ghost use Rattle.interpolator_render.specs.Texts.{Renders};
 ghost use Rattle.interpolator_render.specs.Numbers.{distance_from_zero, is_negative, number_form};

@@ -1,10 +1,10 @@
 //! The arithmetic of exponent form: the digits that are shown, and the exponent.
 ghost use Rattle.std.specs.Prelude.{◌≡◌, ◌+◌, ◌/◌, ◌%◌, ◌^◌, ◌<◌, ◌≤◌, ◌++◌, false, replicate};
 ghost use Rattle.std.specs.Prelude.{unwrap_or};
-ghost use Rattle.interpolator_render.specs.Characters.{zero_digit};
-ghost use Rattle.interpolator_render.specs.Digits.{digit_text};
-ghost use Rattle.interpolator_render.specs.Exponent.{exponent_of, nearest, rounding, scientific};
-ghost use Rattle.interpolator_render.specs.Exponent.{significant_digits};
+ghost use Rattle.interpolator_digits.specs.Characters.{zero_digit};
+ghost use Rattle.interpolator_digits.specs.Digits.{digit_text};
+ghost use Rattle.interpolator_digits.specs.Exponent.{exponent_of, nearest, rounding, scientific};
+ghost use Rattle.interpolator_digits.specs.Exponent.{significant_digits};
 
 use crate::digits::GREATEST_U64;
 
@@ -127,7 +127,7 @@ fn trimmed(n: u128) -> u128
 }
 
 /// A number with more than `places` digits after the first, rounded to `places` of them.
-#[tactic(auto, using(crate::proofs::ExponentLemmas::pow_more))]
+#[tactic(auto, using(interpolator_digits::proofs::ExponentLemmas::pow_more))]
 fn rounded(n: u128, places: usize, exponent: usize) -> Shown
     requires exponent { exponent ≡ exponent_of n }
     requires low { exponent ≤ 38 }
@@ -153,7 +153,7 @@ fn rounded(n: u128, places: usize, exponent: usize) -> Shown
 }
 
 /// What exponent form shows of a number at a precision.
-#[tactic(auto, using(crate::proofs::ExponentLemmas::scientific_steps))]
+#[tactic(auto, using(interpolator_digits::proofs::ExponentLemmas::scientific_steps))]
 #[inline(always)]
 pub(crate) fn shown_of(n: u128, precision: Option<usize>) -> Shown
     ensures digits { digit_text 10 false result.digits ++ replicate result.zeros zero_digit

@@ -7,13 +7,13 @@ use Rattle.std.proofs.Math.Nat.{div-eq_of_lt}
 use Rattle.std.proofs.lemmas.Int.Digits.{length-digits_of-le, length-digits_of_step}
 use Rattle.std.proofs.lemmas.List.{length-map}
 use Rattle.std.specs.Int.Digits.{digits_of}
-use Rattle.interpolator_render.specs.Decimals.{after_point, decimal_text, placed}
-use Rattle.interpolator_render.specs.Digits.{digit_text}
+use Rattle.interpolator_digits.specs.Decimals.{after_point, decimal_text, placed}
+use Rattle.interpolator_digits.specs.Digits.{digit_text}
 use Rattle.strangers.specs.Values.{count_after}
-use Rattle.interpolator_render.proofs.DecimalLemmas.{length-placed, placed_none, plain_decimal}
-use Rattle.interpolator_render.proofs.DecimalLemmas.{remainder_fits}
-use Rattle.interpolator_render.proofs.DigitLemmas.{digit_text_map, digit_text_zero}
-use Rattle.interpolator_render.proofs.ExponentLemmas.{pow_some}
+use Rattle.interpolator_digits.proofs.DecimalLemmas.{length-placed, placed_none, plain_decimal}
+use Rattle.interpolator_digits.proofs.DecimalLemmas.{remainder_fits}
+use Rattle.interpolator_digits.proofs.DigitLemmas.{digit_text_map, digit_text_zero}
+use Rattle.interpolator_digits.proofs.ExponentLemmas.{pow_some}
 
 -- ---- digits of a number
 

@@ -3,8 +3,8 @@ ghost use Rattle.std.specs.Prelude.{◌≡◌, ◌≤◌, ◌<◌, ◌+◌, ◌/
 ghost use Rattle.std.specs.Prelude.{FitsSigned, None, length};
 ghost use Rattle.std.specs.Int.{w128};
 ghost use Rattle.std.specs.Str.{chars};
-ghost use Rattle.interpolator_render.specs.Decimals.{decimal_text};
-ghost use Rattle.interpolator_render.specs.Digits.{digit_text};
+ghost use Rattle.interpolator_digits.specs.Decimals.{decimal_text};
+ghost use Rattle.interpolator_digits.specs.Digits.{digit_text};
 ghost use Rattle.strangers.specs.Values.{IsInRange, characters_of, count_after};
 ghost use Rattle.strangers.specs.Values.{decimal_characters, longest_of};
 
@@ -96,7 +96,7 @@ fn digit_count(number: u128) -> usize
 }
 
 /// How many digits a decimal has before its point.
-#[tactic(auto, using(interpolator_render::proofs::ExponentLemmas::pow_some))]
+#[tactic(auto, using(interpolator_digits::proofs::ExponentLemmas::pow_some))]
 fn whole_digits(units: u128, scale: u32) -> usize
     ensures count { result ≡ length (digit_text 10 false (units / 10 ^ scale)) }
     ensures most { result ≤ 39 }

@@ -1,4 +1,3 @@
-use Rattle.std.proofs.Common.{◌≤◌, ◌-◌, ◌%◌, arith}
 use Rattle.interpolator_floats.proofs.DecideLemmas.{tens_choice}
 use Rattle.interpolator_floats.proofs.shortest.decided.Goals as goal
 

@@ -1,9 +1,8 @@
-use Rattle.std.proofs.Common.{◌≡◌, ◌↔◌, ℕ, ◌-◌, ◌+◌, ◌*◌, ◌/◌, ◌%◌, ◌^◌, ◌<◌, ◌≤◌, ap, arith, subst, sym, ◌∙◌}
+use Rattle.std.proofs.Common.{◌-◌, ◌+◌, ◌*◌, arith, sym}
 use Rattle.interpolator_floats.proofs.BoundLemmas.{slack}
 use Rattle.interpolator_floats.proofs.DecideLemmas.{bounds_narrow, choice_some, inside, last_some, low_next, near_high, near_low, near_most, slack_odd, some_count, within}
 use Rattle.interpolator_floats.proofs.ReadLemmas.{slack-le}
 use Rattle.interpolator_floats.proofs.UnitLemmas.{count_short, step_some, unit_some}
-use Rattle.interpolator_floats.specs.Floats.{IsChoice}
 use Rattle.interpolator_floats.specs.Shortest.{units_down, units_up}
 use Rattle.interpolator_floats.proofs.shortest.scaled_choice.Goals as goal
 

@@ -1,5 +1,5 @@
 use Rattle.std.proofs.Common.{length, false, arith, ap, length-append}
-use Rattle.interpolator_render.specs.Digits.{digit_text}
+use Rattle.interpolator_digits.specs.Digits.{digit_text}
 use Rattle.interpolator_render.specs.DigitBuffers.{Buffered}
 use Rattle.interpolator_render.proofs.DecimalRowLemmas.{nothing_placed, part_digits, placed_pieces}
 use Rattle.interpolator_render.proofs.decimal.put_placed.Goals as goal

@@ -1,5 +1,5 @@
 use Rattle.std.proofs.Common.{arith}
-use Rattle.interpolator_render.proofs.DigitLemmas.{digits_ascii, low_count, text_fits, text_written}
+use Rattle.interpolator_digits.proofs.DigitLemmas.{digits_ascii, low_count, text_fits, text_written}
 use Rattle.interpolator_render.proofs.digits.write_digits.Goals as goal
 
 pub write_wide-many-requires-clause-room : goal.write_wide-many-requires-clause-room

@@ -1,6 +1,6 @@
 use Rattle.std.proofs.Common.{arith}
-use Rattle.interpolator_render.proofs.DigitLemmas.{digit_text_some, digit_count_step}
-use Rattle.interpolator_render.proofs.DigitLemmas.{digit_text_one, led, take_less}
+use Rattle.interpolator_digits.proofs.DigitLemmas.{digit_text_some, digit_count_step}
+use Rattle.interpolator_digits.proofs.DigitLemmas.{digit_text_one, led, take_less}
 use Rattle.interpolator_render.proofs.digits.write_low.Goals as goal
 
 pub loop-rest-preserved : goal.loop-rest-preserved

@@ -1,4 +1,4 @@
-use Rattle.interpolator_render.proofs.LawLemmas.{exponent_bounds_of}
+use Rattle.interpolator_digits.proofs.ExponentLemmas.{exponent_bounds_of}
 use Rattle.interpolator_render.proofs.laws.exponent_bounds.Goals as goal
 
 pub returns-clause-some : goal.returns-clause-some

@@ -1,5 +1,5 @@
 use Rattle.std.proofs.Common.{arith}
-use Rattle.interpolator_render.proofs.DigitLemmas.{one_alone}
+use Rattle.interpolator_digits.proofs.DigitLemmas.{one_alone}
 use Rattle.interpolator_render.proofs.number.put_bare.Goals as goal
 
 pub returns-then-n-lt10 : goal.returns-then-n-lt10

@@ -1,5 +1,5 @@
 use Rattle.std.proofs.lemmas.Str.{IsAscii-drop}
-use Rattle.interpolator_render.proofs.DigitLemmas.{digits_ascii}
+use Rattle.interpolator_digits.proofs.DigitLemmas.{digits_ascii}
 use Rattle.interpolator_render.proofs.DigitBufferLemmas.{row_grows, IsBuffered-grows}
 use Rattle.interpolator_render.proofs.digit_buffer.DigitBuffer.put_low_digits.Goals as goal
 

@@ -2,8 +2,8 @@
 use Rattle.std.specs.Prelude.{ℕ, ◌+◌, ◌-◌, ◌*◌, ◌/◌, ◌%◌, ◌^◌, ◌≤◌, ◌≡◌, Bool, false, List, [], ◌∷◌}
 use Rattle.std.specs.Prelude.{◌++◌, length, replicate, Option, Some, None, if◌then◌else◌, ◌==◌}
 use Rattle.std.specs.Prelude.{◌&&◌, nat_lt}
-use Rattle.interpolator_render.specs.Characters.{zero_digit, point, lower_e, upper_e}
-use Rattle.interpolator_render.specs.Digits.{digit_text}
+use Rattle.interpolator_digits.specs.Characters.{zero_digit, point, lower_e, upper_e}
+use Rattle.interpolator_digits.specs.Digits.{digit_text}
 
 -- the digits of a number in exponent form, and the exponent of the first
 pub record Scientific : Type 0 where

@@ -7,14 +7,17 @@ use Rattle.std.proofs.Common.{inr, None, Some, nat_lt, pow-suc, mul_assoc, mul-l
 use Rattle.std.proofs.Common.{eq-zero-or-pos}
 use Rattle.std.specs.Fmt.{digit_glyph}
 use Rattle.std.specs.Int.Digits.{digits_of}
-use Rattle.std.proofs.lemmas.Int.Digits.{digits_of_step}
-use Rattle.std.proofs.lemmas.List.{map-append, replicate-append-replicate, length-replicate}
+use Rattle.std.proofs.lemmas.Int.Digits.{all_below_base_digits_of, digits_of_step}
+use Rattle.std.proofs.lemmas.Int.Digits.{length-digits_of-le, length-digits_of_step, number_digits_of}
+use Rattle.std.proofs.lemmas.Int.Digits.{number_lt}
+use Rattle.std.proofs.lemmas.List.{length-map, map-append, replicate-append-replicate}
+use Rattle.std.proofs.lemmas.List.{length-replicate}
 use Rattle.std.proofs.Math.Nat.{one-le-pow}
 use Rattle.std.proofs.Math.Bool.{and-false}
-use Rattle.interpolator_render.specs.Digits.{digit_text}
-use Rattle.interpolator_render.specs.Exponent.{exponent_of, less_zeros, significant_digits}
-use Rattle.interpolator_render.specs.Exponent.{with_zeros, scientific, rounding}
-use Rattle.interpolator_render.proofs.DigitLemmas.{digit_text_zero, digit_text_map, digit_text_some}
+use Rattle.interpolator_digits.specs.Digits.{digit_text}
+use Rattle.interpolator_digits.specs.Exponent.{exponent_of, less_zeros, significant_digits}
+use Rattle.interpolator_digits.specs.Exponent.{with_zeros, scientific, rounding}
+use Rattle.interpolator_digits.proofs.DigitLemmas.{digit_text_zero, digit_text_map, digit_text_some}
 
 -- ---- powers of ten
 
@@ -24,6 +27,19 @@ pow_some k = grind (arith, one-le-pow)
 pub pow_more : (k : ℕ) → 0 < k → 10 ≤ 10 ^ k
 pow_more zero h = absurd (omega arith)
 pow_more (suc k) h = grind (arith, one-le-pow, pow-suc)
+
+-- ---- exponents
+
+pub exponent_bounds_of : (n : ℕ) → 0 < n → (10 ^ exponent_of n ≤ n) × (n < 10 ^ (exponent_of n + 1))
+exponent_bounds_of n h =
+    let low = all_below_base_digits_of 10 n (omega arith) in
+    let above = rw (number_digits_of 10 n (omega arith)) at (number_lt 10 (digits_of 10 n) low) in
+    let few = length-digits_of-le 10 (length (digits_of 10 n) - 1) n (omega arith) in
+    grind (arith, digit_text_map, length-map, length-digits_of_step, few)
+
+-- zero has one digit
+pub exponent_of_zero : exponent_of 0 ≡ 0
+exponent_of_zero = grind (arith, digit_text_zero)
 
 -- ---- the zeros at the end
 

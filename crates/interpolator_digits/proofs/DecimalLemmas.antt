@@ -7,11 +7,11 @@ use Rattle.std.proofs.lemmas.List.{length-replicate, replicate-append-replicate}
 use Rattle.std.proofs.Math.Arith.{mod-mul}
 use Rattle.std.proofs.Math.Nat.{div-div-eq-div-mul, mul-div_cancel, mul-mod_left, div-eq_of_lt}
 use Rattle.std.proofs.Math.Nat.{mod-eq_of_lt, pow-le-pow_right}
-use Rattle.interpolator_render.specs.Decimals.{placed, units_text, decimal_text, split_text}
-use Rattle.interpolator_render.specs.Digits.{digit_text}
-use Rattle.interpolator_render.specs.Exponent.{nearest, with_zeros}
-use Rattle.interpolator_render.proofs.DigitLemmas.{digit_text_zero, length-digit_text-le}
-use Rattle.interpolator_render.proofs.ExponentLemmas.{pow_some, pow_more, digit_text_scaled}
+use Rattle.interpolator_digits.specs.Decimals.{placed, units_text, decimal_text, split_text}
+use Rattle.interpolator_digits.specs.Digits.{digit_text}
+use Rattle.interpolator_digits.specs.Exponent.{nearest, with_zeros}
+use Rattle.interpolator_digits.proofs.DigitLemmas.{digit_text_zero, length-digit_text-le}
+use Rattle.interpolator_digits.proofs.ExponentLemmas.{pow_some, pow_more, digit_text_scaled}
 
 -- ---- powers past every number of 128 bits
 

@@ -1,15 +1,12 @@
 -- Decimals, which are units of a power of ten below 1: how they are rounded, and their text.
-use Rattle.std.specs.Prelude.{◌≡◌, ◌+◌, ◌-◌, ◌*◌, ◌/◌, ◌%◌, ◌^◌, ℕ, Bool, false, true, List, []}
+use Rattle.std.specs.Prelude.{◌≡◌, ◌+◌, ◌-◌, ◌*◌, ◌/◌, ◌%◌, ◌^◌, ℕ, Bool, false, List, []}
 use Rattle.std.specs.Prelude.{◌∷◌, ◌++◌, length, replicate, Option, Some, None, unwrap_or, codes}
 use Rattle.std.specs.Prelude.{if◌then◌else◌, ◌==◌, nat_lt}
 use Rattle.std.specs.Str.Parse.{AllDigits, IsNumeral, digits_value}
-use Rattle.interpolator_render.specs.declared.view.Trait.{Trait}
-use Rattle.interpolator_render.specs.declared.view.Trait.TheVariants.{Debug, Display, LowerExp}
-use Rattle.interpolator_render.specs.declared.view.Trait.TheVariants.{UpperExp}
-use Rattle.interpolator_render.specs.Characters.{point, zero_digit}
-use Rattle.interpolator_render.specs.Digits.{digit_text}
-use Rattle.interpolator_render.specs.Exponent.{exponent_of, exponent_tail, mark, nearest}
-use Rattle.interpolator_render.specs.Exponent.{scientific, with_point, with_zeros}
+use Rattle.interpolator_digits.specs.Characters.{point, zero_digit}
+use Rattle.interpolator_digits.specs.Digits.{digit_text}
+use Rattle.interpolator_digits.specs.Exponent.{exponent_of, exponent_tail, mark, nearest}
+use Rattle.interpolator_digits.specs.Exponent.{scientific, with_point, with_zeros}
 
 -- a number below 10 ^ places by exactly `places` digits
 abbrev pub placed : (places part : ℕ) → List ℕ
@@ -94,16 +91,6 @@ rounded_units None units = units
 rounded_units (Some places) units =
     let unit = 10 ^ (exponent_of units - places) in
     if nat_lt places (exponent_of units) then nearest units unit * unit else units
-
--- a decimal without its sign, in the form that a trait writes, if it writes decimals
-abbrev pub decimal_body : Trait → (precision : Option ℕ) → (scale units : ℕ) → Option (List ℕ)
-decimal_body Display precision scale units = Some (decimal_text precision scale units)
-decimal_body Debug precision scale units = Some (decimal_text precision scale units)
-decimal_body LowerExp precision scale units =
-    Some (decimal_exponent_text false precision scale units)
-decimal_body UpperExp precision scale units =
-    Some (decimal_exponent_text true precision scale units)
-decimal_body _ precision scale units = None
 
 -- the text of a number before the point, and of one after it with zeros after that one
 abbrev pub split_text : (whole part places zeros : ℕ) → List ℕ

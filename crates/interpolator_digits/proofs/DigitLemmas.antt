@@ -1,5 +1,5 @@
 -- The digits of a number in a buffer, written from its end: one, two or four more.
-use Rattle.std.proofs.Common.{◌≡◌, ℕ, ◌<◌, ◌≤◌, ◌+◌, ◌-◌, ◌/◌, ◌%◌, ◌^◌, Bool, false, List, []}
+use Rattle.std.proofs.Common.{◌≡◌, ◌≢◌, ℕ, ◌<◌, ◌≤◌, ◌+◌, ◌-◌, ◌/◌, ◌%◌, ◌^◌, Bool, false, List, []}
 use Rattle.std.proofs.Common.{◌∷◌, ◌++◌, length, take, drop, map, set, get_or, refl, sym, ◌∙◌, ap}
 use Rattle.std.proofs.Common.{arith, append_assoc, length-append, length-drop, length-set}
 use Rattle.std.proofs.Common.{inl, inr, take-take, IsAscii, mod-eq_of_lt}
@@ -13,7 +13,7 @@ use Rattle.std.proofs.lemmas.Bool.Decides.{nat_tests}
 use Rattle.std.proofs.lemmas.Str.{IsUtf8-from_ascii}
 use Rattle.std.proofs.Math.Nat.{pow-le-pow_left, div-eq_of_lt}
 use Rattle.std.proofs.Math.Seq.{drop-length}
-use Rattle.interpolator_render.specs.Digits.{digit_text}
+use Rattle.interpolator_digits.specs.Digits.{digit_text}
 
 -- ---- the text of a number
 
@@ -43,6 +43,10 @@ pub text_fits : (base n : ℕ) (upper : Bool) → 2 ≤ base → n < 2 ^ 128 →
     length (digit_text base upper n) ≤ 128
 text_fits base n upper b s =
     let wide = pow-le-pow_left b 128 in grind (arith, length-digit_text-le)
+
+-- and of digits only zero is `0`
+pub glyph_some : (d : ℕ) (upper : Bool) → 0 < d → digit_glyph upper d ≢ 48
+glyph_some d upper h = grind (arith, nat_tests)
 
 -- ---- the buffer
 

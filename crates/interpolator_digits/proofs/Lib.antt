@@ -1,0 +1,4 @@
+-- The lemmas of digits.
+pub mod DecimalLemmas
+pub mod DigitLemmas
+pub mod ExponentLemmas

@@ -1,0 +1,5 @@
+-- The definitions of digits.
+pub mod Characters
+pub mod Digits
+pub mod Exponent
+pub mod Decimals
