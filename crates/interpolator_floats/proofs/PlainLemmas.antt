@@ -80,11 +80,10 @@ exponent_at n e some low high =
     let a : exponent_of n < e + 1 = pow_less _ _ (omega (arith, own.0, high)) in
     let b : e < exponent_of n + 1 = pow_less _ _ (omega (arith, own.1, low)) in omega (arith, a, b)
 
-pub scientific_shown : (digits up down log exponent : ℕ) (below : Bool) (size : ℕ) → IsTrimmed digits up down → 0 < digits → 10 ^ log ≤ digits → digits < 10 * 10 ^ log
-    → exponent ≡ log + up → ((upper : Bool) → signed_tail upper below size ≡ scaled_tail upper exponent down)
-    → (upper : Bool) → scientific_text upper (digit_text 10 false digits) 0 below size ≡ decimal_exponent_text upper None down (digits * 10 ^ up)
-unfolding decimal_exponent_text
-scientific_shown digits up down log exponent below size trim some low high is tail upper =
+-- the exponent of digits with zeros after them
+pub exponent_shown : (digits up log exponent : ℕ) → 10 ^ log ≤ digits → digits < 10 * 10 ^ log
+    → exponent ≡ log + up → exponent ≡ exponent_of (digits * 10 ^ up)
+exponent_shown digits up log exponent low high is =
     let units = digits * 10 ^ up in
     let u = 10 ^ up in
     let a : 10 ^ log * u ≤ units = mul-le-mul_right u low in
@@ -92,7 +91,27 @@ scientific_shown digits up down log exponent below size trim some low high is ta
     let p : 10 ^ (log + up) ≡ 10 ^ log * u = pow-add 10 log up in
     let next : 10 ^ (log + up + 1) ≡ 10 * 10 ^ log * u = pow-add 10 (log + up) 1 ∙ ap (λ x. x * 10) p ∙ omega arith in
     let U : 0 < units = omega (arith, a, p, pow_some (log + up)) in
-    let e : exponent_of units ≡ exponent = exponent_at units (log + up) U (omega (arith, a, p)) (omega (arith, b, next)) ∙ sym is in
+    is ∙ sym (exponent_at units (log + up) U (omega (arith, a, p)) (omega (arith, b, next)))
+
+pub exponent_zero : (digits up : ℕ) → digits ≡ 0 → 0 ≡ exponent_of (digits * 10 ^ up)
+exponent_zero digits up z =
+    let none : digits * 10 ^ up ≡ 0 = ap (λ x. x * 10 ^ up) z ∙ omega arith in
+    sym (ap exponent_of none ∙ exponent_of_zero)
+
+-- a logarithm of a number of 64 bits
+pub small_log : (digits log : ℕ) → digits < 2 ^ 64 → 10 ^ log ≤ digits → log ≤ 20
+small_log digits log h low =
+    let wide : 2 ^ 64 < 10 ^ 20 = omega arith in
+    let less : log < 20 = pow_less log 20 (omega (arith, h, low, wide)) in omega (arith, less)
+
+pub scientific_shown : (digits up down exponent : ℕ) (below : Bool) (size : ℕ) → IsTrimmed digits up down → 0 < digits
+    → exponent ≡ exponent_of (digits * 10 ^ up) → ((upper : Bool) → signed_tail upper below size ≡ scaled_tail upper exponent down)
+    → (upper : Bool) → scientific_text upper (digit_text 10 false digits) 0 below size ≡ decimal_exponent_text upper None down (digits * 10 ^ up)
+unfolding decimal_exponent_text
+scientific_shown digits up down exponent below size trim some is tail upper =
+    let units = digits * 10 ^ up in
+    let U : 0 < units = (let l : 1 * 10 ^ up ≤ units = mul-le-mul_right (10 ^ up) some in omega (arith, l, pow_some up)) in
+    let e : exponent_of units ≡ exponent = sym is in
     let row : significant_digits (digit_text 10 false units) ≡ digit_text 10 false digits =
     less_tens digits up some ∙ last_some digits (λ z. omega (arith, (trim.last z).0, some)) in
     let form = scientific_plain units in

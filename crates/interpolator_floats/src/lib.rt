@@ -9,8 +9,6 @@
 //! let mut room = [0; MOST_DIGITS];
 //! digits_at(2.675, 2, &mut room)   // whole 2, part 67: 2.675 is a little less than it seems
 //! ```
-//!
-//! Floats are no values of formats yet.
 #![tactic(auto)]
 
 mod choice;
@@ -31,7 +29,7 @@ pub use digits::{FloatDigits, float_digits, float_is_decimal};
 pub use exact::{DigitsAt, ExactDigits, MOST_DIGITS, digits_at, exact_digits};
 pub use exponent::{ExponentDigits, exponent_digits};
 pub use parts::{FloatParts, f32_parts, float_parts, is_negative, odd_parts, word};
-pub use plain::{PlainDigits, ScientificDigits, plain_digits, scientific_digits};
+pub use plain::{PlainDigits, ScientificDigits, plain_digits, scientific_digits, units_exponent};
 pub use shortest::{
     Shortest, shortest_digits, shortest_f32_digits, shortest_f32_is_shortest, shortest_is_shortest,
 };

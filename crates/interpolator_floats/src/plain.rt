@@ -1,6 +1,7 @@
 //! The text of a float's shortest digits, in parts.
-ghost use Rattle.std.specs.Prelude.{◌≡◌, ◌^◌, ◌<◌, Bool, false};
+ghost use Rattle.std.specs.Prelude.{◌≡◌, ◌+◌, ◌*◌, ◌^◌, ◌<◌, ◌≤◌, Bool, false};
 ghost use Rattle.interpolator_digits.specs.Digits.{digit_text};
+ghost use Rattle.interpolator_digits.specs.Exponent.{exponent_of};
 ghost use Rattle.interpolator_floats.specs.ExponentTexts.{scientific_text};
 ghost use Rattle.interpolator_floats.specs.ShortestDigits.{IsTrimmed, plain_text};
 ghost use Rattle.interpolator_floats.specs.ShortestDigits.{shortest_exponent_text, shortest_text};
@@ -66,6 +67,18 @@ pub fn plain_digits(shown: Shortest) -> PlainDigits
     }
 }
 
+/// The exponent of the first of shortest digits, counted in units of 10 ^ -down.
+pub fn units_exponent(shown: Shortest) -> usize
+    requires { IsTrimmed shown.digits shown.up shown.down }
+    ensures exponent { result ≡ exponent_of (shown.digits * 10 ^ shown.up) }
+    ensures small { result ≤ shown.up + 20 }
+{
+    if shown.digits == 0 {
+        return 0;
+    }
+    shown.digits.ilog10() as usize + shown.up as usize
+}
+
 /// The text of shortest digits in exponent form.
 ///
 /// ```text
@@ -84,8 +97,7 @@ pub fn scientific_digits(shown: Shortest) -> ScientificDigits
             size: 0,
         };
     }
-    let exponent = shown.digits.ilog10() as usize + shown.up as usize;
-    let (below, size) = exponent_less(exponent, shown.down as usize);
+    let (below, size) = exponent_less(units_exponent(shown), shown.down as usize);
     ScientificDigits {
         digits: shown.digits,
         below,

@@ -74,30 +74,30 @@ decimal_row spec whole part places zeros empty row fill w d p z f e r =
 pub ruleset split_steps = (grown_twice, decimal_digits, few_after)
 
 -- the parts of a decimal are its text
-pub decimal_body : (whole part places zeros count between : ℕ) (before point' after : List ℕ) →
+pub decimal_body : (whole part places zeros count between : ℕ) (before point' after tail : List ℕ) →
     part < 10 ^ places → before ≡ digit_text 10 false whole →
     point' ≡ (if count == 0 then [] else 46 ∷ []) →
     after ≡ (if places == 0 then [] else digit_text 10 false part) →
-    count ≡ min (places + zeros) (2 ^ 64 - 1) → between ≡ places - length after →
-    before ++ (point' ++ (replicate between 48 ++ (after ++ replicate zeros 48)))
+    count ≡ min (places + zeros) (2 ^ 64 - 1) → between ≡ places - length after → tail ≡ [] →
+    before ++ (point' ++ (replicate between 48 ++ (after ++ (replicate zeros 48 ++ tail))))
     ≡ split_text whole part places zeros
-decimal_body whole part places zeros count between before point' after p b q a k n =
-    grind (arith, common_steps, eq-zero-or-pos, placed_none, placed_some, append_assoc, length-after)
+decimal_body whole part places zeros count between before point' after tail p b q a k n t =
+    grind (arith, common_steps, eq-zero-or-pos, placed_none, placed_some, append_assoc, append-nil, length-after)
 
 -- the parts, padded
-pub decimal_parts : (spec : Spec) (sign whole point' part : List ℕ)
+pub decimal_parts : (spec : Spec) (sign whole point' part tail : List ℕ)
     (count before padding between trailing after : ℕ) →
     count ≡ min (length sign + length (whole ++ (point' ++ (replicate between 48
-    ++ (part ++ replicate trailing 48))))) (2 ^ 64 - 1) →
+    ++ (part ++ (replicate trailing 48 ++ tail)))))) (2 ^ 64 - 1) →
     IsNumberLayout spec count before padding after →
     replicate before (fill_of spec) ++ (sign ++ (replicate padding 48 ++ (whole ++ (point'
     ++ (replicate between 48 ++ (part ++ (replicate trailing 48
-    ++ (replicate after (fill_of spec) ++ []))))))))
+    ++ (tail ++ (replicate after (fill_of spec) ++ [])))))))))
     ≡ padded_number spec sign (whole ++ (point' ++ (replicate between 48
-    ++ (part ++ replicate trailing 48))))
-decimal_parts spec sign whole point' part count before padding between trailing after n l =
+    ++ (part ++ (replicate trailing 48 ++ tail)))))
+decimal_parts spec sign whole point' part tail count before padding between trailing after n l =
     let head = whole ++ (point' ++ (replicate between 48 ++ part)) in
-    let parts = number_parts spec sign [] head [] count before padding trailing after
+    let parts = number_parts spec sign [] head tail count before padding trailing after
     (simp (append-nil, append_assoc) n) l in
     simp append-nil (simp (append-nil, append_assoc) at parts)
 

@@ -2,6 +2,7 @@
 use Rattle.std.proofs.Common.{length-append, FitsSigned, unwrap_or, pow-add, length, Option, nat_lt}
 use Rattle.std.proofs.Common.{arith, false, Bool, true, List, None, Some, ◌==◌, ◌||◌, ◌≡◌, ◌+◌}
 use Rattle.std.proofs.Common.{◌*◌, ◌^◌, ◌<◌, ◌≤◌, ◌∷◌, max, ◌/◌, [], ℕ, ℤ}
+use Rattle.std.specs.Float.{Float, fin, inf, nan}
 use Rattle.std.specs.List.{flat_map}
 use Rattle.std.proofs.lemmas.Bool.{cases_lt}
 use Rattle.std.proofs.lemmas.Bool.Decides.{nat_tests}
@@ -17,23 +18,23 @@ use Rattle.interpolator_render.specs.declared.view.Spec.{Spec}
 use Rattle.interpolator_render.specs.declared.view.Trait.{Trait}
 use Rattle.interpolator_render.specs.Characters.{single_quote, space, delete}
 use Rattle.interpolator_digits.specs.Decimals.{decimal_exponent_text, decimal_text}
-use Rattle.interpolator_render.specs.Forms.{decimal_body}
+use Rattle.interpolator_render.specs.Forms.{decimal_body, float_front}
 use Rattle.interpolator_digits.specs.Decimals.{units_at}
 use Rattle.interpolator_digits.specs.Digits.{digit_text}
 use Rattle.interpolator_digits.specs.Exponent.{exponent_of, significant_digits, scientific}
 use Rattle.interpolator_digits.specs.Exponent.{with_point, exponent_text}
 use Rattle.interpolator_render.specs.Lengths.{IsShownWithin, most_digits, most_front, most_body}
 use Rattle.interpolator_render.specs.Lengths.{most_number, most_text, most_written, HasAtMost}
-use Rattle.interpolator_render.specs.Lengths.{usize_count, most_decimal, most_scaled}
+use Rattle.interpolator_render.specs.Lengths.{usize_count, IsBodyWithin, most_decimal, most_scaled}
 use Rattle.interpolator_render.specs.Numbers.{base_of, sign_text, distance_from_zero, number_form}
 use Rattle.interpolator_render.specs.Numbers.{has_minus, magnitude, front_text, number_text}
 use Rattle.interpolator_render.specs.Numbers.{is_negative}
 use Rattle.interpolator_render.specs.Padding.{displayed_text}
 use Rattle.interpolator_render.specs.Quoting.{escape_by, escape_of, quotation}
-use Rattle.interpolator_render.specs.Texts.{in_form, padded_decimal, view_text}
+use Rattle.interpolator_render.specs.Texts.{in_form, padded_decimal, padded_float, view_text}
 use Rattle.interpolator_render.specs.Views.{Shown, signed_number, unsigned_number, truth_value}
 use Rattle.interpolator_render.specs.Views.{decimal_number, one_character, some_text, plain_text}
-use Rattle.interpolator_render.specs.Views.{integer_width}
+use Rattle.interpolator_render.specs.Views.{float_number, integer_width}
 use Rattle.interpolator_render.proofs.CountLemmas.{scientific_count}
 use Rattle.interpolator_digits.proofs.DecimalLemmas.{length-placed, remainder_fits, scaled_quotient}
 use Rattle.interpolator_render.proofs.DecimalRowLemmas.{length-pointed, length-scaled_tail}
@@ -132,6 +133,22 @@ decimal_within : (t : Trait) (spec : Spec) (negative : Bool) (scale units number
 decimal_within t spec negative scale units number most h s l =
     grind (arith, plain_within, scaled_within, padded_number_count, sign_within)
 
+-- ---- floats
+
+front_within : (x : Float) (sign : Sign) → length (float_front x sign) ≤ 1
+front_within nan sign = grind arith
+front_within (inf s) sign = grind (arith, sign_within)
+front_within (fin s m e) sign = grind (arith, sign_within)
+
+float_within : (t : Trait) (spec : Spec) (x : Float) (number most : ℕ) (body : Option (List ℕ))
+    → IsBodyWithin (max (most_decimal t spec.precision) (most_text t most)) body
+    → HasAtMost (max (unwrap_or spec.width 0)
+    (max number (max (most_decimal t spec.precision) (most_text t most))))
+    (padded_float spec x body)
+float_within t spec x number most None h = tt
+float_within t spec x number most (Some body) h =
+    grind (arith, padded_number_count, front_within)
+
 -- ---- texts
 
 displayed_within : (spec : Spec) (text : List ℕ) (most : ℕ) → length text ≤ most
@@ -179,6 +196,8 @@ view_within t spec most (truth_value truth) h = grind (arith, displayed_within)
 view_within t spec most (decimal_number units scale) h =
     decimal_within t spec (is_negative units) scale (distance_from_zero units)
     _ most (distance_within units B128 h.0) h.1 h.2
+view_within t spec most (float_number format x) h =
+    float_within t spec x _ most _ (h t spec.precision)
 view_within t spec most (one_character c) h =
     let quotes = quoted_within single_quote (c ∷ []) 1 (omega arith) in
     grind (arith, displayed_within)

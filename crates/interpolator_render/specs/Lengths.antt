@@ -1,7 +1,8 @@
 -- How many characters the text of a view has at most.
-use Rattle.std.specs.Prelude.{ℕ, zero, suc, ◌+◌, ◌*◌, ◌^◌, ◌<◌, ◌≤◌, ◌-◌, ⊤, max, min, false, length, unwrap_or}
+use Rattle.std.specs.Prelude.{ℕ, List, zero, suc, ◌+◌, ◌*◌, ◌^◌, ◌<◌, ◌≤◌, ◌-◌, ⊤, max, min, false, length, unwrap_or}
 use Rattle.std.specs.Prelude.{Option, None, Some, FitsSigned}
 use Rattle.std.specs.Int.{w128}
+use Rattle.std.specs.Float.Ieee.{Float, Format}
 use Rattle.interpolator_render.specs.declared.number_form.NumberForm.{NumberForm}
 use Rattle.interpolator_render.specs.declared.number_form.NumberForm.TheVariants.{Digits as InDigits}
 use Rattle.interpolator_render.specs.declared.number_form.NumberForm.TheVariants.{Exponent as InExponent}
@@ -15,22 +16,11 @@ use Rattle.interpolator_render.specs.declared.view.Spec.{Spec}
 use Rattle.interpolator_render.specs.declared.view.Trait.{Trait}
 use Rattle.interpolator_render.specs.declared.view.Trait.TheVariants.{Debug, Display, LowerExp, UpperExp}
 use Rattle.interpolator_digits.specs.Decimals.{decimal_text}
+use Rattle.interpolator_render.specs.Forms.{float_body}
 use Rattle.interpolator_render.specs.Numbers.{distance_from_zero, front_text, number_form}
 use Rattle.interpolator_render.specs.Texts.{ViewText, has_text}
 use Rattle.interpolator_render.specs.Views.{Shown, signed_number, unsigned_number, some_text}
-use Rattle.interpolator_render.specs.Views.{decimal_number, plain_text, integer_width}
-
--- a view whose text has at most `most` characters, with a sign if it is a decimal; its number is
--- one that a view can have
-abbrev pub IsShownWithin : (most : ℕ) → Shown → Type 0
-IsShownWithin most (signed_number z bits) = FitsSigned (integer_width bits) z
-IsShownWithin most (unsigned_number n) = n < 2 ^ 128
-IsShownWithin most (decimal_number units scale) =
-    FitsSigned w128 units × (scale < 2 ^ 32)
-    × (length (decimal_text None scale (distance_from_zero units)) < most)
-IsShownWithin most (some_text text) = length text ≤ most
-IsShownWithin most (plain_text text) = length text ≤ most
-IsShownWithin most _ = ⊤
+use Rattle.interpolator_render.specs.Views.{decimal_number, float_number, plain_text, integer_width}
 
 -- the digits of a number below 2 ^ 128 in a base
 abbrev pub most_digits : Radix → ℕ
@@ -82,6 +72,29 @@ most_decimal _ precision = 0
 abbrev pub most_text : Trait → (most : ℕ) → ℕ
 most_text Debug most = most * 6 + 2
 most_text _ most = most
+
+-- a text, if there is one, has fewer than `most` characters, and so at most as many with a sign
+abbrev pub IsBodyWithin : (most : ℕ) → Option (List ℕ) → Type 0
+IsBodyWithin most None = ⊤
+IsBodyWithin most (Some body) = length body < most
+
+-- under each trait and precision a float has no more characters than a decimal or a text may have
+abbrev pub IsFloatWithin : (most : ℕ) → Format → Float → Type 0
+IsFloatWithin most format x = (t : Trait) (precision : Option ℕ)
+    → IsBodyWithin (max (most_decimal t precision) (most_text t most)) (float_body format t precision x)
+
+-- a view whose text has at most `most` characters, with a sign if it is a decimal or a float; its
+-- number is one that a view can have
+abbrev pub IsShownWithin : (most : ℕ) → Shown → Type 0
+IsShownWithin most (signed_number z bits) = FitsSigned (integer_width bits) z
+IsShownWithin most (unsigned_number n) = n < 2 ^ 128
+IsShownWithin most (decimal_number units scale) =
+    FitsSigned w128 units × (scale < 2 ^ 32)
+    × (length (decimal_text None scale (distance_from_zero units)) < most)
+IsShownWithin most (float_number format x) = IsFloatWithin most format x
+IsShownWithin most (some_text text) = length text ≤ most
+IsShownWithin most (plain_text text) = length text ≤ most
+IsShownWithin most _ = ⊤
 
 -- what is written of a view within that bound: a number, a decimal or a text, or the width if it is
 -- more

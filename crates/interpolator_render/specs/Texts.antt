@@ -1,6 +1,7 @@
 -- The text of a view, and what `render` returns for it.
 use Rattle.std.specs.Prelude.{◌≡◌, Bool, true, false, ℕ, List, [], ◌∷◌, Option, Some, None, Result}
 use Rattle.std.specs.Prelude.{Ok, Err, codes}
+use Rattle.std.specs.Float.Ieee.{Float}
 use Rattle.interpolator_render.specs.declared.number_form.NumberForm.{NumberForm}
 use Rattle.interpolator_render.specs.declared.text_write.Refusal.{Refusal}
 use Rattle.interpolator_render.specs.declared.view.RenderFault.{RenderFault}
@@ -11,13 +12,13 @@ use Rattle.interpolator_render.specs.declared.view.Spec.{Spec}
 use Rattle.interpolator_render.specs.declared.view.Trait.{Trait}
 use Rattle.interpolator_render.specs.declared.view.Trait.TheVariants.{Debug, Display}
 use Rattle.interpolator_render.specs.Characters.{double_quote, single_quote}
-use Rattle.interpolator_render.specs.Forms.{decimal_body}
+use Rattle.interpolator_render.specs.Forms.{decimal_body, float_body, float_front}
 use Rattle.interpolator_render.specs.Numbers.{number_form, number_text, has_minus, magnitude}
 use Rattle.interpolator_render.specs.Numbers.{distance_from_zero, is_negative, sign_text}
 use Rattle.interpolator_render.specs.Padding.{displayed_text, padded_number}
 use Rattle.interpolator_render.specs.Quoting.{quotation}
 use Rattle.interpolator_render.specs.Views.{Shown, signed_number, unsigned_number, truth_value}
-use Rattle.interpolator_render.specs.Views.{decimal_number}
+use Rattle.interpolator_render.specs.Views.{decimal_number, float_number}
 use Rattle.interpolator_render.specs.Views.{one_character, some_text, plain_text}
 use Rattle.interpolator_render.specs.Views.{nothing_implemented, failure}
 use Rattle.interpolator_render.specs.Written.{Written, Appends, AppendsBeginning}
@@ -39,6 +40,11 @@ abbrev pub padded_decimal : Spec → (negative : Bool) → Option (List ℕ) →
 padded_decimal spec negative None = has_no_text
 padded_decimal spec negative (Some body) =
     has_text (padded_number spec (sign_text negative spec.sign) body)
+
+-- a float's text in the form that the trait writes, if it writes floats, after its sign and padded
+abbrev pub padded_float : Spec → Float → Option (List ℕ) → ViewText
+padded_float spec x None = has_no_text
+padded_float spec x (Some body) = has_text (padded_number spec (float_front x spec.sign) body)
 
 -- the text of a truth value
 abbrev pub truth_text : Bool → List ℕ
@@ -63,6 +69,8 @@ view_text (truth_value truth) t spec =
 view_text (decimal_number units scale) t spec =
     padded_decimal spec (is_negative units)
     (decimal_body t spec.precision scale (distance_from_zero units))
+view_text (float_number format x) t spec =
+    padded_float spec x (float_body format t spec.precision x)
 view_text (one_character c) t spec =
     under t (displayed_text spec (c ∷ [])) (quotation single_quote (c ∷ []))
 view_text (some_text text) t spec =

@@ -1,6 +1,7 @@
 -- What a view shows: the view without its borrows.
-use Rattle.std.specs.Prelude.{ℕ, ℤ, pos, negsuc, ◌-◌, ◌^◌, nat_lt, Bool, if◌then◌else◌, List}
-use Rattle.std.specs.Prelude.{FitsSigned}
+use Rattle.std.specs.Prelude.{◌≡◌, ℕ, ℤ, pos, negsuc, ◌-◌, ◌^◌, nat_lt, Bool, if◌then◌else◌, List}
+use Rattle.std.specs.Prelude.{FitsSigned, IsTrue}
+use Rattle.std.specs.Float.Ieee.{Float as Ieee, Format, binary32, binary64, eq}
 use Rattle.std.specs.Int.{Width, w8, w16, w32, w64, w128}
 use Rattle.std.specs.Str.{chars}
 use Rattle.interpolator_render.specs.declared.view.Bits.{Bits}
@@ -8,7 +9,7 @@ use Rattle.interpolator_render.specs.declared.view.Bits.TheVariants.{B8, B16, B3
 use Rattle.interpolator_render.specs.declared.view.View.{View}
 use Rattle.interpolator_render.specs.declared.view.View.TheVariants.{Signed, Unsigned, Truth}
 use Rattle.interpolator_render.specs.declared.view.View.TheVariants.{Decimal, Character, Text, Plain}
-use Rattle.interpolator_render.specs.declared.view.View.TheVariants.{NotImplemented, Failed}
+use Rattle.interpolator_render.specs.declared.view.View.TheVariants.{Float, Float32, NotImplemented, Failed}
 
 -- the width as std's clauses name it
 abbrev pub integer_width : Bits → Width
@@ -32,6 +33,7 @@ pub data Shown : Type 0 where
   unsigned_number : ℕ → Shown
   truth_value : Bool → Shown
   decimal_number : (units : ℤ) → (scale : ℕ) → Shown
+  float_number : Format → Ieee → Shown
   one_character : ℕ → Shown
   some_text : List ℕ → Shown
   plain_text : List ℕ → Shown
@@ -44,6 +46,8 @@ shown_by (Signed number bits) = signed_number number bits
 shown_by (Unsigned number) = unsigned_number number
 shown_by (Truth truth) = truth_value truth
 shown_by (Decimal units scale) = decimal_number units scale
+shown_by (Float number) = float_number binary64 number
+shown_by (Float32 number) = float_number binary32 number
 shown_by (Character c) = one_character c
 shown_by (Text text) = some_text (chars text.now)
 shown_by (Plain text) = plain_text (chars text.now)
@@ -55,6 +59,12 @@ abbrev pub shown_in_bytes : View → Shown
 shown_in_bytes (Text text) = some_text text.now
 shown_in_bytes (Plain text) = plain_text text.now
 shown_in_bytes view = shown_by view
+
+-- two views compare as equal: they show the same, but floats are compared as numbers, so that a NaN
+-- is not equal to itself, and 0 is to -0
+abbrev pub AreEqual : Shown → Shown → Type 0
+AreEqual (float_number format x) (float_number other y) = (format ≡ other) × IsTrue (eq x y)
+AreEqual one other = one ≡ other
 
 -- a signed number lies in the two's complement range of its width, from -2 ^ (w - 1) up to 2 ^ (w -
 -- 1) - 1
@@ -74,6 +84,8 @@ shown_as_value (Signed number bits) =
 shown_as_value (Unsigned number) = unsigned_number number
 shown_as_value (Truth truth) = truth_value truth
 shown_as_value (Decimal units scale) = decimal_number units scale
+shown_as_value (Float number) = float_number binary64 number
+shown_as_value (Float32 number) = float_number binary32 number
 shown_as_value (Character c) = one_character c
 shown_as_value (Text text) = some_text (chars text.now)
 shown_as_value (Plain text) = plain_text (chars text.now)

@@ -1,8 +1,10 @@
 //! Views made of values, so that one map can hold values of several kinds.
 ghost use Rattle.std.specs.Prelude.{◌≡◌, string_bytes};
+ghost use Rattle.std.specs.Float.{binary32, binary64};
 ghost use Rattle.std.specs.Str.{chars};
 ghost use Rattle.interpolator_render.specs.declared.view.Bits.TheVariants.{B8, B16, B32, B64, B128};
-ghost use Rattle.interpolator_render.specs.Views.{shown_by, signed_number, unsigned_number};
+ghost use Rattle.interpolator_render.specs.Views.{float_number, shown_by, signed_number};
+ghost use Rattle.interpolator_render.specs.Views.{unsigned_number};
 ghost use Rattle.interpolator_render.specs.Views.{truth_value, one_character, some_text};
 
 use crate::view::{Bits, View};
@@ -52,6 +54,22 @@ impl From<usize> for View<'_> {
 
     fn from(number: usize) -> Self {
         View::Unsigned(number as u128)
+    }
+}
+
+impl From<f64> for View<'_> {
+    ghost from_gives = { λ number view. shown_by view ≡ float_number binary64 number };
+
+    fn from(number: f64) -> Self {
+        View::Float(number)
+    }
+}
+
+impl From<f32> for View<'_> {
+    ghost from_gives = { λ number view. shown_by view ≡ float_number binary32 number };
+
+    fn from(number: f32) -> Self {
+        View::Float32(number)
     }
 }
 

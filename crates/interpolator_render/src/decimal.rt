@@ -95,7 +95,7 @@ fn put_in_row<W: TextWrite>(
 }
 
 /// The point, if digits follow.
-fn point_str(digits: usize) -> &'static str
+pub(crate) fn point_str(digits: usize) -> &'static str
     ensures value { result.now ≡ (if digits == 0 then [] else point ∷ []) }
     ensures ascii { IsShortAscii result.now }
 {
@@ -140,6 +140,7 @@ fn put_in_parts<W: TextWrite>(
         between: shown.places.saturating_sub(part.len()),
         part,
         zeros: shown.zeros,
+        tail: "",
     };
     put_padded_decimal(out, spec, number)
 }
@@ -176,9 +177,29 @@ fn is_bare_decimal(spec: &Spec) -> bool
     }
 }
 
-/// Writes units of 10 ^ -scale after a sign.
+/// Writes the digits of a decimal after a sign.
 #[inline(never)]
-fn put_units<W: TextWrite>(
+pub(crate) fn put_digits<W: TextWrite>(
+    out: &mut W,
+    spec: &Spec,
+    negative: bool,
+    shown: DecimalDigits,
+) -> Result<(), Refusal>
+    requires { shown.part < 10 ^ shown.places }
+    ensures { Puts (W.written out.old) (padded_number spec.now (sign_text negative spec.now.sign)
+        (split_text shown.whole shown.part shown.places shown.zeros)) result (W.written out.new) }
+{
+    let after = shown.places.saturating_add(shown.zeros);
+    if after <= BUFFER_WIDTH && fits_buffer(spec) {
+        put_in_row(out, spec, negative, shown)
+    } else {
+        put_in_parts(out, spec, negative, shown)
+    }
+}
+
+/// Writes units of 10 ^ -scale after a sign.
+#[inline(always)]
+pub(crate) fn put_units<W: TextWrite>(
     out: &mut W,
     spec: &Spec,
     negative: bool,
@@ -190,12 +211,15 @@ fn put_units<W: TextWrite>(
         (decimal_text spec.now.precision scale units))
         result (W.written out.new) }
 {
-    let shown = decimal_digits(units, scale, spec.precision);
-    let after = shown.places.saturating_add(shown.zeros);
-    if after <= BUFFER_WIDTH && fits_buffer(spec) {
-        put_in_row(out, spec, negative, shown)
+    if units <= GREATEST_U64 && scale <= GREATEST_SHORT_SCALE && is_bare_decimal(spec) {
+        put_bare_decimal(out, negative, units as u64, scale as usize)
     } else {
-        put_in_parts(out, spec, negative, shown)
+        put_digits(
+            out,
+            spec,
+            negative,
+            decimal_digits(units, scale, spec.precision),
+        )
     }
 }
 
@@ -212,10 +236,5 @@ pub(crate) fn put_decimal<W: TextWrite>(
         (decimal_text spec.now.precision scale (distance_from_zero units)))
         result (W.written out.new) }
 {
-    let size = units.unsigned_abs();
-    if size <= GREATEST_U64 && scale <= GREATEST_SHORT_SCALE && is_bare_decimal(spec) {
-        put_bare_decimal(out, units < 0, size as u64, scale as usize)
-    } else {
-        put_units(out, spec, units < 0, size, scale)
-    }
+    put_units(out, spec, units < 0, units.unsigned_abs(), scale)
 }

@@ -17,7 +17,7 @@ ghost use Rattle.interpolator_render.specs.Numbers.{twos_complement};
 ghost use Rattle.interpolator_render.specs.Padding.{padded_number, padded_text, displayed_text};
 ghost use Rattle.interpolator_render.specs.Quoting.{quotation};
 ghost use Rattle.interpolator_render.specs.Unquoting.{IsQuote, text_in_quotes};
-ghost use Rattle.interpolator_render.specs.Views.{bit_count, shown_in_bytes};
+ghost use Rattle.interpolator_render.specs.Views.{AreEqual, bit_count, shown_in_bytes};
 ghost use Rattle.interpolator_render.specs.Written.{Written, Appends};
 
 pub mod clones;
@@ -214,9 +214,10 @@ pub fn equal_specs(one: Spec, other: Spec) -> bool
     one == other
 }
 
-/// Two views are equal exactly when they are the same variant, of the same number or text.
+/// Two views are equal exactly when they are the same variant, of the same number or text. A NaN is
+/// not the same number as itself, and 0.0 is the same as -0.0.
 pub fn equal_views(one: &View<'_>, other: &View<'_>) -> bool
-    ensures { IsTrue result ↔ (shown_in_bytes one.now ≡ shown_in_bytes other.now) }
+    ensures { IsTrue result ↔ AreEqual (shown_in_bytes one.now) (shown_in_bytes other.now) }
 {
     *one == *other
 }

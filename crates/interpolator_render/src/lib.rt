@@ -34,6 +34,8 @@ mod digit_buffer;
 mod digit_tables;
 mod digits;
 mod exponent;
+mod float;
+mod float_view;
 mod ghost_log;
 mod io_writer;
 pub mod laws;

@@ -18,6 +18,7 @@ use crate::copies::{put_between, put_between_spaces, put_in_block};
 use crate::decimal::put_decimal;
 use crate::decimal_exponent::put_decimal_exponent;
 use crate::digits::GREATEST_U64;
+use crate::float_view::{render_f32, render_float};
 use crate::layout::{fill_before, put_text};
 use crate::number::{put_bare, put_bare_signed, put_integer, put_natural, put_number};
 use crate::number_form::{NumberForm, number_form, sign_and_magnitude};
@@ -350,6 +351,8 @@ fn render_any<W: TextWrite>(
         View::Unsigned(number) => render_natural(out, spec, number, wanted),
         View::Truth(truth) => render_truth(out, wanted, truth, spec),
         View::Decimal { units, scale } => render_decimal(out, wanted, spec, units, scale),
+        View::Float(number) => render_float(out, wanted, spec, number),
+        View::Float32(number) => render_f32(out, wanted, spec, number),
         View::Character(c) => render_character(out, wanted, c, spec),
         View::Text(text) => render_text(out, wanted, '"', text, spec),
         View::Plain(text) => refused(put_text(out, text)),

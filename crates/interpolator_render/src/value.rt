@@ -1,12 +1,13 @@
 //! Values that have a view.
 ghost use Rattle.std.specs.Prelude.{◌≡◌, string_bytes};
+ghost use Rattle.std.specs.Float.{binary32, binary64};
 ghost use Rattle.std.specs.Str.{chars};
 ghost use Rattle.interpolator_render.specs.declared.view.Bits.TheVariants.{B8, B16, B32, B64, B128};
 ghost use Rattle.interpolator_render.specs.declared.view.Spec.{Spec};
 ghost use Rattle.interpolator_render.specs.declared.view.Trait.{Trait};
 ghost use Rattle.interpolator_render.specs.Views.{IsInRange, Shown, shown_by, signed_number};
 ghost use Rattle.interpolator_render.specs.Views.{unsigned_number, truth_value, one_character};
-ghost use Rattle.interpolator_render.specs.Views.{some_text, shown_as_value};
+ghost use Rattle.interpolator_render.specs.Views.{float_number, some_text, shown_as_value};
 
 use crate::view::{Bits, Spec, Trait, View};
 
@@ -129,6 +130,22 @@ impl Value for isize {
 
     fn view(&self, _t: Trait, _spec: &Spec) -> View<'_> {
         View::Signed(*self as i128, Bits::B64)
+    }
+}
+
+impl Value for f64 {
+    ghost shows = { λ number _ _. float_number binary64 number };
+
+    fn view(&self, _t: Trait, _spec: &Spec) -> View<'_> {
+        View::Float(*self)
+    }
+}
+
+impl Value for f32 {
+    ghost shows = { λ number _ _. float_number binary32 number };
+
+    fn view(&self, _t: Trait, _spec: &Spec) -> View<'_> {
+        View::Float32(*self)
     }
 }
 

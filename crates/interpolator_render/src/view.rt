@@ -11,13 +11,13 @@ pub enum Trait {
     Debug,
     /// As a user reads it.
     Display,
-    /// Whole numbers and decimals in exponent form, with `e`.
+    /// Numbers in exponent form, with `e`.
     LowerExp,
     /// Whole numbers in base sixteen, with `a` to `f`.
     LowerHex,
     /// Whole numbers in base eight.
     Octal,
-    /// Whole numbers and decimals in exponent form, with `E`.
+    /// Numbers in exponent form, with `E`.
     UpperExp,
     /// Whole numbers in base sixteen, with `A` to `F`.
     UpperHex,
@@ -126,14 +126,14 @@ pub struct Spec {
     /// The least number of characters.
     pub width: Option<usize>,
     /// For a text, the greatest number of its characters that are shown, before padding; for a
-    /// decimal and an exponent form, the number of digits after the point.
+    /// decimal, a float and an exponent form, the number of digits after the point.
     pub precision: Option<usize>,
     /// How `Trait::Debug` writes whole numbers.
     pub hex_debug: HexDebug,
 }
 
 /// What a value shows under a trait and a spec: one number, one text or neither. Two views are equal
-/// when their variants and fields are.
+/// when their variants and fields are. So a NaN is not equal to itself, and 0.0 is equal to -0.0.
 #[derive(Clone, Copy, Debug, PartialEq)]
 pub enum View<'a> {
     /// A number of a signed type of this width. It lies in the range of that type.
@@ -149,6 +149,10 @@ pub enum View<'a> {
         /// How many digits of them are after the point.
         scale: u32,
     },
+    /// A float. Without precision its text has the fewest digits that read back as it.
+    Float(f64),
+    /// A float of 32 bits, whose digits read back as one of as many.
+    Float32(f32),
     /// One character.
     Character(char),
     /// A text.

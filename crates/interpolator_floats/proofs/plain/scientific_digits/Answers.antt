@@ -1,4 +1,4 @@
-use Rattle.std.proofs.Common.{arith, ◌+◌, ◌<◌}
+use Rattle.std.proofs.Common.{arith}
 use Rattle.interpolator_floats.proofs.PlainLemmas.{scientific_shown, scientific_zero}
 use Rattle.interpolator_floats.proofs.plain.scientific_digits.Goals as goal
 
@@ -8,6 +8,5 @@ returns-then-shown-eq0 c = scientific_zero c.args.shown.digits c.args.shown.up c
 pub returns : goal.returns
 returns c =
     let shown = c.args.shown in
-    let some : 0 < shown.digits = omega arith in
-    scientific_shown shown.digits shown.up shown.down c.ilog10.result (c.ilog10.result + shown.up) c.exponent_less-below.result.0 c.exponent_less-below.result.1 c.requires some
-    c.ilog10.ensures.power_le c.ilog10.ensures.next_power_gt (omega arith) c.exponent_less-below.ensures
+    scientific_shown shown.digits shown.up shown.down c.units_exponent.result c.exponent_less-below.result.0 c.exponent_less-below.result.1 c.requires (omega arith)
+    c.units_exponent.ensures.exponent c.exponent_less-below.ensures
