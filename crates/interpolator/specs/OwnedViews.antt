@@ -1,8 +1,9 @@
 -- What a value shows that owns its text.
 use Rattle.std.specs.Prelude.{if◌then◌else◌, string_bytes}
+use Rattle.std.specs.Float.{binary32, binary64}
 use Rattle.std.specs.Str.{chars}
 use Rattle.interpolator_render.specs.Views.{Shown, signed_number, unsigned_number, truth_value}
-use Rattle.interpolator_render.specs.Views.{decimal_number, one_character, some_text, failure}
+use Rattle.interpolator_render.specs.Views.{decimal_number, float_number, one_character, some_text, failure}
 use Rattle.interpolator_render.specs.Views.{fits_signed}
 use Rattle.interpolator.specs.declared.owned_view.OwnedView.{OwnedView}
 use Rattle.interpolator.specs.declared.owned_view.OwnedView.TheVariants as owned
@@ -14,6 +15,8 @@ owned_shows (owned.Signed number bits) =
 owned_shows (owned.Unsigned number) = unsigned_number number
 owned_shows (owned.Truth truth) = truth_value truth
 owned_shows (owned.Decimal units scale) = decimal_number units scale
+owned_shows (owned.Float number) = float_number binary64 number
+owned_shows (owned.Float32 number) = float_number binary32 number
 owned_shows (owned.Character c) = one_character c
 owned_shows (owned.Text text) = some_text (chars (string_bytes text))
 owned_shows owned.Failed = failure

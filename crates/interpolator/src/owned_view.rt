@@ -37,6 +37,10 @@ pub enum OwnedView {
         /// How many digits are after the point.
         scale: u32,
     },
+    /// A float.
+    Float(f64),
+    /// A float of 32 bits.
+    Float32(f32),
     /// One character.
     Character(char),
     /// A text.
@@ -124,6 +128,8 @@ impl<'a> From<&'a OwnedView> for View<'a> {
                 units: *units,
                 scale: *scale,
             },
+            OwnedView::Float(number) => View::Float(*number),
+            OwnedView::Float32(number) => View::Float32(*number),
             OwnedView::Character(c) => View::Character(*c),
             OwnedView::Text(text) => View::Text(text.as_str()),
             OwnedView::Failed => View::Failed,
@@ -184,6 +190,22 @@ impl From<usize> for OwnedView {
 
     fn from(number: usize) -> OwnedView {
         OwnedView::Unsigned(number as u128)
+    }
+}
+
+impl From<f64> for OwnedView {
+    ghost from_gives = { λ number value. value ≡ owned.Float number };
+
+    fn from(number: f64) -> OwnedView {
+        OwnedView::Float(number)
+    }
+}
+
+impl From<f32> for OwnedView {
+    ghost from_gives = { λ number value. value ≡ owned.Float32 number };
+
+    fn from(number: f32) -> OwnedView {
+        OwnedView::Float32(number)
     }
 }
 

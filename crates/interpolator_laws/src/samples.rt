@@ -3,11 +3,13 @@
 ghost use Rattle.std.specs.Prelude.{◌≡◌, ◌≢◌, ◌≤◌, IfErr, ℕ, ℤ, Bool, false, codes, length};
 ghost use Rattle.std.specs.List.{All};
 ghost use Rattle.std.specs.Prelude.{List, [], ◌∷◌, Option, None, Some};
+ghost use Rattle.std.specs.Float.{Float, Format};
 ghost use Rattle.std.specs.Str.{chars};
 ghost use Rattle.std.specs.Borrow.{Bor};
 ghost use Rattle.interpolator_render.specs.Texts.{view_text};
 ghost use Rattle.interpolator_render.specs.Views.{Shown, some_text, unsigned_number, failure};
 ghost use Rattle.interpolator_render.specs.Views.{signed_number, truth_value, one_character, decimal_number};
+ghost use Rattle.interpolator_render.specs.Views.{float_number};
 ghost use Rattle.interpolator_render.specs.declared.view.Bits.{Bits};
 ghost use Rattle.interpolator_render.specs.declared.view.Spec.{Spec};
 ghost use Rattle.interpolator_render.specs.declared.view.Trait.{Trait};
@@ -157,7 +159,7 @@ pub fn a_context_resembles_itself<V: Value>()
 
 /// Whether a view has a text depends on its kind and on the trait, not on what it contains. So each
 /// number has a text if any number of its type has one, each text if any text has one, and so on
-/// for decimals, truth values and characters: one of them is a sample of all.
+/// for decimals, floats of any width, truth values and characters: one of them is a sample of all.
 pub fn a_view_has_a_text_by_its_kind()
     ensures kind { (x y : Shown) (t : Trait) (spec : Spec) → shows_nothing x t ≡ shows_nothing y t
         → is_failure x ≡ is_failure y → HasText (view_text x t spec)
@@ -176,6 +178,9 @@ pub fn a_view_has_a_text_by_its_kind()
     ensures decimals { (y z : ℤ) (m n : ℕ) (t : Trait) (spec : Spec)
         → HasText (view_text (decimal_number y m) t spec)
         → HasText (view_text (decimal_number z n) t spec) }
+    ensures floats { (f h : Format) (x y : Float) (t : Trait) (spec : Spec)
+        → HasText (view_text (float_number f x) t spec)
+        → HasText (view_text (float_number h y) t spec) }
     ensures characters { (c d : ℕ) (t : Trait) (spec : Spec)
         → HasText (view_text (one_character c) t spec)
         → HasText (view_text (one_character d) t spec) }

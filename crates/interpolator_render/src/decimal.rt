@@ -178,7 +178,7 @@ fn is_bare_decimal(spec: &Spec) -> bool
 }
 
 /// Writes the digits of a decimal after a sign.
-#[inline(never)]
+#[inline(always)]
 pub(crate) fn put_digits<W: TextWrite>(
     out: &mut W,
     spec: &Spec,
@@ -198,6 +198,28 @@ pub(crate) fn put_digits<W: TextWrite>(
 }
 
 /// Writes units of 10 ^ -scale after a sign.
+#[inline(never)]
+fn put_any_units<W: TextWrite>(
+    out: &mut W,
+    spec: &Spec,
+    negative: bool,
+    units: u128,
+    scale: u32,
+) -> Result<(), Refusal>
+    ensures { Puts (W.written out.old)
+        (padded_number spec.now (sign_text negative spec.now.sign)
+        (decimal_text spec.now.precision scale units))
+        result (W.written out.new) }
+{
+    put_digits(
+        out,
+        spec,
+        negative,
+        decimal_digits(units, scale, spec.precision),
+    )
+}
+
+/// As [`put_any_units`], with a short way for a short number alone.
 #[inline(always)]
 pub(crate) fn put_units<W: TextWrite>(
     out: &mut W,
@@ -214,12 +236,7 @@ pub(crate) fn put_units<W: TextWrite>(
     if units <= GREATEST_U64 && scale <= GREATEST_SHORT_SCALE && is_bare_decimal(spec) {
         put_bare_decimal(out, negative, units as u64, scale as usize)
     } else {
-        put_digits(
-            out,
-            spec,
-            negative,
-            decimal_digits(units, scale, spec.precision),
-        )
+        put_any_units(out, spec, negative, units, scale)
     }
 }
 

@@ -1,13 +1,14 @@
 -- What cells show, and where rows end.
 use Rattle.std.specs.Prelude.{ℕ, List, [], ◌∷◌, ◌++◌, map, ◌≡◌, ◌≤◌, string_bytes}
+use Rattle.std.specs.Float.{binary32, binary64}
 use Rattle.std.specs.Str.{chars}
 use Rattle.interpolator_render.specs.Views.{Shown, signed_number, unsigned_number, truth_value}
-use Rattle.interpolator_render.specs.Views.{decimal_number, one_character, some_text, plain_text}
+use Rattle.interpolator_render.specs.Views.{decimal_number, float_number, one_character, some_text, plain_text}
 use Rattle.interpolator_render.specs.Views.{nothing_implemented, failure}
 use Rattle.interpolator_eval.specs.Rows.{parts_to}
 use Rattle.interpolator_table.specs.declared.cell.Cell.{Cell}
 use Rattle.interpolator_table.specs.declared.cell.Cell.TheVariants.{Text, Plain, Signed, Unsigned}
-use Rattle.interpolator_table.specs.declared.cell.Cell.TheVariants.{Truth, Decimal, Character}
+use Rattle.interpolator_table.specs.declared.cell.Cell.TheVariants.{Truth, Decimal, Float, Float32, Character}
 use Rattle.interpolator_table.specs.declared.cell.Cell.TheVariants.{NotImplemented, Failed}
 
 -- what a cell shows, a text by its characters
@@ -18,6 +19,8 @@ cell_shows (Signed number bits) = signed_number number bits
 cell_shows (Unsigned number) = unsigned_number number
 cell_shows (Truth truth) = truth_value truth
 cell_shows (Decimal units scale) = decimal_number units scale
+cell_shows (Float number) = float_number binary64 number
+cell_shows (Float32 number) = float_number binary32 number
 cell_shows (Character c) = one_character c
 cell_shows NotImplemented = nothing_implemented
 cell_shows Failed = failure

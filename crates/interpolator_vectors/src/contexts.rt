@@ -11,6 +11,9 @@ use std::alloc::{AllocError, Global};
 /// How deep lists may be nested.
 const LEVELS: usize = 4;
 
+/// More characters than a float has without a precision.
+const MOST_FLOAT: usize = 400;
+
 /// A value, and the slots that it fills.
 #[derive(Drop)]
 struct Fill {
@@ -87,6 +90,8 @@ fn number_of(kind: &str, word: &str) -> Option<OwnedView> {
         "i32" => Some(OwnedView::from(word.parse::<i32>().ok()?)),
         "i64" => Some(OwnedView::from(word.parse::<i64>().ok()?)),
         "i128" => Some(OwnedView::from(word.parse::<i128>().ok()?)),
+        "f32" => Some(OwnedView::from(word.parse::<f32>().ok()?)),
+        "f64" => Some(OwnedView::from(word.parse::<f64>().ok()?)),
         "u8" => Some(OwnedView::from(word.parse::<u8>().ok()?)),
         "u16" => Some(OwnedView::from(word.parse::<u16>().ok()?)),
         "u32" => Some(OwnedView::from(word.parse::<u32>().ok()?)),
@@ -119,13 +124,16 @@ impl Held {
     }
 }
 
-/// The number of characters of the longest text among the values, a decimal's with its sign.
+/// The number of characters of the longest text among the values, a decimal's or a float's with its
+/// sign.
 fn longest_of(fills: &[Fill]) -> usize {
     let mut longest = 0usize;
     for fill in fills {
         longest = longest.max(match &fill.cell {
             Cell::Owned(OwnedView::Text(text)) => text.chars().count(),
             Cell::Owned(OwnedView::Decimal { scale, .. }) => (*scale as usize).saturating_add(41),
+            Cell::Owned(OwnedView::Float(_)) => MOST_FLOAT,
+            Cell::Owned(OwnedView::Float32(_)) => MOST_FLOAT,
             Cell::Plain(text) => text.chars().count(),
             _ => 0,
         });

@@ -9,7 +9,7 @@ use Rattle.interpolator_render.specs.declared.view.Trait.TheVariants.{LowerExp, 
 use Rattle.interpolator_render.specs.declared.view.Spec.{Spec}
 use Rattle.interpolator_render.specs.Texts.{ViewText, has_no_text, has_failed, view_text}
 use Rattle.interpolator_render.specs.Views.{Shown, signed_number, unsigned_number, truth_value}
-use Rattle.interpolator_render.specs.Views.{decimal_number, one_character, some_text, plain_text}
+use Rattle.interpolator_render.specs.Views.{decimal_number, float_number, one_character, some_text, plain_text}
 use Rattle.interpolator_render.specs.Views.{nothing_implemented, failure}
 use Rattle.interpolator_eval.specs.Slots.{Slots, slots_of, values_of, items, slot_at}
 use Rattle.interpolator_eval.specs.declared.evaluate.sample.Candidates.{Candidates}
@@ -86,7 +86,7 @@ is_for_numbers Display = false
 is_for_numbers Debug = false
 is_for_numbers _ = true
 
--- no decimal is written under a trait
+-- no decimal and no float is written under a trait
 abbrev pub is_not_for_decimals : Trait → Bool
 is_not_for_decimals Display = false
 is_not_for_decimals Debug = false
@@ -100,6 +100,7 @@ shows_nothing (signed_number number bits) t = is_for_no_number t
 shows_nothing (unsigned_number number) t = is_for_no_number t
 shows_nothing (truth_value truth) t = is_for_numbers t
 shows_nothing (decimal_number units scale) t = is_not_for_decimals t
+shows_nothing (float_number format x) t = is_not_for_decimals t
 shows_nothing (one_character c) t = is_for_numbers t
 shows_nothing (some_text text) t = is_for_numbers t
 shows_nothing (plain_text text) t = false

@@ -58,7 +58,7 @@ fn is_for_numbers(wanted: Trait) -> bool
     }
 }
 
-/// Returns whether no decimal is written under a trait.
+/// Returns whether no decimal and no float is written under a trait.
 fn is_not_for_decimals(wanted: Trait) -> bool
     ensures { result ≡ is_not_for_decimals wanted }
 {
@@ -80,6 +80,8 @@ fn no_text(view: View<'_>, wanted: Trait) -> bool
         View::Unsigned(_) => is_for_no_number(wanted),
         View::Truth(_) => is_for_numbers(wanted),
         View::Decimal { units: _, scale: _ } => is_not_for_decimals(wanted),
+        View::Float(_) => is_not_for_decimals(wanted),
+        View::Float32(_) => is_not_for_decimals(wanted),
         View::Character(_) => is_for_numbers(wanted),
         View::Text(_) => is_for_numbers(wanted),
         View::Plain(_) => false,

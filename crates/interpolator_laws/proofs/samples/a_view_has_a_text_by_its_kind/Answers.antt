@@ -10,5 +10,6 @@ returns c = record {
   texts = λ cs ds t spec. kind_has_text _ _ t spec refl refl;
   truths = λ a b t spec. kind_has_text _ _ t spec refl refl;
   decimals = λ y z m n t spec. kind_has_text _ _ t spec refl refl;
+  floats = λ f h x y t spec. kind_has_text _ _ t spec refl refl;
   characters = λ c' d t spec. kind_has_text _ _ t spec refl refl;
 }
