@@ -7,12 +7,12 @@ use Rattle.merge.specs.Table.{AreFaults, AreFaultsBy, HasTrouble, IsToldOf, IsTr
 use Rattle.merge.specs.Table.{broken, repeats, with_line}
 use Rattle.merge.specs.Values.{IsMisfit}
 use Rattle.merge.specs.declared.columns.Kind.{Kind}
-use Rattle.merge.specs.declared.letters.Letters.{Letters}
+use Rattle.merge.specs.declared.templates.Letters.{Letters}
 use Rattle.merge.specs.declared.table.LineFault.{LineFault}
 use Rattle.merge.specs.declared.table.Trouble.{Trouble}
 use Rattle.merge.specs.declared.table.Trouble.TheVariants.{NotNumber}
-use Rattle.merge.specs.declared.letters.Fault.{Fault}
-use Rattle.merge.specs.declared.letters.Fault.TheVariants as why
+use Rattle.merge.specs.declared.templates.Fault.{Fault}
+use Rattle.merge.specs.declared.templates.Fault.TheVariants as why
 use Rattle.records.specs.declared.fault.Fault.{Fault as BrokenAt}
 use Rattle.records.specs.Tables.{AreEntries, At, Entry, Gives}
 use Rattle.records.specs.declared.separator.Separator.{Separator}

@@ -26,10 +26,10 @@ use Rattle.records.specs.Tables.{AreEntries, At, Entry, Gives, GivesRecord}
 use Rattle.records.specs.declared.separator.Separator.{Separator}
 use Rattle.merge.specs.Values.{AreShown, as_value, example_slots, is_empty_at}
 use Rattle.merge.specs.declared.columns.Kind.{Kind}
-use Rattle.merge.specs.declared.letters.Fault.{Fault}
-use Rattle.merge.specs.declared.letters.Fault.TheVariants as why
-use Rattle.merge.specs.declared.letters.Letters.{Letters}
-use Rattle.merge.specs.declared.letters.Templates.{Templates}
+use Rattle.merge.specs.declared.templates.Fault.{Fault}
+use Rattle.merge.specs.declared.templates.Fault.TheVariants as why
+use Rattle.merge.specs.declared.templates.Letters.{Letters}
+use Rattle.merge.specs.declared.templates.Templates.{Templates}
 use Rattle.merge.specs.declared.table.LineFault.{LineFault}
 use Rattle.merge.specs.declared.table.Trouble.{Trouble}
 

@@ -33,15 +33,17 @@ mod columns;
 mod letters;
 mod output;
 mod table;
+mod templates;
 mod told;
 mod values;
 
 use interpolator::{Error, IoWriter};
-use letters::{Fault, Templates, merge};
+use letters::merge;
 use output::Output;
 use records::{BadByte, Separator, latin1, text_in};
 use std::fs;
 use std::process::ExitCode;
+use templates::{Fault, Templates};
 use told::{Files, told};
 use words::program::{
     FAULT, REFUSED, WRITTEN, arguments, ended, is_flag, usage, without_mark, without_words,

@@ -1,8 +1,8 @@
 //! Why letters are missing, in lines.
 
 use crate::columns::{columns_of, names_of};
-use crate::letters::Fault;
 use crate::table::{LineFault, Trouble};
+use crate::templates::Fault;
 use interpolator::{Error, Source, explain_with_names};
 use records::{Field, ReadError, Reader, Separator};
 use std::alloc::Global;
