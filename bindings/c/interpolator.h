@@ -206,12 +206,16 @@ typedef struct {
 
 /* ---- Calls
  *
- * What a call costs: a width in a format may be any number, and interpolator_format and
- * interpolator_rows make the whole text, even if it does not fit in the room: `{a:1000000000}` takes
- * a gigabyte. interpolator_write takes as much memory as the room has, and stops where that is full:
- * its room is the limit for a format that others wrote. What a list under a width holds in memory is
- * within it, too. interpolator_cost tells before how long a text can get. All other calls take
- * memory for what the format and the fields are, not for their text. */
+ * What a call costs: a width in a format may be any number. interpolator_format keeps of a text what
+ * fits in the room, in less than twice the room's memory, and counts what does not fit without
+ * making it: `{a:1000000000}` takes time for a gigabyte, but no memory. A run of more than 64 copies
+ * of a fill that would bring a text which does not fit past 2^36 bytes is NO_MEMORY. A list under a
+ * width is made in memory first, whatever the room is.
+ * interpolator_write takes as much memory as the room has, and stops where that is full: its room is
+ * the limit, also of time, for a format that others wrote. What a list under a width holds in memory
+ * is within it, too. interpolator_rows makes the whole text, even if it does not fit in the room.
+ * interpolator_cost tells before how long a text can get. All other calls take memory for what the
+ * format and the fields are, not for their text. */
 
 /* The text of a format over a row of fields: the whole text, or none. Of two equal names the last
  * counts.

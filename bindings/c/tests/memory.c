@@ -220,6 +220,36 @@ static int writes_within_the_room(void) {
   return 1;
 }
 
+/* A text that does not fit is counted, and not made: neither its length nor its fault takes memory. */
+static int measures_within_the_room(void) {
+  static const struct {
+    const char *of;
+    uint32_t code;
+    size_t place, length;
+  } all_of[] = {
+      {"{name:1000000000}", INTERPOLATOR_OK, 0, 1000000000},
+      {"{name}{name:^9999999}\xC3\xA9{name:\xC3\xA9>200}", INTERPOLATOR_OK, 0, 3 + 9999999 + 2 + 3 + 394},
+      {"{name:>201}", INTERPOLATOR_OK, 0, 201},
+      {"{name:>100}{name:>101}", INTERPOLATOR_OK, 0, 201},
+      {"{l:>9999999i({})(, )}", INTERPOLATOR_OK, 0, 9999999},
+      {"{name:9999999}{nobody}", INTERPOLATOR_MISSING_VALUE, 15, 0},
+      {"{name:68719476737}", INTERPOLATOR_NO_MEMORY, 0, 0},
+      {"{name:18446744073709551615}", INTERPOLATOR_NO_MEMORY, 0, 0},
+      {"{name:9999999}{name:18446744073709551615}", INTERPOLATOR_NO_MEMORY, 0, 0}};
+  size_t k;
+  for (k = 0; k < sizeof all_of / sizeof *all_of; k++) {
+    interpolator_answer got;
+    memset(room, BEFORE, sizeof room);
+    largest = 0;
+    got = interpolator_format(all_of[k].of, strlen(all_of[k].of), fields, 2, items, 4, room, 200);
+    if (got.code != all_of[k].code || got.place != all_of[k].place || got.length != all_of[k].length
+        || !is_as_before(room + got.message, sizeof room - got.message))
+      return printf("code %u, %lu bytes of %s\n", got.code, (unsigned long)got.length, all_of[k].of), 0;
+    if (largest > 4096) return printf("%lu bytes for %s\n", (unsigned long)largest, all_of[k].of), 0;
+  }
+  return 1;
+}
+
 int main(void) {
   size_t k;
   int failed = 0;
@@ -245,6 +275,7 @@ int main(void) {
     printf("memory: %s, each of %ld allocations refused in turn\n", all[k].name, most);
   }
   allowed = -1;
+  if (!measures_within_the_room()) failed = 1, printf("FAILED format, in the memory of its room\n");
   if (!writes_within_the_room()) failed = 1, printf("FAILED write, in the memory of its room\n");
   return failed;
 }

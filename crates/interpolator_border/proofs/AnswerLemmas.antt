@@ -1,10 +1,10 @@
 -- What is told of what was written, and of a whole text.
-use Rattle.std.specs.Prelude.{IsSomeAnd, MatchOption, string_bytes, ◌++◌, ◌+◌, if◌then◌else◌}
+use Rattle.std.specs.Prelude.{IsSomeAnd, MatchOption, ◌++◌, ◌+◌, if◌then◌else◌}
 use Rattle.std.specs.Prelude.{encode_utf8, encode_utf8_all, Ok, Err}
-use Rattle.std.specs.{Str.chars, Str.is_utf8, Str.IsUtf8, declared.string.String.String}
+use Rattle.std.specs.{Str.chars, Str.is_utf8, Str.IsUtf8}
 use Rattle.std.proofs.Common.{arith, ◌≡◌, inl, inr, List, [], ℕ, Option, None, Some, option_map}
 use Rattle.std.proofs.Common.{Bool, true, false, map, Result, length, ◌≤◌, ◌<◌, ap, sym, ◌∙◌}
-use Rattle.std.proofs.Common.{refl, subst}
+use Rattle.std.proofs.Common.{◌⊎◌, refl, subst}
 use Rattle.std.proofs.lemmas.Str.{encodes-chars}
 use Rattle.interpolator_syntax.specs.At.{text_of}
 use Rattle.interpolator_syntax.specs.Faults.{Answer, Fault, fault, no_memory, answer_of}
@@ -14,6 +14,8 @@ use Rattle.interpolator_eval.specs.{Meaning.Meanings.Meaning, Slots.Slots}
 use Rattle.interpolator_eval.specs.Meaning.Outcomes.{Finished, Outcome, Refused, WantsMemory}
 use Rattle.interpolator_border.specs.Answers.{FailsBy, FormatAnswers, Means, Put, TellsResult}
 use Rattle.interpolator_border.specs.Answers.{TellsWritten, Told, ToldBy, ToldFailure, ToldFault}
+use Rattle.interpolator_border.specs.Answers.{row_means}
+use Rattle.interpolator_border.specs.Measures.{TellsMade, TellsText, TellsWhy}
 use Rattle.interpolator_border.specs.Answers.{WriteAnswers, WritesKnown, WritesRow, Wrote}
 use Rattle.interpolator_border.specs.Answers.{WroteAll, WroteFull, WroteSome, text_answer}
 use Rattle.interpolator_border.specs.Fields.{field_slots, lists_lie}
@@ -73,17 +75,61 @@ module _ (fields items : List Field) (format old new : List ℕ) (answer : Told_
             if_fault (λ a. ToldBy a 0 old new answer) _ m.fault (answer_of e) is told) fails.1,
       )
 
--- ---- a new text
+-- ---- a text that is told
 
--- the text is told, and put into the room
-pub text_told : {Z : Type 0} (fields items : List Field) (format old new bytes : List ℕ) (s : String Z)
-    (answer : Told_answer)
-    → ((is_utf8 format ≡ true) × Means fields items format (λ m. (m.fault ≡ None)
-    × (chars (string_bytes s) ≡ text_of m.text)))
-    → bytes ≡ string_bytes s → IsUtf8 (string_bytes s) → Told bytes old new
-    → answer ≡ text_answer (length bytes) → FormatAnswers fields items format old new answer
-text_told fields items format old new bytes s answer made is utf8 put told =
-    grind (arith, inl, means_more, encodes-chars)
+-- why a writer that did not refuse has not all of a text
+why_not_all : (m : Meaning) (old new : Written) (a : Answer) → new.refused ≡ false
+    → Outcome m old new (Some a) → (a ≡ no_memory) ⊎ (Some a ≡ option_map fault m.fault)
+why_not_all m old new a open_yet (inl finished) = inr finished.told
+why_not_all m old new a open_yet (inr (inl refused)) = grind (arith, refused.flag)
+why_not_all m old new a open_yet (inr (inr wants)) = inl (grind (arith, wants.told))
+
+-- why there is no text, if the writer did not refuse it
+fails_by : (fields items : List Field) (format : List ℕ) (old new : Written) (why : Failure)
+    → is_utf8 format ≡ true → new.refused ≡ false
+    → WritesRow (lists_lie fields items) fields items format old new (Err why)
+    → FailsBy fields items format why
+fails_by fields items format old new failure.NotUtf8 is_text open_yet wrote = absurd wrote
+fails_by fields items format old new failure.Table is_text open_yet wrote = absurd wrote
+fails_by fields items format old new failure.Lists is_text open_yet wrote = wrote.0
+fails_by fields items format old new (failure.Fault e) is_text open_yet (inl none) = inl none.0
+fails_by fields items format old new (failure.Fault e) is_text open_yet (inr wrote) =
+    by_cases (why_not_all _ old new (answer_of e) open_yet wrote.holds)
+  where
+    by_cases : (answer_of e ≡ no_memory) ⊎ (Some (answer_of e)
+        ≡ option_map fault (row_means fields wrote.trees format).fault)
+        → FailsBy fields items format (failure.Fault e)
+    by_cases (inl none) = inl none
+    by_cases (inr is) = inr (is_text, record { trees = wrote.trees; are = wrote.are; holds = is })
+
+-- a text that was taken is told, or that memory was wanted
+text_told : (fields items : List Field) (format text old new : List ℕ) (answer : Told_answer)
+    → is_utf8 format ≡ true
+    → Means fields items format (λ m. (m.fault ≡ None) × (text ≡ text_of m.text))
+    → TellsText text old new answer → FormatAnswers fields items format old new answer
+text_told fields items format text old new answer is_text made (inl told) =
+    grind (arith, inl, means_more)
+text_told fields items format text old new answer is_text made (inr told) = inr (inl told)
+
+-- what was written is told
+pub formats : (fields items : List Field) (format : List ℕ) (none made : Written)
+    (written : Result (Unit {0}) Failure) (old new : List ℕ) (answer : Told_answer)
+    → none.text ≡ [] → is_utf8 format ≡ true
+    → WritesRow (lists_lie fields items) fields items format none made written
+    → TellsMade made written old new answer → FormatAnswers fields items format old new answer
+formats fields items format none made (Ok ok) old new answer empty is_text wrote tells =
+    text_told fields items format made.text old new answer is_text
+    (means_more (λ m outcome. let all = appended m none made outcome in
+    (all.0, all.1 ∙ ap (λ text. text ++ text_of m.text) empty)) wrote) tells
+formats fields items format none made (Err why) old new answer empty is_text wrote tells =
+    by_flag made.refused refl tells
+  where
+    by_flag : (refused : Bool) → made.refused ≡ refused → TellsWhy refused why old new answer
+        → FormatAnswers fields items format old new answer
+    by_flag true is told = inr (inl told)
+    by_flag false is told =
+        format_fails fields items format old new answer why
+        (fails_by fields items format none made why is_text is wrote) told
 
 -- ---- a room that was written
 

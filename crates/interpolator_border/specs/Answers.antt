@@ -1,10 +1,9 @@
 -- What a caller that is not Rattle is told.
 use Rattle.std.specs.Prelude.{◌≡◌, ◌≤◌, ◌⊎◌, ◌<◌, ◌+◌, ◌++◌, ℕ, List, None, Some, Option, length, take, drop}
-use Rattle.std.specs.Prelude.{Bool, Result, Ok, Err, MatchOption, MatchResult, string_bytes, true, false, option_map}
+use Rattle.std.specs.Prelude.{Bool, Result, Ok, Err, MatchOption, true, false, option_map}
 use Rattle.std.specs.Prelude.{encode_utf8, encode_utf8_all, unwrap_or, codes, if◌then◌else◌, ◌∷◌}
 use Rattle.std.specs.Prelude.{Contains}
 use Rattle.std.specs.Str.{bytes_eq, chars, is_utf8}
-use Rattle.std.specs.declared.string.String.{String}
 use Rattle.interpolator_syntax.specs.Faults.{Answer, Fault, fault, no_memory, answer_of, answer_place}
 use Rattle.interpolator_syntax.specs.Faults.{missing_trait_impl, fmt, parse, missing_value}
 use Rattle.interpolator_syntax.specs.Faults.{unsupported_option, ParseFault, unclosed, expected}
@@ -321,14 +320,6 @@ FailsBy fields items format failure.Lists = lists_lie fields items ≡ false
 FailsBy fields items format (failure.Fault e) =
     (answer_of e ≡ no_memory) ⊎ ((is_utf8 format ≡ true)
     × Means fields items format (λ m. Some (answer_of e) ≡ option_map fault m.fault))
-
--- a new text
-abbrev pub FormatsRow : {Z : Type 0} → (fields items : List Field) → List ℕ
-    → Result (String Z) Failure → Type 0
-FormatsRow fields items format result = MatchResult result
-    (λ s. (is_utf8 format ≡ true) × Means fields items format (λ m. (m.fault ≡ None)
-    × (chars (string_bytes s) ≡ text_of m.text)))
-    (λ why. FailsBy fields items format why)
 
 -- a text is told, and in the room if it fits there
 abbrev pub ToldText : List ℕ → (old new : List ℕ) → Told_answer → Type 0

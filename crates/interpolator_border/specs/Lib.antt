@@ -5,5 +5,6 @@ pub mod Checks
 pub mod Costs
 pub mod Fields
 pub mod Layouts
+pub mod Measures
 pub mod Requests
 pub mod Tables

@@ -1,10 +1,12 @@
 //! The whole text of a row.
-ghost use Rattle.std.specs.Prelude.{◌≡◌, [], false, IfOk};
+ghost use Rattle.std.specs.Prelude.{◌≡◌, [], IfOk, false};
 ghost use Rattle.interpolator_render.specs.Written.{as_writer, plain};
-ghost use Rattle.interpolator_border.specs.Answers.{FormatAnswers, FormatsRow};
+ghost use Rattle.interpolator_border.specs.Answers.{FormatAnswers};
+ghost use Rattle.interpolator_border.specs.Measures.{TellsMade, TellsText, TellsWhy, measured};
 
 use crate::answer::{Answer, Failure, put, told_failure, well};
 use crate::bytes::text_of;
+use crate::measured::Measured;
 use crate::row::FieldRow;
 use crate::writing::write_row;
 use interpolator::{Error, TextBuffer, TextWrite};
@@ -13,50 +15,88 @@ use std::alloc::{AllocError, Global};
 /// The most bytes, beyond those of the format, for which a new buffer has room at first.
 const MOST_MORE: usize = 256;
 
-/// An empty buffer with room for the format and, up to a bound, as many bytes again.
+/// How many places of a new buffer are ready at most.
+const READY: usize = 1024;
+
+/// An empty buffer with room for so many bytes, whose places are ready.
 #[tactic(auto, using(interpolator_syntax::proofs::CharacterLemmas::no_text))]
-fn buffer_for(alloc: Global, format: &str) -> Result<TextBuffer, AllocError>
-    ensures empty { IfOk result
-        (λ buffer. as_writer buffer
+fn ready_buffer(alloc: Global, room: usize) -> Result<TextBuffer, AllocError>
+    ensures { IfOk result (λ buffer. as_writer buffer
         ≡ record { text = []; refused = false; origin = plain }) }
 {
-    let len = format.len();
-    let text = String::with_capacity(alloc, len.saturating_add(len.min(MOST_MORE)))?;
-    Ok(TextBuffer::from_string(text))
+    let mut places = Vec::with_capacity(alloc, room)?;
+    places.resize(room.min(READY), 0u8)?;
+    let zeros = unsafe { String::from_utf8_unchecked(places) };
+    let mut buffer = TextBuffer::from_string(zeros);
+    buffer.clear();
+    Ok(buffer)
 }
 
-/// The text of a format with a row.
-fn format_row<'a>(alloc: Global, format: &[u8], row: FieldRow<'a>) -> Result<String, Failure>
-    ensures { FormatsRow row.entry.fields.now row.entry.items.now format.now result }
+/// The answer for a text, which comes to the front of the room if it fits.
+fn told_text(alloc: Global, made: &Measured, room: &mut [u8]) -> Answer
+    ensures { TellsText (measured made.now).text room.old room.new result }
 {
-    let Some(text) = text_of(format) else {
-        return Err(Failure::NotUtf8);
-    };
-    let mut out = match buffer_for(alloc, text) {
-        Ok(out) => out,
-        Err(_) => return Err(Failure::Fault(Error::NoMemory)),
-    };
-    let result = write_row(alloc, &mut out, text, row);
-    if out.refused() {
-        return Err(Failure::Fault(Error::NoMemory));
+    let length = made.len();
+    if length > room.len() {
+        return well(length);
     }
-    match result {
-        Ok(()) => Ok(out.into_string()),
-        Err(failure) => Err(failure),
+    match made.whole() {
+        Some(text) => {
+            put(room, text.as_bytes());
+            well(length)
+        }
+        None => told_failure(alloc, &Failure::Fault(Error::NoMemory), room),
     }
 }
 
-/// The text of a format with a row, or the fault's sentence, at the front of the room, if it fits.
+/// The answer for a text that is not whole. A writer that refused lacked memory.
+fn told_why(alloc: Global, failure: &Failure, refused: bool, room: &mut [u8]) -> Answer
+    ensures { TellsWhy refused failure.now room.old room.new result }
+{
+    if refused {
+        return told_failure(alloc, &Failure::Fault(Error::NoMemory), room);
+    }
+    told_failure(alloc, failure, room)
+}
+
+/// The answer for what was written.
+fn told_made(
+    alloc: Global,
+    written: &Result<(), Failure>,
+    made: &Measured,
+    room: &mut [u8],
+) -> Answer
+    ensures { TellsMade (measured made.now) written.now room.old room.new result }
+{
+    match written {
+        Ok(()) => told_text(alloc, made, room),
+        Err(failure) => told_why(alloc, failure, made.refused(), room),
+    }
+}
+
+/// The text of a format with a row, or its fault's sentence, at the front of the room, if it fits. At
+/// first there is memory for the format and, up to a bound, as many bytes again.
+fn format_text<'a>(alloc: Global, text: &str, row: FieldRow<'a>, room: &mut [u8]) -> Answer
+    ensures { FormatAnswers row.entry.fields.now row.entry.items.now text.now room.old room.new
+        result }
+{
+    let first = text.len().saturating_add(text.len().min(MOST_MORE));
+    let Ok(kept) = ready_buffer(alloc, first.min(room.len())) else {
+        return told_failure(alloc, &Failure::Fault(Error::NoMemory), room);
+    };
+    let mut out = Measured::new(kept, room.len());
+    let written = write_row(alloc, &mut out, text, row);
+    told_made(alloc, &written, &out, room)
+}
+
+/// The text of a format with a row, or the fault's sentence, at the front of the room, if it fits. A
+/// text that does not fit is not made, but for the beginning that does.
 pub fn format<'a>(alloc: Global, format: &[u8], row: FieldRow<'a>, room: &mut [u8]) -> Answer
     ensures { FormatAnswers row.entry.fields.now row.entry.items.now format.now room.old room.new
         result }
 {
-    match format_row(alloc, format, row) {
-        Ok(text) => {
-            let bytes = text.as_str().as_bytes();
-            put(room, bytes);
-            well(bytes.len())
-        }
-        Err(failure) => told_failure(alloc, &failure, room),
+    match text_of(format) {
+        Some(text) => format_text(alloc, text, row, room),
+        None => told_failure(alloc, &Failure::NotUtf8, room),
     }
 }

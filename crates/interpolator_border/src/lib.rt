@@ -17,11 +17,13 @@ mod fault;
 mod field;
 mod formatting;
 mod levels;
+mod measured;
 mod offsets;
 mod request;
 mod row;
 mod slots;
 mod table;
+mod taken;
 mod writing;
 
 pub use answer::Answer;

@@ -1,0 +1,6 @@
+use Rattle.std.proofs.Common.{arith, inl}
+use Rattle.std.proofs.lemmas.Str.{encodes-chars}
+use Rattle.interpolator_border.proofs.formatting.told_text.Goals as goal
+
+pub returns-in-Some : goal.returns-in-Some
+returns-in-Some c = grind (arith, inl, encodes-chars)
