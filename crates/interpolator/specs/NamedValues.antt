@@ -11,6 +11,7 @@ use Rattle.std.specs.Str.{encode_utf8_all}
 use Rattle.interpolator_eval.specs.Slots.{Slots, slots_of, empty_slots, with_iter, with_trait}
 use Rattle.interpolator_eval.specs.declared.slots.Formattable.{Formattable}
 use Rattle.interpolator.specs.declared.values.NamedValue.{NamedValue}
+use Rattle.interpolator.specs.declared.values.NamedView.{NamedView}
 use Rattle.interpolator.specs.declared.values.Values.{Values}
 
 module _ {X : Type 0} where
@@ -31,6 +32,10 @@ named_slots value = list_or_value value.items value.traits.now value.view
 -- a named value as a pair
 abbrev pub pair_of : NamedValue → Bor (List ℕ) × Slots View
 pair_of value = (value.name, named_slots value)
+
+-- a named view beside the items of a list, or none, as a pair
+abbrev pub pair_with : NamedView → Option (Bor (List (Formattable View))) → Bor (List ℕ) × Slots View
+pair_with named items = (named.name, list_or_value items named.traits.now named.view)
 
 -- the named values of a row, as pairs: those before its length, which is at most sixteen
 abbrev pub pairs_of : Values → List (Bor (List ℕ) × Slots View)

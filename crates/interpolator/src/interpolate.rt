@@ -1,20 +1,14 @@
 //! Formats as methods of a context.
-ghost use Rattle.std.specs.Prelude.{◌≡◌, length, ◌<◌, ◌^◌, map, IfErr, IfOk, Some};
+ghost use Rattle.std.specs.Prelude.{◌≡◌, length, map, IfErr, IfOk, Some};
 ghost use Rattle.std.specs.List.{All};
 ghost use Rattle.std.specs.Str.{chars};
 ghost use Rattle.interpolator_syntax.specs.At.{outermost};
-ghost use Rattle.interpolator_eval.specs.Meaning.Environments.{environment};
 ghost use Rattle.interpolator_syntax.specs.Faults.{answer_of, result_answer, fault, no_memory};
 ghost use Rattle.interpolator_syntax.specs.Faults.{PlaceWithin};
-ghost use Rattle.interpolator_eval.specs.Meaning.Meanings.{means};
-ghost use Rattle.interpolator_eval.specs.Meaning.Outcomes.{Outcome};
-ghost use Rattle.interpolator.specs.Meaning.Parts.{joined_text, texts_of, bytes_of, parts_mean};
-ghost use Rattle.interpolator.specs.Meaning.Parts.{Clean, FrontsClose};
 ghost use Rattle.interpolator_pieces.specs.NodeSamples.{faults_over};
 ghost use Rattle.interpolator_pieces.specs.Collecting.{AnswersFirst};
 ghost use Rattle.interpolator_pieces.specs.Calls.{MakesText, WritesLine, WritesText};
 
-use crate::parts::write_parts;
 use crate::template::Template;
 use interpolator_eval::{ByNames, Context, Formattable, NameMap, Pairs};
 use interpolator_pieces::{format, iwriteln, write};
@@ -81,37 +75,6 @@ pub trait Interpolate: Context {
         iwriteln(alloc, out, text, self)
     }
 
-    /// Writes what the parts mean one after the other, as the function `write_parts` does. Together
-    /// they have fewer than 2^64 bytes.
-    ///
-    /// # Errors
-    ///
-    /// The first fault of the parts; `Fmt` if the writer refuses; `NoMemory`.
-    ///
-    /// ```text
-    /// context.write_parts_to(alloc, &mut out, &["{n}", "-{n}"])?    // with 7, appends "7-7"
-    /// ```
-    fn write_parts_to<W: TextWrite>(
-        &self,
-        alloc: Global,
-        out: &mut W,
-        parts: &[&str],
-    ) -> Result<(), Error>
-        requires fits { bytes_of parts.now < 2 ^ 64 }
-        ensures outcome { Outcome
-            (parts_mean Self.Object.shows (environment (Self.finds self.now)) 0
-            (texts_of parts.now))
-            (W.written out.old) (W.written out.new) (result_answer result) }
-        ensures composes { Clean (texts_of parts.now) → FrontsClose 0 (texts_of parts.now)
-            → parts_mean Self.Object.shows (environment (Self.finds self.now)) 0
-            (texts_of parts.now)
-            ≡ means Self.Object.shows (environment (Self.finds self.now))
-            (outermost (joined_text (texts_of parts.now))) }
-        ensures place { PlaceWithin (bytes_of parts.now) (result_answer result) }
-    {
-        write_parts(alloc, out, parts, self)
-    }
-
     /// Writes what the template means, as [`Template::write`] does.
     ///
     /// # Errors
@@ -161,7 +124,8 @@ pub trait Interpolate: Context {
     ///
     /// # Errors
     ///
-    /// The format's first fault, or `NoMemory`.
+    /// The format's first fault, where `Fmt` means that a value failed; and `NoMemory` if there is no
+    /// memory for the text, or for the room that it has at the beginning.
     ///
     /// ```text
     /// context.format_template(alloc, &template)?    // for `{n:>3}` and 7: "  7"
@@ -237,15 +201,6 @@ impl<'k, 'a, V: Value> Interpolate for HashMap<&'k str, Formattable<'a, V>> {
         text: &str,
     ) -> Result<(), Error> {
         iwriteln(alloc, out, text, &ByNames::new(self))
-    }
-
-    fn write_parts_to<W: TextWrite>(
-        &self,
-        alloc: Global,
-        out: &mut W,
-        parts: &[&str],
-    ) -> Result<(), Error> {
-        write_parts(alloc, out, parts, &ByNames::new(self))
     }
 
     fn write_template_to<W: TextWrite>(

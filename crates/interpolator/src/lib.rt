@@ -39,6 +39,7 @@ mod position;
 mod template;
 mod values;
 mod values_of;
+mod values_of_many;
 mod views;
 
 pub use choice::first_if;

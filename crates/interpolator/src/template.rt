@@ -132,19 +132,8 @@ impl Template {
         write_pieces(alloc, out, self.parsed(), context)
     }
 
-    /// Writes what the format means in the context, as [`write`](Template::write) does, and after it a
-    /// newline if there is no fault.
-    ///
-    /// # Errors
-    ///
-    /// Those of `write`; `Fmt` at place 0 if the writer takes the text and refuses the newline.
-    ///
-    /// # Example
-    ///
-    /// ```text
-    /// template.write_line(alloc, &mut out, &context)?;    // for `{n}` and 7: "7\n"
-    /// ```
-    pub fn write_line<W: TextWrite, C: Context>(
+    /// Writes what the format means in the context, and after it a newline if there is no fault.
+    pub(crate) fn write_line<W: TextWrite, C: Context>(
         &self,
         alloc: Global,
         out: &mut W,
@@ -201,18 +190,7 @@ impl Template {
     }
 
     /// The text that it means in the context, in a new `String`.
-    ///
-    /// # Errors
-    ///
-    /// Those of `write`, where `Fmt` means that a value failed; and `NoMemory` if there is no memory
-    /// for the text, or for the room that it has at the beginning.
-    ///
-    /// # Example
-    ///
-    /// ```text
-    /// let text = template.format(alloc, &context)?;
-    /// ```
-    pub fn format<C: Context>(&self, alloc: Global, context: &C) -> Result<String, Error>
+    pub(crate) fn format<C: Context>(&self, alloc: Global, context: &C) -> Result<String, Error>
         ensures { MakesText C.Object.shows (C.finds context.now) self.now result }
     {
         format_pieces(alloc, self.parsed(), context)

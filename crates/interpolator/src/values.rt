@@ -1,12 +1,13 @@
 //! A row of named values, which owns the names and what they stand for.
-ghost use Rattle.std.specs.Prelude.{◌≡◌, map, reverse, option_map};
+ghost use Rattle.std.specs.Prelude.{◌≡◌, None, map, reverse, option_map};
 ghost use Rattle.std.specs.List.{find};
 ghost use Rattle.std.specs.Option.{option_copied};
 ghost use Rattle.std.specs.Str.{bytes_eq, encode_utf8_all};
 ghost use Rattle.interpolator_eval.specs.Contexts.{last_under};
 ghost use Rattle.interpolator_eval.specs.Slots.{slots_of, empty_slots, with_iter};
-ghost use Rattle.interpolator.specs.NamedValues.{with_traits, named_slots, pair_of};
+ghost use Rattle.interpolator.specs.NamedValues.{with_traits, named_slots, pair_of, pair_with};
 ghost use Rattle.interpolator.specs.NamedValues.{pairs_of};
+ghost use Rattle.interpolator.specs.declared.values.NamedView.{NamedView};
 
 use crate::interpolate::Interpolate;
 use interpolator_eval::{Context, Formattable};
@@ -21,33 +22,78 @@ pub struct NamedValue<'a> {
     pub(crate) items: Option<&'a [Formattable<'a, View<'a>>]>,
 }
 
-/// A value under a name, in the slots of these traits.
-#[inline(always)]
-pub fn named_value<'a>(name: &'a str, view: View<'a>, traits: &'a [Trait]) -> NamedValue<'a>
-    ensures name { (pair_of result).0.now ≡ name.now }
-    ensures slots { (pair_of result).1 ≡ with_traits traits.now empty_slots view.entry }
-{
-    NamedValue {
-        name,
-        view,
-        traits,
-        items: None,
-    }
+/// A value under a name, in the slots of these traits, or the name of a list.
+#[derive(Clone, Copy)]
+pub struct NamedView<'a> {
+    pub(crate) name: &'a str,
+    pub(crate) view: View<'a>,
+    pub(crate) traits: &'a [Trait],
 }
 
-/// A list under a name.
+/// The items of a list, if the name beside them is that of one. They are no field of a
+/// [`NamedView`], since a check of a caller whose texts have lifetimes of their own goes through all
+/// that each argument may hold: with items that was too much at five names.
+pub type LentList<'a> = Option<&'a [Formattable<'a, View<'a>>]>;
+
+/// A value under a name, in the slots of these traits.
 #[inline(always)]
-pub fn named_list<'a>(name: &'a str, items: &'a [Formattable<'a, View<'a>>]) -> NamedValue<'a>
-    ensures name { (pair_of result).0.now ≡ name.now }
-    ensures slots { (pair_of result).1 ≡ with_iter empty_slots (map slots_of items.now) }
+pub fn named_value<'a>(name: &'a str, view: View<'a>, traits: &'a [Trait]) -> NamedView<'a>
+    ensures name { result.name.now ≡ name.now }
+    ensures traits { result.traits.now ≡ traits.now }
+    ensures view { result.view ≡ view.entry }
 {
-    NamedValue {
+    NamedView { name, view, traits }
+}
+
+/// The name of a list.
+#[inline(always)]
+pub fn named_list<'a>(name: &'a str) -> NamedView<'a>
+    ensures name { result.name.now ≡ name.now }
+{
+    NamedView {
         name,
         view: View::NotImplemented,
         traits: &[],
-        items: Some(items),
     }
 }
+
+/// The items of a list.
+#[inline(always)]
+pub fn lent_list_items<'a>(items: &'a [Formattable<'a, View<'a>>]) -> LentList<'a>
+    ensures { (named : NamedView) → (pair_with named result).1
+        ≡ with_iter empty_slots (map slots_of items.now) }
+{
+    Some(items)
+}
+
+/// No list.
+#[inline(always)]
+pub fn no_list<'a>() -> LentList<'a>
+    ensures { result ≡ None }
+{
+    None
+}
+
+/// A name and what it stands for, in a row.
+#[inline(always)]
+pub(crate) fn named<'a>(given: NamedView<'a>, items: LentList<'a>) -> NamedValue<'a>
+    ensures { pair_of result ≡ pair_with given.entry items.entry }
+{
+    NamedValue {
+        name: given.name,
+        view: given.view,
+        traits: given.traits,
+        items,
+    }
+}
+
+/// What fills the rest of a row.
+pub(crate) const GAP: NamedValue<'static> = NamedValue {
+    name: "",
+    view: View::NotImplemented,
+    traits: &[],
+    items: None,
+};
 
 /// Fills the slots of these traits too.
 pub(crate) fn and_slots<'a, V>(

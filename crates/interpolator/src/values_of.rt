@@ -1,17 +1,8 @@
-//! Rows of named values: one function for each count of names.
+//! Rows of named values: one function for each count of names, up to nine.
 ghost use Rattle.std.specs.Prelude.{◌≡◌, [], ◌∷◌};
-ghost use Rattle.interpolator.specs.NamedValues.{pair_of, pairs_of};
+ghost use Rattle.interpolator.specs.NamedValues.{pair_with, pairs_of};
 
-use crate::values::{MOST, NamedValue, Values};
-use interpolator_render::View;
-
-/// What fills the rest of a row.
-const GAP: NamedValue<'static> = NamedValue {
-    name: "",
-    view: View::NotImplemented,
-    traits: &[],
-    items: None,
-};
+use crate::values::{GAP, LentList, MOST, NamedView, Values, named};
 
 /// A row without names.
 #[inline(always)]
@@ -26,12 +17,27 @@ pub fn values_0<'a>() -> Values<'a>
 
 /// A row of one name.
 #[inline(always)]
-pub fn values_1<'a>(a: NamedValue<'a>) -> Values<'a>
-    ensures { pairs_of result ≡ pair_of a.entry ∷ [] }
+pub fn values_1<'a>(a: NamedView<'a>, a_list: LentList<'a>) -> Values<'a>
+    ensures { pairs_of result ≡ pair_with a.entry a_list.entry ∷ [] }
 {
     Values {
         entries: [
-            a, GAP, GAP, GAP, GAP, GAP, GAP, GAP, GAP, GAP, GAP, GAP, GAP, GAP, GAP, GAP,
+            named(a, a_list),
+            GAP,
+            GAP,
+            GAP,
+            GAP,
+            GAP,
+            GAP,
+            GAP,
+            GAP,
+            GAP,
+            GAP,
+            GAP,
+            GAP,
+            GAP,
+            GAP,
+            GAP,
         ],
         len: 1,
     }
@@ -39,12 +45,33 @@ pub fn values_1<'a>(a: NamedValue<'a>) -> Values<'a>
 
 /// A row of two names.
 #[inline(always)]
-pub fn values_2<'a>(a: NamedValue<'a>, b: NamedValue<'a>) -> Values<'a>
-    ensures { pairs_of result ≡ pair_of a.entry ∷ pair_of b.entry ∷ [] }
+pub fn values_2<'a>(
+    a: NamedView<'a>,
+    a_list: LentList<'a>,
+    b: NamedView<'a>,
+    b_list: LentList<'a>,
+) -> Values<'a>
+    ensures { pairs_of result
+        ≡ pair_with a.entry a_list.entry ∷ pair_with b.entry b_list.entry ∷ [] }
 {
     Values {
         entries: [
-            a, b, GAP, GAP, GAP, GAP, GAP, GAP, GAP, GAP, GAP, GAP, GAP, GAP, GAP, GAP,
+            named(a, a_list),
+            named(b, b_list),
+            GAP,
+            GAP,
+            GAP,
+            GAP,
+            GAP,
+            GAP,
+            GAP,
+            GAP,
+            GAP,
+            GAP,
+            GAP,
+            GAP,
+            GAP,
+            GAP,
         ],
         len: 2,
     }
@@ -52,12 +79,36 @@ pub fn values_2<'a>(a: NamedValue<'a>, b: NamedValue<'a>) -> Values<'a>
 
 /// A row of three names.
 #[inline(always)]
-pub fn values_3<'a>(a: NamedValue<'a>, b: NamedValue<'a>, c: NamedValue<'a>) -> Values<'a>
-    ensures { pairs_of result ≡ pair_of a.entry ∷ pair_of b.entry ∷ pair_of c.entry ∷ [] }
+pub fn values_3<'a>(
+    a: NamedView<'a>,
+    a_list: LentList<'a>,
+    b: NamedView<'a>,
+    b_list: LentList<'a>,
+    c: NamedView<'a>,
+    c_list: LentList<'a>,
+) -> Values<'a>
+    ensures { pairs_of result
+        ≡ pair_with a.entry a_list.entry ∷ pair_with b.entry b_list.entry
+        ∷ pair_with c.entry c_list.entry ∷ [] }
 {
     Values {
         entries: [
-            a, b, c, GAP, GAP, GAP, GAP, GAP, GAP, GAP, GAP, GAP, GAP, GAP, GAP, GAP,
+            named(a, a_list),
+            named(b, b_list),
+            named(c, c_list),
+            GAP,
+            GAP,
+            GAP,
+            GAP,
+            GAP,
+            GAP,
+            GAP,
+            GAP,
+            GAP,
+            GAP,
+            GAP,
+            GAP,
+            GAP,
         ],
         len: 3,
     }
@@ -66,16 +117,37 @@ pub fn values_3<'a>(a: NamedValue<'a>, b: NamedValue<'a>, c: NamedValue<'a>) -> 
 /// A row of four names.
 #[inline(always)]
 pub fn values_4<'a>(
-    a: NamedValue<'a>,
-    b: NamedValue<'a>,
-    c: NamedValue<'a>,
-    d: NamedValue<'a>,
+    a: NamedView<'a>,
+    a_list: LentList<'a>,
+    b: NamedView<'a>,
+    b_list: LentList<'a>,
+    c: NamedView<'a>,
+    c_list: LentList<'a>,
+    d: NamedView<'a>,
+    d_list: LentList<'a>,
 ) -> Values<'a>
-    ensures { pairs_of result ≡ pair_of a.entry ∷ pair_of b.entry ∷ pair_of c.entry ∷ pair_of d.entry ∷ [] }
+    ensures { pairs_of result
+        ≡ pair_with a.entry a_list.entry ∷ pair_with b.entry b_list.entry
+        ∷ pair_with c.entry c_list.entry ∷ pair_with d.entry d_list.entry ∷ [] }
 {
     Values {
         entries: [
-            a, b, c, d, GAP, GAP, GAP, GAP, GAP, GAP, GAP, GAP, GAP, GAP, GAP, GAP,
+            named(a, a_list),
+            named(b, b_list),
+            named(c, c_list),
+            named(d, d_list),
+            GAP,
+            GAP,
+            GAP,
+            GAP,
+            GAP,
+            GAP,
+            GAP,
+            GAP,
+            GAP,
+            GAP,
+            GAP,
+            GAP,
         ],
         len: 4,
     }
@@ -84,19 +156,40 @@ pub fn values_4<'a>(
 /// A row of five names.
 #[inline(always)]
 pub fn values_5<'a>(
-    a: NamedValue<'a>,
-    b: NamedValue<'a>,
-    c: NamedValue<'a>,
-    d: NamedValue<'a>,
-    e: NamedValue<'a>,
+    a: NamedView<'a>,
+    a_list: LentList<'a>,
+    b: NamedView<'a>,
+    b_list: LentList<'a>,
+    c: NamedView<'a>,
+    c_list: LentList<'a>,
+    d: NamedView<'a>,
+    d_list: LentList<'a>,
+    e: NamedView<'a>,
+    e_list: LentList<'a>,
 ) -> Values<'a>
     ensures { pairs_of result
-        ≡ pair_of a.entry ∷ pair_of b.entry ∷ pair_of c.entry ∷ pair_of d.entry
-        ∷ pair_of e.entry ∷ [] }
+        ≡ pair_with a.entry a_list.entry ∷ pair_with b.entry b_list.entry
+        ∷ pair_with c.entry c_list.entry ∷ pair_with d.entry d_list.entry
+        ∷ pair_with e.entry e_list.entry ∷ [] }
 {
     Values {
         entries: [
-            a, b, c, d, e, GAP, GAP, GAP, GAP, GAP, GAP, GAP, GAP, GAP, GAP, GAP,
+            named(a, a_list),
+            named(b, b_list),
+            named(c, c_list),
+            named(d, d_list),
+            named(e, e_list),
+            GAP,
+            GAP,
+            GAP,
+            GAP,
+            GAP,
+            GAP,
+            GAP,
+            GAP,
+            GAP,
+            GAP,
+            GAP,
         ],
         len: 5,
     }
@@ -105,20 +198,42 @@ pub fn values_5<'a>(
 /// A row of six names.
 #[inline(always)]
 pub fn values_6<'a>(
-    a: NamedValue<'a>,
-    b: NamedValue<'a>,
-    c: NamedValue<'a>,
-    d: NamedValue<'a>,
-    e: NamedValue<'a>,
-    f: NamedValue<'a>,
+    a: NamedView<'a>,
+    a_list: LentList<'a>,
+    b: NamedView<'a>,
+    b_list: LentList<'a>,
+    c: NamedView<'a>,
+    c_list: LentList<'a>,
+    d: NamedView<'a>,
+    d_list: LentList<'a>,
+    e: NamedView<'a>,
+    e_list: LentList<'a>,
+    f: NamedView<'a>,
+    f_list: LentList<'a>,
 ) -> Values<'a>
     ensures { pairs_of result
-        ≡ pair_of a.entry ∷ pair_of b.entry ∷ pair_of c.entry ∷ pair_of d.entry
-        ∷ pair_of e.entry ∷ pair_of f.entry ∷ [] }
+        ≡ pair_with a.entry a_list.entry ∷ pair_with b.entry b_list.entry
+        ∷ pair_with c.entry c_list.entry ∷ pair_with d.entry d_list.entry
+        ∷ pair_with e.entry e_list.entry ∷ pair_with f.entry f_list.entry ∷ [] }
 {
     Values {
         entries: [
-            a, b, c, d, e, f, GAP, GAP, GAP, GAP, GAP, GAP, GAP, GAP, GAP, GAP,
+            named(a, a_list),
+            named(b, b_list),
+            named(c, c_list),
+            named(d, d_list),
+            named(e, e_list),
+            named(f, f_list),
+            GAP,
+            GAP,
+            GAP,
+            GAP,
+            GAP,
+            GAP,
+            GAP,
+            GAP,
+            GAP,
+            GAP,
         ],
         len: 6,
     }
@@ -127,21 +242,45 @@ pub fn values_6<'a>(
 /// A row of seven names.
 #[inline(always)]
 pub fn values_7<'a>(
-    a: NamedValue<'a>,
-    b: NamedValue<'a>,
-    c: NamedValue<'a>,
-    d: NamedValue<'a>,
-    e: NamedValue<'a>,
-    f: NamedValue<'a>,
-    g: NamedValue<'a>,
+    a: NamedView<'a>,
+    a_list: LentList<'a>,
+    b: NamedView<'a>,
+    b_list: LentList<'a>,
+    c: NamedView<'a>,
+    c_list: LentList<'a>,
+    d: NamedView<'a>,
+    d_list: LentList<'a>,
+    e: NamedView<'a>,
+    e_list: LentList<'a>,
+    f: NamedView<'a>,
+    f_list: LentList<'a>,
+    g: NamedView<'a>,
+    g_list: LentList<'a>,
 ) -> Values<'a>
     ensures { pairs_of result
-        ≡ pair_of a.entry ∷ pair_of b.entry ∷ pair_of c.entry ∷ pair_of d.entry
-        ∷ pair_of e.entry ∷ pair_of f.entry ∷ pair_of g.entry ∷ [] }
+        ≡ pair_with a.entry a_list.entry ∷ pair_with b.entry b_list.entry
+        ∷ pair_with c.entry c_list.entry ∷ pair_with d.entry d_list.entry
+        ∷ pair_with e.entry e_list.entry ∷ pair_with f.entry f_list.entry
+        ∷ pair_with g.entry g_list.entry ∷ [] }
 {
     Values {
         entries: [
-            a, b, c, d, e, f, g, GAP, GAP, GAP, GAP, GAP, GAP, GAP, GAP, GAP,
+            named(a, a_list),
+            named(b, b_list),
+            named(c, c_list),
+            named(d, d_list),
+            named(e, e_list),
+            named(f, f_list),
+            named(g, g_list),
+            GAP,
+            GAP,
+            GAP,
+            GAP,
+            GAP,
+            GAP,
+            GAP,
+            GAP,
+            GAP,
         ],
         len: 7,
     }
@@ -150,22 +289,47 @@ pub fn values_7<'a>(
 /// A row of eight names.
 #[inline(always)]
 pub fn values_8<'a>(
-    a: NamedValue<'a>,
-    b: NamedValue<'a>,
-    c: NamedValue<'a>,
-    d: NamedValue<'a>,
-    e: NamedValue<'a>,
-    f: NamedValue<'a>,
-    g: NamedValue<'a>,
-    h: NamedValue<'a>,
+    a: NamedView<'a>,
+    a_list: LentList<'a>,
+    b: NamedView<'a>,
+    b_list: LentList<'a>,
+    c: NamedView<'a>,
+    c_list: LentList<'a>,
+    d: NamedView<'a>,
+    d_list: LentList<'a>,
+    e: NamedView<'a>,
+    e_list: LentList<'a>,
+    f: NamedView<'a>,
+    f_list: LentList<'a>,
+    g: NamedView<'a>,
+    g_list: LentList<'a>,
+    h: NamedView<'a>,
+    h_list: LentList<'a>,
 ) -> Values<'a>
     ensures { pairs_of result
-        ≡ pair_of a.entry ∷ pair_of b.entry ∷ pair_of c.entry ∷ pair_of d.entry
-        ∷ pair_of e.entry ∷ pair_of f.entry ∷ pair_of g.entry ∷ pair_of h.entry ∷ [] }
+        ≡ pair_with a.entry a_list.entry ∷ pair_with b.entry b_list.entry
+        ∷ pair_with c.entry c_list.entry ∷ pair_with d.entry d_list.entry
+        ∷ pair_with e.entry e_list.entry ∷ pair_with f.entry f_list.entry
+        ∷ pair_with g.entry g_list.entry ∷ pair_with h.entry h_list.entry ∷ [] }
 {
     Values {
         entries: [
-            a, b, c, d, e, f, g, h, GAP, GAP, GAP, GAP, GAP, GAP, GAP, GAP,
+            named(a, a_list),
+            named(b, b_list),
+            named(c, c_list),
+            named(d, d_list),
+            named(e, e_list),
+            named(f, f_list),
+            named(g, g_list),
+            named(h, h_list),
+            GAP,
+            GAP,
+            GAP,
+            GAP,
+            GAP,
+            GAP,
+            GAP,
+            GAP,
         ],
         len: 8,
     }
@@ -174,223 +338,51 @@ pub fn values_8<'a>(
 /// A row of nine names.
 #[inline(always)]
 pub fn values_9<'a>(
-    a: NamedValue<'a>,
-    b: NamedValue<'a>,
-    c: NamedValue<'a>,
-    d: NamedValue<'a>,
-    e: NamedValue<'a>,
-    f: NamedValue<'a>,
-    g: NamedValue<'a>,
-    h: NamedValue<'a>,
-    i: NamedValue<'a>,
+    a: NamedView<'a>,
+    a_list: LentList<'a>,
+    b: NamedView<'a>,
+    b_list: LentList<'a>,
+    c: NamedView<'a>,
+    c_list: LentList<'a>,
+    d: NamedView<'a>,
+    d_list: LentList<'a>,
+    e: NamedView<'a>,
+    e_list: LentList<'a>,
+    f: NamedView<'a>,
+    f_list: LentList<'a>,
+    g: NamedView<'a>,
+    g_list: LentList<'a>,
+    h: NamedView<'a>,
+    h_list: LentList<'a>,
+    i: NamedView<'a>,
+    i_list: LentList<'a>,
 ) -> Values<'a>
     ensures { pairs_of result
-        ≡ pair_of a.entry ∷ pair_of b.entry ∷ pair_of c.entry ∷ pair_of d.entry
-        ∷ pair_of e.entry ∷ pair_of f.entry ∷ pair_of g.entry ∷ pair_of h.entry
-        ∷ pair_of i.entry ∷ [] }
+        ≡ pair_with a.entry a_list.entry ∷ pair_with b.entry b_list.entry
+        ∷ pair_with c.entry c_list.entry ∷ pair_with d.entry d_list.entry
+        ∷ pair_with e.entry e_list.entry ∷ pair_with f.entry f_list.entry
+        ∷ pair_with g.entry g_list.entry ∷ pair_with h.entry h_list.entry
+        ∷ pair_with i.entry i_list.entry ∷ [] }
 {
     Values {
-        entries: [a, b, c, d, e, f, g, h, i, GAP, GAP, GAP, GAP, GAP, GAP, GAP],
+        entries: [
+            named(a, a_list),
+            named(b, b_list),
+            named(c, c_list),
+            named(d, d_list),
+            named(e, e_list),
+            named(f, f_list),
+            named(g, g_list),
+            named(h, h_list),
+            named(i, i_list),
+            GAP,
+            GAP,
+            GAP,
+            GAP,
+            GAP,
+            GAP,
+            GAP,
+        ],
         len: 9,
-    }
-}
-
-/// A row of ten names.
-#[inline(always)]
-pub fn values_10<'a>(
-    a: NamedValue<'a>,
-    b: NamedValue<'a>,
-    c: NamedValue<'a>,
-    d: NamedValue<'a>,
-    e: NamedValue<'a>,
-    f: NamedValue<'a>,
-    g: NamedValue<'a>,
-    h: NamedValue<'a>,
-    i: NamedValue<'a>,
-    j: NamedValue<'a>,
-) -> Values<'a>
-    ensures { pairs_of result
-        ≡ pair_of a.entry ∷ pair_of b.entry ∷ pair_of c.entry ∷ pair_of d.entry
-        ∷ pair_of e.entry ∷ pair_of f.entry ∷ pair_of g.entry ∷ pair_of h.entry
-        ∷ pair_of i.entry ∷ pair_of j.entry ∷ [] }
-{
-    Values {
-        entries: [a, b, c, d, e, f, g, h, i, j, GAP, GAP, GAP, GAP, GAP, GAP],
-        len: 10,
-    }
-}
-
-/// A row of eleven names.
-#[inline(always)]
-pub fn values_11<'a>(
-    a: NamedValue<'a>,
-    b: NamedValue<'a>,
-    c: NamedValue<'a>,
-    d: NamedValue<'a>,
-    e: NamedValue<'a>,
-    f: NamedValue<'a>,
-    g: NamedValue<'a>,
-    h: NamedValue<'a>,
-    i: NamedValue<'a>,
-    j: NamedValue<'a>,
-    k: NamedValue<'a>,
-) -> Values<'a>
-    ensures { pairs_of result
-        ≡ pair_of a.entry ∷ pair_of b.entry ∷ pair_of c.entry ∷ pair_of d.entry
-        ∷ pair_of e.entry ∷ pair_of f.entry ∷ pair_of g.entry ∷ pair_of h.entry
-        ∷ pair_of i.entry ∷ pair_of j.entry ∷ pair_of k.entry ∷ [] }
-{
-    Values {
-        entries: [a, b, c, d, e, f, g, h, i, j, k, GAP, GAP, GAP, GAP, GAP],
-        len: 11,
-    }
-}
-
-/// A row of twelve names.
-#[inline(always)]
-pub fn values_12<'a>(
-    a: NamedValue<'a>,
-    b: NamedValue<'a>,
-    c: NamedValue<'a>,
-    d: NamedValue<'a>,
-    e: NamedValue<'a>,
-    f: NamedValue<'a>,
-    g: NamedValue<'a>,
-    h: NamedValue<'a>,
-    i: NamedValue<'a>,
-    j: NamedValue<'a>,
-    k: NamedValue<'a>,
-    l: NamedValue<'a>,
-) -> Values<'a>
-    ensures { pairs_of result
-        ≡ pair_of a.entry ∷ pair_of b.entry ∷ pair_of c.entry ∷ pair_of d.entry
-        ∷ pair_of e.entry ∷ pair_of f.entry ∷ pair_of g.entry ∷ pair_of h.entry
-        ∷ pair_of i.entry ∷ pair_of j.entry ∷ pair_of k.entry ∷ pair_of l.entry ∷ [] }
-{
-    Values {
-        entries: [a, b, c, d, e, f, g, h, i, j, k, l, GAP, GAP, GAP, GAP],
-        len: 12,
-    }
-}
-
-/// A row of thirteen names.
-#[inline(always)]
-pub fn values_13<'a>(
-    a: NamedValue<'a>,
-    b: NamedValue<'a>,
-    c: NamedValue<'a>,
-    d: NamedValue<'a>,
-    e: NamedValue<'a>,
-    f: NamedValue<'a>,
-    g: NamedValue<'a>,
-    h: NamedValue<'a>,
-    i: NamedValue<'a>,
-    j: NamedValue<'a>,
-    k: NamedValue<'a>,
-    l: NamedValue<'a>,
-    m: NamedValue<'a>,
-) -> Values<'a>
-    ensures { pairs_of result
-        ≡ pair_of a.entry ∷ pair_of b.entry ∷ pair_of c.entry ∷ pair_of d.entry
-        ∷ pair_of e.entry ∷ pair_of f.entry ∷ pair_of g.entry ∷ pair_of h.entry
-        ∷ pair_of i.entry ∷ pair_of j.entry ∷ pair_of k.entry ∷ pair_of l.entry
-        ∷ pair_of m.entry ∷ [] }
-{
-    Values {
-        entries: [a, b, c, d, e, f, g, h, i, j, k, l, m, GAP, GAP, GAP],
-        len: 13,
-    }
-}
-
-/// A row of fourteen names.
-#[inline(always)]
-pub fn values_14<'a>(
-    a: NamedValue<'a>,
-    b: NamedValue<'a>,
-    c: NamedValue<'a>,
-    d: NamedValue<'a>,
-    e: NamedValue<'a>,
-    f: NamedValue<'a>,
-    g: NamedValue<'a>,
-    h: NamedValue<'a>,
-    i: NamedValue<'a>,
-    j: NamedValue<'a>,
-    k: NamedValue<'a>,
-    l: NamedValue<'a>,
-    m: NamedValue<'a>,
-    n: NamedValue<'a>,
-) -> Values<'a>
-    ensures { pairs_of result
-        ≡ pair_of a.entry ∷ pair_of b.entry ∷ pair_of c.entry ∷ pair_of d.entry
-        ∷ pair_of e.entry ∷ pair_of f.entry ∷ pair_of g.entry ∷ pair_of h.entry
-        ∷ pair_of i.entry ∷ pair_of j.entry ∷ pair_of k.entry ∷ pair_of l.entry
-        ∷ pair_of m.entry ∷ pair_of n.entry ∷ [] }
-{
-    Values {
-        entries: [a, b, c, d, e, f, g, h, i, j, k, l, m, n, GAP, GAP],
-        len: 14,
-    }
-}
-
-/// A row of fifteen names.
-#[inline(always)]
-pub fn values_15<'a>(
-    a: NamedValue<'a>,
-    b: NamedValue<'a>,
-    c: NamedValue<'a>,
-    d: NamedValue<'a>,
-    e: NamedValue<'a>,
-    f: NamedValue<'a>,
-    g: NamedValue<'a>,
-    h: NamedValue<'a>,
-    i: NamedValue<'a>,
-    j: NamedValue<'a>,
-    k: NamedValue<'a>,
-    l: NamedValue<'a>,
-    m: NamedValue<'a>,
-    n: NamedValue<'a>,
-    o: NamedValue<'a>,
-) -> Values<'a>
-    ensures { pairs_of result
-        ≡ pair_of a.entry ∷ pair_of b.entry ∷ pair_of c.entry ∷ pair_of d.entry
-        ∷ pair_of e.entry ∷ pair_of f.entry ∷ pair_of g.entry ∷ pair_of h.entry
-        ∷ pair_of i.entry ∷ pair_of j.entry ∷ pair_of k.entry ∷ pair_of l.entry
-        ∷ pair_of m.entry ∷ pair_of n.entry ∷ pair_of o.entry ∷ [] }
-{
-    Values {
-        entries: [a, b, c, d, e, f, g, h, i, j, k, l, m, n, o, GAP],
-        len: 15,
-    }
-}
-
-/// A row of sixteen names.
-#[inline(always)]
-pub fn values_16<'a>(
-    a: NamedValue<'a>,
-    b: NamedValue<'a>,
-    c: NamedValue<'a>,
-    d: NamedValue<'a>,
-    e: NamedValue<'a>,
-    f: NamedValue<'a>,
-    g: NamedValue<'a>,
-    h: NamedValue<'a>,
-    i: NamedValue<'a>,
-    j: NamedValue<'a>,
-    k: NamedValue<'a>,
-    l: NamedValue<'a>,
-    m: NamedValue<'a>,
-    n: NamedValue<'a>,
-    o: NamedValue<'a>,
-    p: NamedValue<'a>,
-) -> Values<'a>
-    ensures { pairs_of result
-        ≡ pair_of a.entry ∷ pair_of b.entry ∷ pair_of c.entry ∷ pair_of d.entry
-        ∷ pair_of e.entry ∷ pair_of f.entry ∷ pair_of g.entry ∷ pair_of h.entry
-        ∷ pair_of i.entry ∷ pair_of j.entry ∷ pair_of k.entry ∷ pair_of l.entry
-        ∷ pair_of m.entry ∷ pair_of n.entry ∷ pair_of o.entry ∷ pair_of p.entry ∷ [] }
-{
-    Values {
-        entries: [a, b, c, d, e, f, g, h, i, j, k, l, m, n, o, p],
-        len: 16,
     }
 }

@@ -8,7 +8,7 @@ mod lists_of_users;
 mod page;
 mod users;
 
-use interpolator::{Error, ieprint, ieprintln, iprint, iprintln};
+use interpolator::Error;
 use page::Page;
 use std::alloc::Global;
 use std::io;
@@ -25,20 +25,12 @@ fn all(alloc: Global) -> Result<String, Error> {
     Ok(page.text)
 }
 
-/// Prints by the macros that print, to both streams.
-fn print_named(rt: &HostRuntime, name: &str) -> Result<(), Error> {
-    iprint!(rt; "{name}: {n:>3}", name, n = 7u8)?;
-    iprintln!(rt; " {n:#x}", n:x = 255u8)?;
-    ieprint!(rt; "{name}", name)?;
-    ieprintln!(rt; ": no fault")
-}
-
 /// Prints the examples, and returns whether all of them were printed.
 fn print(rt: &HostRuntime) -> io::Result<bool> {
     match all(rt.alloc()) {
         Ok(text) => {
             rt.print(text.as_str())?;
-            Ok(print_named(rt, "printed").is_ok())
+            Ok(true)
         }
         Err(error) => {
             println!(rt; "{error}")?;

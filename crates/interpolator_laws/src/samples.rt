@@ -32,7 +32,7 @@ ghost use Rattle.interpolator_eval.specs.Slots.{with_integer, with_iter};
 ghost use Rattle.interpolator_eval.specs.Meaning.Outcomes.{OnlyRefused};
 ghost use Rattle.interpolator_pieces.specs.NodeSamples.{faults_over, pads_a_list};
 
-use interpolator::Template;
+use interpolator::{Interpolate, Template};
 use interpolator_eval::Context;
 use interpolator_render::{TextWrite, Value};
 use interpolator_syntax::Error;
@@ -117,7 +117,7 @@ pub fn a_checked_template_is_written<W: TextWrite, S: Context, C: Context>(
 /// ```text
 /// a_checked_template_is_formatted(alloc, &template, &sample, &row)?
 /// ```
-pub fn a_checked_template_is_formatted<S: Context, C: Context>(
+pub fn a_checked_template_is_formatted<S: Context, C: Interpolate>(
     alloc: Global,
     template: &Template,
     _sample: &S,
@@ -133,7 +133,7 @@ pub fn a_checked_template_is_formatted<S: Context, C: Context>(
         result }
     ensures refused { IfErr result (λ error. answer_of error ≡ no_memory) }
 {
-    template.format(alloc, context)
+    context.format_template(alloc, template)
 }
 
 /// Pairs resemble a sample of pairs that has the same names in the same order, if under each name

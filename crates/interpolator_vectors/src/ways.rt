@@ -19,7 +19,6 @@ pub enum Way {
     Template,
     WriteTemplateTo,
     WriteParts,
-    WritePartsTo,
     Line,
     WriteLineTo,
 }
@@ -28,20 +27,16 @@ pub enum Way {
 pub type Ways = &'static [(&'static str, Way)];
 
 /// The ways to write a format.
-pub const WAYS: [(&str, Way); 6] = [
+pub const WAYS: [(&str, Way); 5] = [
     ("write", Way::Write),
     ("write_to", Way::WriteTo),
     ("Template::write", Way::Template),
     ("write_template_to", Way::WriteTemplateTo),
     ("write_parts", Way::WriteParts),
-    ("write_parts_to", Way::WritePartsTo),
 ];
 
 /// The ways to write parts.
-pub const PART_WAYS: [(&str, Way); 2] = [
-    ("write_parts", Way::WriteParts),
-    ("write_parts_to", Way::WritePartsTo),
-];
+pub const PART_WAYS: [(&str, Way); 1] = [("write_parts", Way::WriteParts)];
 
 /// The ways to write a line.
 pub const LINE_WAYS: [(&str, Way); 2] = [
@@ -68,8 +63,7 @@ impl Way {
                 context.write_template_to(alloc, out, &template)
             }
             Way::WriteParts if parts_fit(parts) => { write_parts(alloc, out, parts, context) }
-            Way::WritePartsTo if parts_fit(parts) => { context.write_parts_to(alloc, out, parts) }
-            Way::WriteParts | Way::WritePartsTo => Err(Error::NoMemory),
+            Way::WriteParts => Err(Error::NoMemory),
             Way::Line => iwriteln(alloc, out, text, context),
             Way::WriteLineTo => context.write_line_to(alloc, out, text),
         }

@@ -1,4 +1,4 @@
-//! A format and its named values in one call: made, written or printed.
+//! A format and its named values in one call: made or written.
 
 /// The text of a format with named values: `format` of [`values!`](crate::values).
 ///
@@ -56,66 +56,4 @@ macro_rules! iwriteln {
     ($($other:tt)*) => {
         compile_error!("write `iwriteln!(in alloc; &mut out, \"{n}\", n)?`")
     };
-}
-
-/// Prints a format with named values to the standard output of `rt`, the `HostRuntime` that `main`
-/// is given. The text is made first: if the format has a fault, or memory runs out (`NoMemory`),
-/// nothing is printed. A refused write is `Fmt` at place 0.
-///
-/// ```text
-/// iprint!(rt; "{n:>5}", n)?
-/// ```
-#[macro_export]
-macro_rules! iprint {
-    ($rt:expr; $($format:tt)+) => {
-        $crate::print_by!(print $rt; $($format)+)
-    };
-    ($($other:tt)*) => {
-        compile_error!("`iprint!` takes the runtime first: `iprint!(rt; \"{n}\", n)?`")
-    };
-}
-
-/// As [`iprint!`](crate::iprint), with a newline after the text.
-#[macro_export]
-macro_rules! iprintln {
-    ($rt:expr; $($format:tt)+) => {
-        $crate::print_by!(println $rt; $($format)+)
-    };
-    ($($other:tt)*) => {
-        compile_error!("`iprintln!` takes the runtime first: `iprintln!(rt; \"{n}\", n)?`")
-    };
-}
-
-/// As [`iprint!`](crate::iprint), to the standard error.
-#[macro_export]
-macro_rules! ieprint {
-    ($rt:expr; $($format:tt)+) => {
-        $crate::print_by!(eprint $rt; $($format)+)
-    };
-    ($($other:tt)*) => {
-        compile_error!("`ieprint!` takes the runtime first: `ieprint!(rt; \"{n}\", n)?`")
-    };
-}
-
-/// As [`iprintln!`](crate::iprintln), to the standard error.
-#[macro_export]
-macro_rules! ieprintln {
-    ($rt:expr; $($format:tt)+) => {
-        $crate::print_by!(eprintln $rt; $($format)+)
-    };
-    ($($other:tt)*) => {
-        compile_error!("`ieprintln!` takes the runtime first: `ieprintln!(rt; \"{n}\", n)?`")
-    };
-}
-
-/// Makes a text, and prints it by this method of the runtime.
-#[macro_export]
-macro_rules! print_by {
-    ($print:ident $rt:expr; $($format:tt)+) => {{
-        let rt = &$rt;
-        match $crate::iformat!(in rt.alloc(); $($format)+) {
-            Ok(text) => $crate::made::printed(rt.$print(text)),
-            Err(fault) => Err(fault),
-        }
-    }};
 }

@@ -60,14 +60,16 @@ macro_rules! read_values {
     };
     (@traits $to:ident [$($made:expr),*] $name:ident [] : i = $items:expr $(, $($rest:tt)*)?) => {
         $crate::read_values!(
-            $to [$($made,)* $crate::list_of!($to $name $items)] $($($rest)*)?
+            $to [$($made,)* $crate::list_of!($to $name $items), $crate::items_of_list!($to $items)]
+            $($($rest)*)?
         )
     };
     (
         @traits $to:ident [$($made:expr),*] $name:ident [] : iter = $items:expr $(, $($rest:tt)*)?
     ) => {
         $crate::read_values!(
-            $to [$($made,)* $crate::list_of!($to $name $items)] $($($rest)*)?
+            $to [$($made,)* $crate::list_of!($to $name $items), $crate::items_of_list!($to $items)]
+            $($($rest)*)?
         )
     };
     (@traits $to:ident $made:tt $name:ident [$($slot:ident)*] : ? $($rest:tt)*) => {
@@ -137,12 +139,14 @@ macro_rules! read_values {
     };
     (@traits $to:ident [$($made:expr),*] $name:ident $slots:tt = $value:expr $(, $($rest:tt)*)?) => {
         $crate::read_values!(
-            $to [$($made,)* $crate::named_of!($to $name $slots $value)] $($($rest)*)?
+            $to [$($made,)* $crate::named_of!($to $name $slots $value), $crate::no_items!($to)]
+            $($($rest)*)?
         )
     };
     (@traits $to:ident [$($made:expr),*] $name:ident $slots:tt $(, $($rest:tt)*)?) => {
         $crate::read_values!(
-            $to [$($made,)* $crate::named_of!($to $name $slots $name)] $($($rest)*)?
+            $to [$($made,)* $crate::named_of!($to $name $slots $name), $crate::no_items!($to)]
+            $($($rest)*)?
         )
     };
     ($($other:tt)*) => {
@@ -171,93 +175,194 @@ macro_rules! lent_to {
     ($map:expr) => {
         $map
     };
-    ($map:expr, $lent:expr $(, $more:expr)*) => {
+    ($map:expr, $lent:expr, $items:expr $(, $more:expr)*) => {
         $crate::lent_to!($crate::made::and_lent($map, $lent) $(, $more)*)
     };
 }
 
-/// A list under a name.
+/// The name of a list. In a row its items stand beside it.
 #[macro_export]
 macro_rules! list_of {
     (values $name:ident $items:expr) => {
-        $crate::made::named_list(stringify!($name), $items)
+        $crate::made::named_list(stringify!($name))
     };
     (context $name:ident $items:expr) => {
         $crate::made::lent_list(stringify!($name), $items)
     };
 }
 
-/// A row of as many named values as are given.
+/// The items of a list, beside its name in a row.
+#[macro_export]
+macro_rules! items_of_list {
+    (values $items:expr) => {
+        $crate::made::lent_list_items($items)
+    };
+    (context $items:expr) => {
+        ()
+    };
+}
+
+/// No items, beside a value in a row.
+#[macro_export]
+macro_rules! no_items {
+    (values) => {
+        $crate::made::no_list()
+    };
+    (context) => {
+        ()
+    };
+}
+
+/// A row of as many named values as are given, each with its list or none.
 #[macro_export]
 macro_rules! values_of {
     () => {
         $crate::made::values_0()
     };
-    ($a:expr) => {
-        $crate::made::values_1($a)
+    ($a:expr, $a_list:expr) => {
+        $crate::made::values_1($a, $a_list)
     };
-    ($a:expr, $b:expr) => {
-        $crate::made::values_2($a, $b)
+    ($a:expr, $a_list:expr, $b:expr, $b_list:expr) => {
+        $crate::made::values_2($a, $a_list, $b, $b_list)
     };
-    ($a:expr, $b:expr, $c:expr) => {
-        $crate::made::values_3($a, $b, $c)
-    };
-    ($a:expr, $b:expr, $c:expr, $d:expr) => {
-        $crate::made::values_4($a, $b, $c, $d)
-    };
-    ($a:expr, $b:expr, $c:expr, $d:expr, $e:expr) => {
-        $crate::made::values_5($a, $b, $c, $d, $e)
-    };
-    ($a:expr, $b:expr, $c:expr, $d:expr, $e:expr, $f:expr) => {
-        $crate::made::values_6($a, $b, $c, $d, $e, $f)
-    };
-    ($a:expr, $b:expr, $c:expr, $d:expr, $e:expr, $f:expr, $g:expr) => {
-        $crate::made::values_7($a, $b, $c, $d, $e, $f, $g)
-    };
-    ($a:expr, $b:expr, $c:expr, $d:expr, $e:expr, $f:expr, $g:expr, $h:expr) => {
-        $crate::made::values_8($a, $b, $c, $d, $e, $f, $g, $h)
-    };
-    ($a:expr, $b:expr, $c:expr, $d:expr, $e:expr, $f:expr, $g:expr, $h:expr, $i:expr) => {
-        $crate::made::values_9($a, $b, $c, $d, $e, $f, $g, $h, $i)
-    };
-    ($a:expr, $b:expr, $c:expr, $d:expr, $e:expr, $f:expr, $g:expr, $h:expr, $i:expr, $j:expr) => {
-        $crate::made::values_10($a, $b, $c, $d, $e, $f, $g, $h, $i, $j)
+    ($a:expr, $a_list:expr, $b:expr, $b_list:expr, $c:expr, $c_list:expr) => {
+        $crate::made::values_3($a, $a_list, $b, $b_list, $c, $c_list)
     };
     (
-        $a:expr, $b:expr, $c:expr, $d:expr, $e:expr, $f:expr, $g:expr, $h:expr,
-        $i:expr, $j:expr, $k:expr
+        $a:expr, $a_list:expr, $b:expr, $b_list:expr, $c:expr, $c_list:expr,
+        $d:expr, $d_list:expr
     ) => {
-        $crate::made::values_11($a, $b, $c, $d, $e, $f, $g, $h, $i, $j, $k)
+        $crate::made::values_4($a, $a_list, $b, $b_list, $c, $c_list, $d, $d_list)
     };
     (
-        $a:expr, $b:expr, $c:expr, $d:expr, $e:expr, $f:expr, $g:expr, $h:expr,
-        $i:expr, $j:expr, $k:expr, $l:expr
+        $a:expr, $a_list:expr, $b:expr, $b_list:expr, $c:expr, $c_list:expr,
+        $d:expr, $d_list:expr, $e:expr, $e_list:expr
     ) => {
-        $crate::made::values_12($a, $b, $c, $d, $e, $f, $g, $h, $i, $j, $k, $l)
+        $crate::made::values_5($a, $a_list, $b, $b_list, $c, $c_list, $d, $d_list, $e, $e_list)
     };
     (
-        $a:expr, $b:expr, $c:expr, $d:expr, $e:expr, $f:expr, $g:expr, $h:expr,
-        $i:expr, $j:expr, $k:expr, $l:expr, $m:expr
+        $a:expr, $a_list:expr, $b:expr, $b_list:expr, $c:expr, $c_list:expr,
+        $d:expr, $d_list:expr, $e:expr, $e_list:expr, $f:expr, $f_list:expr
     ) => {
-        $crate::made::values_13($a, $b, $c, $d, $e, $f, $g, $h, $i, $j, $k, $l, $m)
+        $crate::made::values_6(
+            $a, $a_list, $b, $b_list, $c, $c_list, $d, $d_list, $e, $e_list, $f, $f_list
+        )
     };
     (
-        $a:expr, $b:expr, $c:expr, $d:expr, $e:expr, $f:expr, $g:expr, $h:expr,
-        $i:expr, $j:expr, $k:expr, $l:expr, $m:expr, $n:expr
+        $a:expr, $a_list:expr, $b:expr, $b_list:expr, $c:expr, $c_list:expr,
+        $d:expr, $d_list:expr, $e:expr, $e_list:expr, $f:expr, $f_list:expr,
+        $g:expr, $g_list:expr
     ) => {
-        $crate::made::values_14($a, $b, $c, $d, $e, $f, $g, $h, $i, $j, $k, $l, $m, $n)
+        $crate::made::values_7(
+            $a, $a_list, $b, $b_list, $c, $c_list, $d, $d_list, $e, $e_list, $f, $f_list,
+            $g, $g_list
+        )
     };
     (
-        $a:expr, $b:expr, $c:expr, $d:expr, $e:expr, $f:expr, $g:expr, $h:expr,
-        $i:expr, $j:expr, $k:expr, $l:expr, $m:expr, $n:expr, $o:expr
+        $a:expr, $a_list:expr, $b:expr, $b_list:expr, $c:expr, $c_list:expr,
+        $d:expr, $d_list:expr, $e:expr, $e_list:expr, $f:expr, $f_list:expr,
+        $g:expr, $g_list:expr, $h:expr, $h_list:expr
     ) => {
-        $crate::made::values_15($a, $b, $c, $d, $e, $f, $g, $h, $i, $j, $k, $l, $m, $n, $o)
+        $crate::made::values_8(
+            $a, $a_list, $b, $b_list, $c, $c_list, $d, $d_list, $e, $e_list, $f, $f_list,
+            $g, $g_list, $h, $h_list
+        )
     };
     (
-        $a:expr, $b:expr, $c:expr, $d:expr, $e:expr, $f:expr, $g:expr, $h:expr,
-        $i:expr, $j:expr, $k:expr, $l:expr, $m:expr, $n:expr, $o:expr, $p:expr
+        $a:expr, $a_list:expr, $b:expr, $b_list:expr, $c:expr, $c_list:expr,
+        $d:expr, $d_list:expr, $e:expr, $e_list:expr, $f:expr, $f_list:expr,
+        $g:expr, $g_list:expr, $h:expr, $h_list:expr, $i:expr, $i_list:expr
     ) => {
-        $crate::made::values_16($a, $b, $c, $d, $e, $f, $g, $h, $i, $j, $k, $l, $m, $n, $o, $p)
+        $crate::made::values_9(
+            $a, $a_list, $b, $b_list, $c, $c_list, $d, $d_list, $e, $e_list, $f, $f_list,
+            $g, $g_list, $h, $h_list, $i, $i_list
+        )
+    };
+    (
+        $a:expr, $a_list:expr, $b:expr, $b_list:expr, $c:expr, $c_list:expr,
+        $d:expr, $d_list:expr, $e:expr, $e_list:expr, $f:expr, $f_list:expr,
+        $g:expr, $g_list:expr, $h:expr, $h_list:expr, $i:expr, $i_list:expr,
+        $j:expr, $j_list:expr
+    ) => {
+        $crate::made::values_10(
+            $a, $a_list, $b, $b_list, $c, $c_list, $d, $d_list, $e, $e_list, $f, $f_list,
+            $g, $g_list, $h, $h_list, $i, $i_list, $j, $j_list
+        )
+    };
+    (
+        $a:expr, $a_list:expr, $b:expr, $b_list:expr, $c:expr, $c_list:expr,
+        $d:expr, $d_list:expr, $e:expr, $e_list:expr, $f:expr, $f_list:expr,
+        $g:expr, $g_list:expr, $h:expr, $h_list:expr, $i:expr, $i_list:expr,
+        $j:expr, $j_list:expr, $k:expr, $k_list:expr
+    ) => {
+        $crate::made::values_11(
+            $a, $a_list, $b, $b_list, $c, $c_list, $d, $d_list, $e, $e_list, $f, $f_list,
+            $g, $g_list, $h, $h_list, $i, $i_list, $j, $j_list, $k, $k_list
+        )
+    };
+    (
+        $a:expr, $a_list:expr, $b:expr, $b_list:expr, $c:expr, $c_list:expr,
+        $d:expr, $d_list:expr, $e:expr, $e_list:expr, $f:expr, $f_list:expr,
+        $g:expr, $g_list:expr, $h:expr, $h_list:expr, $i:expr, $i_list:expr,
+        $j:expr, $j_list:expr, $k:expr, $k_list:expr, $l:expr, $l_list:expr
+    ) => {
+        $crate::made::values_12(
+            $a, $a_list, $b, $b_list, $c, $c_list, $d, $d_list, $e, $e_list, $f, $f_list,
+            $g, $g_list, $h, $h_list, $i, $i_list, $j, $j_list, $k, $k_list, $l, $l_list
+        )
+    };
+    (
+        $a:expr, $a_list:expr, $b:expr, $b_list:expr, $c:expr, $c_list:expr,
+        $d:expr, $d_list:expr, $e:expr, $e_list:expr, $f:expr, $f_list:expr,
+        $g:expr, $g_list:expr, $h:expr, $h_list:expr, $i:expr, $i_list:expr,
+        $j:expr, $j_list:expr, $k:expr, $k_list:expr, $l:expr, $l_list:expr,
+        $m:expr, $m_list:expr
+    ) => {
+        $crate::made::values_13(
+            $a, $a_list, $b, $b_list, $c, $c_list, $d, $d_list, $e, $e_list, $f, $f_list,
+            $g, $g_list, $h, $h_list, $i, $i_list, $j, $j_list, $k, $k_list, $l, $l_list,
+            $m, $m_list
+        )
+    };
+    (
+        $a:expr, $a_list:expr, $b:expr, $b_list:expr, $c:expr, $c_list:expr,
+        $d:expr, $d_list:expr, $e:expr, $e_list:expr, $f:expr, $f_list:expr,
+        $g:expr, $g_list:expr, $h:expr, $h_list:expr, $i:expr, $i_list:expr,
+        $j:expr, $j_list:expr, $k:expr, $k_list:expr, $l:expr, $l_list:expr,
+        $m:expr, $m_list:expr, $n:expr, $n_list:expr
+    ) => {
+        $crate::made::values_14(
+            $a, $a_list, $b, $b_list, $c, $c_list, $d, $d_list, $e, $e_list, $f, $f_list,
+            $g, $g_list, $h, $h_list, $i, $i_list, $j, $j_list, $k, $k_list, $l, $l_list,
+            $m, $m_list, $n, $n_list
+        )
+    };
+    (
+        $a:expr, $a_list:expr, $b:expr, $b_list:expr, $c:expr, $c_list:expr,
+        $d:expr, $d_list:expr, $e:expr, $e_list:expr, $f:expr, $f_list:expr,
+        $g:expr, $g_list:expr, $h:expr, $h_list:expr, $i:expr, $i_list:expr,
+        $j:expr, $j_list:expr, $k:expr, $k_list:expr, $l:expr, $l_list:expr,
+        $m:expr, $m_list:expr, $n:expr, $n_list:expr, $o:expr, $o_list:expr
+    ) => {
+        $crate::made::values_15(
+            $a, $a_list, $b, $b_list, $c, $c_list, $d, $d_list, $e, $e_list, $f, $f_list,
+            $g, $g_list, $h, $h_list, $i, $i_list, $j, $j_list, $k, $k_list, $l, $l_list,
+            $m, $m_list, $n, $n_list, $o, $o_list
+        )
+    };
+    (
+        $a:expr, $a_list:expr, $b:expr, $b_list:expr, $c:expr, $c_list:expr,
+        $d:expr, $d_list:expr, $e:expr, $e_list:expr, $f:expr, $f_list:expr,
+        $g:expr, $g_list:expr, $h:expr, $h_list:expr, $i:expr, $i_list:expr,
+        $j:expr, $j_list:expr, $k:expr, $k_list:expr, $l:expr, $l_list:expr,
+        $m:expr, $m_list:expr, $n:expr, $n_list:expr, $o:expr, $o_list:expr,
+        $p:expr, $p_list:expr
+    ) => {
+        $crate::made::values_16(
+            $a, $a_list, $b, $b_list, $c, $c_list, $d, $d_list, $e, $e_list, $f, $f_list,
+            $g, $g_list, $h, $h_list, $i, $i_list, $j, $j_list, $k, $k_list, $l, $l_list,
+            $m, $m_list, $n, $n_list, $o, $o_list, $p, $p_list
+        )
     };
     ($($more:expr),*) => {
         compile_error!("a row has at most sixteen names: use a `ContextMap`")

@@ -56,26 +56,9 @@ fn records(alloc: Global, prices: &[(&str, u64)]) -> Result<String, Error> {
     context.format(alloc, "{rows:i#({:i0({})} is {:i1({})})#(, )}")
 }
 
-/// The decimal of a float's shortest digits, as crates for that give them: its sign, the digits as
-/// a number, and the power of ten of the last one. `None` if its units are no `i128`.
-fn of_digits(negative: bool, digits: u64, exponent: i32) -> Option<Decimal> {
-    let digits = i128::from(digits);
-    let units = if negative { 0 - digits } else { digits };
-    if exponent < 0 {
-        let scale = exponent.unsigned_abs();
-        return Some(Decimal { units, scale });
-    }
-    let power = 10i128.checked_pow(exponent.unsigned_abs())?;
-    let units = units.checked_mul(power)?;
-    Some(Decimal { units, scale: 0 })
-}
-
-/// A float by its shortest digits, as it is, rounded, and in exponent form.
-fn float(alloc: Global, negative: bool, digits: u64, exponent: i32) -> Result<String, Error> {
-    match of_digits(negative, digits, exponent) {
-        Some(x) => iformat!(in alloc; "{x} {x:.2} {x:e}", x:float = x),
-        None => iformat!(in alloc; "more than 128 bits"),
-    }
+/// A float by its shortest digits, rounded, and in exponent form.
+fn float(alloc: Global, x: f64) -> Result<String, Error> {
+    iformat!(in alloc; "{x} {x:.2} {x:e}", x:float)
 }
 
 /// Things and their prices in cents.
@@ -85,7 +68,7 @@ pub fn show(page: &mut Page) {
     let alloc = page.alloc;
     page.put_made("bill", bill(alloc, &PRICES));
     page.put_made("records", records(alloc, &PRICES));
-    page.put_made("-0.000625", float(alloc, true, 625, -6));
-    page.put_made("2.5e21", float(alloc, false, 25, 20));
-    page.put_made("1e308", float(alloc, false, 1, 308));
+    page.put_made("-0.000625", float(alloc, -0.000625));
+    page.put_made("2.5e21", float(alloc, 2.5e21));
+    page.put_made("0.1 + 0.2", float(alloc, 0.1 + 0.2));
 }

@@ -3,7 +3,7 @@
 use crate::page::Page;
 use interpolator::{
     ContextMap, Error, Formattable, Interpolate, Pairs, Refusal, Template, TextBuffer, TextWrite,
-    View,
+    View, write_parts,
 };
 use std::alloc::Global;
 use std::collections::HashMap;
@@ -40,7 +40,7 @@ fn fault_of(alloc: Global, format: &str) -> Result<String, Error> {
     }
 }
 
-/// Writes by each method of a context.
+/// Writes by each method of a context, and in parts.
 fn write_all(
     alloc: Global,
     out: &mut TextBuffer,
@@ -49,11 +49,11 @@ fn write_all(
 ) -> Result<(), Error> {
     context.write_to(alloc, out, "{n};")?;
     context.write_line_to(alloc, out, "{n}")?;
-    context.write_parts_to(alloc, out, &["{n}", "-{n}"])?;
+    write_parts(alloc, out, &["{n}", "-{n}"], &context)?;
     context.write_template_to(alloc, out, template)
 }
 
-/// What each method of a context writes.
+/// What they write.
 fn by_methods(alloc: Global) -> Result<String, Error> {
     let context = Pairs(&[("n", Formattable::display(&7u64))]);
     let template = Template::parse(alloc, "{n:>3}")?;

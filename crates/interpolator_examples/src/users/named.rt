@@ -16,6 +16,22 @@ fn greeting(alloc: Global, name: &str, city: &str) -> Result<String, Error> {
     row.format(alloc, "{name}, {city}, {sign} {mood}")
 }
 
+/// Texts of six parameters, each of which may have a lifetime of its own.
+fn address(
+    alloc: Global,
+    name: &str,
+    number: &str,
+    street: &str,
+    code: &str,
+    town: &str,
+    country: &str,
+) -> Result<String, Error> {
+    values!(name, number, street, code, town, country).format(
+        alloc,
+        "{name}, {number} {street}, {code} {town}, {country}",
+    )
+}
+
 /// A list beside other values, of two parameters.
 fn order(alloc: Global, payer: &str, thing: &str, price: u32) -> Result<String, Error> {
     let cells = list![thing, payer, price];
@@ -88,6 +104,10 @@ pub fn show(page: &mut Page) {
     let alloc = page.alloc;
     page.put_made("named", apples(alloc, "Ann", -7));
     page.put_made("named", greeting(alloc, "Ann", "Oslo"));
+    page.put_made(
+        "named",
+        address(alloc, "Ann", "7", "Storgata", "0155", "Oslo", "Norway"),
+    );
     page.put_made("named", order(alloc, "Ann", "bread", 7));
     page.put_made(
         "named",

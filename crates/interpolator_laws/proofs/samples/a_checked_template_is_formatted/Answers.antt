@@ -11,8 +11,8 @@ returns-clause-refused g c =
     only_memory_refused
     (means g.C.Object.Value.shows (environment (g.C.Context.finds c.args.context.now))
     (outermost (chars c.args.template.now)))
-    c.format.result
+    c.format_template.result
     (no_fault g.S.Object.Value.shows g.C.Object.Value.shows
     (g.S.Context.finds c.args._sample.now) (environment (g.C.Context.finds c.args.context.now))
     (outermost (chars c.args.template.now)) c.requires.checked c.requires.resembles)
-    c.format.ensures.formats
+    c.format_template.ensures.formats
