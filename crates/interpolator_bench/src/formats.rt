@@ -95,6 +95,36 @@ pub fn amounts(alloc: Global, how: How, repeats: u32) -> Result<String, Failure>
     repeat_format(alloc, how, AMOUNTS, &Pairs(&pairs), repeats)
 }
 
+/// The same amounts as floats.
+pub fn float_amounts(alloc: Global, how: How, repeats: u32) -> Result<String, Failure> {
+    let values = [12345.67f64, 2469.134, -14000.0, 814.8];
+    let pairs = [
+        ("net", Formattable::display(&values[0])),
+        ("tax", Formattable::display(&values[1])),
+        ("paid", Formattable::display(&values[2])),
+        ("open", Formattable::display(&values[3])),
+    ];
+    repeat_format(alloc, how, AMOUNTS, &Pairs(&pairs), repeats)
+}
+
+/// Four floats by their shortest digits.
+pub fn floats(alloc: Global, how: How, repeats: u32) -> Result<String, Failure> {
+    let values = [59.9139f64, 10.7522, 0.1, 1234.5];
+    let pairs = [
+        ("north", Formattable::display(&values[0])),
+        ("east", Formattable::display(&values[1])),
+        ("step", Formattable::display(&values[2])),
+        ("height", Formattable::display(&values[3])),
+    ];
+    repeat_format(
+        alloc,
+        how,
+        "{north} {east} {step} {height}",
+        &Pairs(&pairs),
+        repeats,
+    )
+}
+
 /// A format that uses thirty-two short names, with these numbers.
 pub fn number_names<V: Value>(
     alloc: Global,

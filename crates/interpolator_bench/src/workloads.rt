@@ -54,6 +54,8 @@ enum Shape {
     Letter4K,
     TableRow,
     Amounts,
+    FloatAmounts,
+    Floats,
     Braces64K,
     Literal64K,
     Braces1M,
@@ -88,7 +90,7 @@ const KEPT: &[Way] = &[WRITE, TEMPLATE, PREPARED];
 
 /// Formats, each with the ways in which it is used.
 #[rattlefmt::skip]
-const SHAPES: [(&str, Shape, &[Way]); 19] = [
+const SHAPES: [(&str, Shape, &[Way]); 21] = [
     ("log-line", Shape::LogLine, ALL),
     ("names-32-numbers", Shape::NumberNames, ALL),
     ("names-32-signed", Shape::SignedNames, KEPT),
@@ -99,6 +101,8 @@ const SHAPES: [(&str, Shape, &[Way]); 19] = [
     ("letter-4k", Shape::Letter4K, ALL),
     ("table-row", Shape::TableRow, WRITTEN),
     ("amounts", Shape::Amounts, KEPT),
+    ("float-amounts", Shape::FloatAmounts, KEPT),
+    ("floats", Shape::Floats, KEPT),
     ("braces-64k", Shape::Braces64K, WRITTEN),
     ("literal-64k", Shape::Literal64K, ALL),
     ("braces-1m", Shape::Braces1M, &[FORMAT]),
@@ -231,6 +235,8 @@ impl Shape {
             Shape::Letter4K => documents::letter(alloc, how, repeats),
             Shape::TableRow => documents::table_row(alloc, how, repeats),
             Shape::Amounts => formats::amounts(alloc, how, repeats),
+            Shape::FloatAmounts => formats::float_amounts(alloc, how, repeats),
+            Shape::Floats => formats::floats(alloc, how, repeats),
             Shape::Braces64K => formats::copies(alloc, how, BRACES, COPIES_64K, repeats),
             Shape::Literal64K => formats::copies(alloc, how, LITERAL, COPIES_64K, repeats),
             Shape::Braces1M => formats::copies(alloc, how, BRACES, COPIES_1M, repeats),
