@@ -10,7 +10,7 @@ include!("values.rs");
 type Make = fn(&mut String);
 
 #[rustfmt::skip]
-const WORKLOADS: [(&str, Make); 63] = [
+const WORKLOADS: [(&str, Make); 65] = [
     ("write-log-line", write_log_line),
     ("write-names-32-numbers", write_numbers),
     ("write-names-32-signed", write_signed),
@@ -20,6 +20,7 @@ const WORKLOADS: [(&str, Make); 63] = [
     ("write-json", write_json),
     ("write-table-row", write_row),
     ("write-amounts", write_amounts),
+    ("write-floats", write_floats),
     ("write-specs", write_specs),
     ("write-radix", write_radix),
     ("write-exponents", write_exponents),
@@ -42,6 +43,7 @@ const WORKLOADS: [(&str, Make); 63] = [
     ("format-json", format_json),
     ("format-table-row", format_row),
     ("format-amounts", format_amounts),
+    ("format-floats", format_floats),
     ("format-specs", format_specs),
     ("format-radix", format_radix),
     ("format-exponents", format_exponents),
@@ -178,6 +180,12 @@ by_std! {
     write_amounts, format_amounts, v = AMOUNTS,
     "net {net:>10.2} tax {tax:>10.2} paid {paid:>10.2} open {open:>10.2}",
     net = v[0], tax = v[1], paid = v[2], open = v[3]
+}
+
+by_std! {
+    write_floats, format_floats, v = FLOATS,
+    "{north} {east} {step} {height}",
+    north = v[0], east = v[1], step = v[2], height = v[3]
 }
 
 /// A format of each name under each spec, with a space after each.

@@ -128,6 +128,7 @@ static ROW: Row = Row {
 /// Net, tax, paid and open: as floats for std, and as whole numbers of cents, or of hundredths of a
 /// cent, with the number of digits after the point.
 static AMOUNTS: [f64; 4] = [12345.67, 2469.1340, -14000.0, 814.80];
+static FLOATS: [f64; 4] = [59.9139, 10.7522, 0.1, 1234.5];
 static UNITS: [(i64, usize); 4] = [
     (1_234_567, 2),
     (24_691_340, 4),
