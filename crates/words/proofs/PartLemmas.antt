@@ -1,11 +1,15 @@
 -- What the two parts of a word mean, and whether a word means anything.
 use Rattle.std.proofs.Common.{◌≡◌, ◌↔◌, refl, List, ℕ, Option, None, Some, option_map}
 use Rattle.std.proofs.Common.{Result, Ok, Err}
+use Rattle.std.specs.Float.{binary64}
+use Rattle.std.specs.Float.Parse.{IsParseFloatResult}
+use Rattle.std.specs.Float.Ieee.{Float}
 use Rattle.std.specs.Result.{result_ok}
 use Rattle.words.specs.declared.reading.Word.{Word}
 use Rattle.words.specs.declared.reading.Word.TheVariants.{Text, Number, Decimal as DecimalWord}
+use Rattle.words.specs.declared.reading.Word.TheVariants.{Float as FloatWord}
 use Rattle.words.specs.declared.reading.Word.TheVariants.{List as ListWord, Bad}
-use Rattle.words.specs.Words.{Assignment, Classifies, IsGood, IsSpelled}
+use Rattle.words.specs.Words.{Assignment, Classifies, IsFloat, IsGood, IsSpelled}
 
 -- parts mean what the second spells, if it spells anything
 pub spelled_alone : {A : Type 0} (Spelled : A → Type 0) (made : A → Assignment) (found : Option A)
@@ -34,6 +38,13 @@ parsed_alone Spelled (Ok this) spells value = (
 parsed_alone Spelled (Err error) spells value =
     (λ spelled. let same = (spells value).0 spelled in cc, λ same. cc)
 
+-- and what std parsed is the float that a text writes, if it writes one
+pub float_alone : {E : Type 0} (text : List ℕ) (parsed : Result Float E)
+    → IsParseFloatResult binary64 text parsed → (value : Float)
+    → IsFloat text value ↔ (result_ok parsed ≡ Some value)
+float_alone text (Ok this) writes value = (λ same. cc, λ same. cc)
+float_alone text (Err error) writes value = (λ same. cc, λ same. cc)
+
 -- a word that is not classified as bad means something
 pub good_unless_bad : (word : List ℕ) (result : Word) → Classifies word result
     → (result ≡ Bad → ⊥) → IsGood word
@@ -41,6 +52,7 @@ good_unless_bad word Bad means not_bad = absurd (not_bad refl)
 good_unless_bad word (Text _ _) means not_bad = (_, (means _).1 refl)
 good_unless_bad word (Number _ _) means not_bad = (_, (means _).1 refl)
 good_unless_bad word (DecimalWord _ _) means not_bad = (_, (means _).1 refl)
+good_unless_bad word (FloatWord _ _) means not_bad = (_, (means _).1 refl)
 good_unless_bad word (ListWord _ _) means not_bad = (_, (means _).1 refl)
 
 -- and one that is classified as bad does not

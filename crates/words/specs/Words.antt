@@ -1,6 +1,9 @@
 -- The words of the command line: what each means, by its bytes.
 use Rattle.std.specs.Prelude.{◌≡◌, ◌⊎◌, ◌↔◌, ◌==◌, ◌<◌, ℕ, ℤ, pos, neg_ℤ, Bool, List, ◌++◌}
 use Rattle.std.specs.Prelude.{codes, length, FitsSigned, Option, None, Some}
+use Rattle.std.specs.Float.{binary64}
+use Rattle.std.specs.Float.Parse.{parse_float}
+use Rattle.std.specs.Float.Ieee.{Float}
 use Rattle.std.specs.Int.{w128}
 use Rattle.std.specs.List.{after_first, before_first, position_or_len}
 use Rattle.std.specs.Str.Parse.{IsNumeral, digits_value}
@@ -11,14 +14,16 @@ use Rattle.words.specs.declared.kinds.Kind.{Kind}
 use Rattle.words.specs.declared.kinds.Kind.TheVariants as kinds
 use Rattle.words.specs.declared.reading.Word.{Word}
 use Rattle.words.specs.declared.reading.Word.TheVariants.{Text, Number, Decimal as DecimalWord}
+use Rattle.words.specs.declared.reading.Word.TheVariants.{Float as FloatWord}
 use Rattle.words.specs.declared.reading.Word.TheVariants.{List as ListWord, Bad}
 
--- what a word that is not bad puts under a name: a text, a whole number, a decimal or the items of
--- a list
+-- what a word that is not bad puts under a name: a text, a whole number, a decimal, a float or
+-- the items of a list
 pub data Assignment : Type 0 where
   text : (name value : List ℕ) → Assignment
   number : (name : List ℕ) (value : ℤ) → Assignment
   decimal : (name : List ℕ) (value : Decimal) → Assignment
+  float : (name : List ℕ) (value : Float) → Assignment
   list : (name items : List ℕ) → Assignment
 
 -- the assignment of a `Word`, borrows aside: `None` for `Bad`
@@ -26,6 +31,7 @@ abbrev pub assignment_of : Word → Option Assignment
 assignment_of (Text name value) = Some (text name.now value.now)
 assignment_of (Number name value) = Some (number name.now value)
 assignment_of (DecimalWord name value) = Some (decimal name.now value)
+assignment_of (FloatWord name value) = Some (float name.now value)
 assignment_of (ListWord name items) = Some (list name.now items.now)
 assignment_of Bad = None
 
@@ -45,6 +51,10 @@ pub record Spells (whole : List ℕ) (value : ℤ) : Type 0 where
       ⊎ ((whole ≡ codes "-" ++ digits) × (value ≡ neg_ℤ (pos (digits_value 10 digits))))
   pub fits : FitsSigned w128 value
 
+-- the text writes this float of 64 bits, as std parses one: a number rounded once, `inf` or `nan`
+abbrev pub IsFloat : (whole : List ℕ) → Float → Type 0
+IsFloat whole value = parse_float binary64 whole ≡ Some value
+
 -- an assignment is of what a text spells
 abbrev pub IsSpelled : {A : Type 0} → (Spelled : A → Type 0) → (made : A → Assignment)
     → Assignment → Type 0
@@ -57,6 +67,8 @@ MeanAs kinds.Number name right assignment =
     IsSpelled (Spells right) (λ value. number name value) assignment
 MeanAs kinds.Decimal name right assignment =
     IsSpelled (IsDecimal right) (λ value. decimal name value) assignment
+MeanAs kinds.Float name right assignment =
+    IsSpelled (IsFloat right) (λ value. float name value) assignment
 MeanAs kinds.List name right assignment = assignment ≡ list name right
 
 -- what the parts before and after the `=` mean

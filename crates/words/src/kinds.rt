@@ -8,6 +8,8 @@ const NUMBER_MARK: &str = ":";
 
 const DECIMAL_MARK: &str = ":.";
 
+const FLOAT_MARK: &str = ":~";
+
 const LIST_MARK: &str = "[]";
 
 /// What kind of value is under a name.
@@ -19,6 +21,8 @@ pub enum Kind {
     Number,
     /// A decimal.
     Decimal,
+    /// A float.
+    Float,
     /// A list of texts.
     List,
 }
@@ -30,8 +34,8 @@ pub struct Declaration<'a> {
     pub kind: Kind,
 }
 
-/// The name and the kind that a text gives: `NAME:` is a whole number, `NAME:.` a decimal, `NAME[]`
-/// a list of texts, and any other text is the name of a text. The name may be empty.
+/// The name and the kind that a text gives: `NAME:` is a whole number, `NAME:.` a decimal, `NAME:~`
+/// a float, `NAME[]` a list of texts, and any other text is the name of a text. The name may be empty.
 pub fn declaration_of(text: &str) -> Declaration<'_>
     ensures { as_declaration result ≡ declaration_of text.now }
 {
@@ -39,6 +43,9 @@ pub fn declaration_of(text: &str) -> Declaration<'_>
         return declared;
     }
     if let Some(declared) = with_ending(DECIMAL_MARK, Kind::Decimal, text) {
+        return declared;
+    }
+    if let Some(declared) = with_ending(FLOAT_MARK, Kind::Float, text) {
         return declared;
     }
     if let Some(declared) = with_ending(LIST_MARK, Kind::List, text) {

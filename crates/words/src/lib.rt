@@ -1,5 +1,5 @@
-//! Words of a command line that give values: `NAME=TEXT`, `NAME:=NUMBER`, `NAME:.=DECIMAL` and
-//! `NAME[]=ITEM,ITEM..`. One rule for all programs: see [`classify`]. And in [`program`] what each
+//! Words of a command line that give values: `NAME=TEXT`, `NAME:=NUMBER`, `NAME:.=DECIMAL`,
+//! `NAME:~=FLOAT` and `NAME[]=ITEM,ITEM..`. One rule for all programs: see [`classify`]. And in [`program`] what each
 //! program does before and after its work.
 #![tactic(auto)]
 

@@ -1,11 +1,12 @@
 //! How a word is read.
 
 ghost use Rattle.std.specs.Prelude.{◌≡◌, ◌↔◌, ℤ, IfOk, Some};
+ghost use Rattle.std.specs.Float.Ieee.{Float};
 ghost use Rattle.std.specs.List.{join_with_byte};
 ghost use Rattle.interpolator.specs.DecimalTexts.{Spells as IsDecimal};
 ghost use Rattle.interpolator.specs.declared.Decimal.{Decimal};
 ghost use Rattle.words.specs.Items.{comma, items_of, texts_of};
-ghost use Rattle.words.specs.Words.{Assignment, Classifies, PartsMean, Spells, assignment_of};
+ghost use Rattle.words.specs.Words.{Assignment, Classifies, IsFloat, PartsMean, Spells, assignment_of};
 
 use crate::kinds::{Declaration, Kind, declaration_of};
 use interpolator::Decimal;
@@ -26,6 +27,8 @@ pub enum Word<'a> {
     Number { name: &'a str, value: i128 },
     /// `NAME:.=DECIMAL`: a decimal under a name.
     Decimal { name: &'a str, value: Decimal },
+    /// `NAME:~=FLOAT`: a float under a name.
+    Float { name: &'a str, value: f64 },
     /// `NAME[]=ITEM,ITEM..`: a list of texts under a name.
     List { name: &'a str, items: &'a str },
     /// None of these.
@@ -36,11 +39,11 @@ pub enum Word<'a> {
 ///
 /// It is split at its first `=`. The part before is a name with a kind ([`declaration_of`]). The
 /// part after is a whole number, an optional `-` and one or more ASCII digits within `i128`; a
-/// decimal, as [`Decimal::parse`] reads it; the [`items`] of a list; or a text. A word without an
-/// `=`, or with no such number, is `Bad`.
+/// decimal, as [`Decimal::parse`] reads it; a float, as std parses an `f64`; the [`items`] of a
+/// list; or a text. A word without an `=`, or with no such number, is `Bad`.
 ///
 /// `a=b=c` is the text `b=c` under `a`, `n:=-12` the number -12 under `n`, `p:.=12.50` the decimal
-/// 12.50 under `p`, and `l[]=a,b` the list of `a` and `b` under `l`.
+/// 12.50 under `p`, `x:~=1.5e3` the float 1500 under `x`, and `l[]=a,b` the list of `a` and `b` under `l`.
 pub fn classify(word: &str) -> Word<'_>
     ensures { Classifies word.now result }
 {
@@ -66,6 +69,10 @@ fn classify_parts<'a>(left: &'a str, right: &'a str) -> Word<'a>
             None => Word::Bad,
             Some(value) => Word::Decimal { name, value },
         },
+        Kind::Float => match float_of(right) {
+            None => Word::Bad,
+            Some(value) => Word::Float { name, value },
+        },
         Kind::List => Word::List { name, items: right },
     }
 }
@@ -85,6 +92,13 @@ fn decimal_of(text: &str) -> Option<Decimal>
     ensures { (value : Decimal) → IsDecimal text.now value ↔ (result ≡ Some value) }
 {
     Decimal::parse(text).ok()
+}
+
+// The float that a text spells, if any.
+fn float_of(text: &str) -> Option<f64>
+    ensures { (value : Float) → IsFloat text.now value ↔ (result ≡ Some value) }
+{
+    text.parse::<f64>().ok()
 }
 
 /// The items of a list: the parts of its text between commas. The empty text has none.

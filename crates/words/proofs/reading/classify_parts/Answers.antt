@@ -2,7 +2,7 @@ use Rattle.std.proofs.Common.{None, Some, refl}
 use Rattle.std.specs.Int.{w128}
 use Rattle.std.proofs.lemmas.Int.{to_z-of_z}
 use Rattle.interpolator.specs.DecimalTexts.{Spells as IsDecimal}
-use Rattle.words.specs.Words.{Spells, decimal, list, number, text}
+use Rattle.words.specs.Words.{IsFloat, Spells, decimal, float, list, number, text}
 use Rattle.words.proofs.PartLemmas.{alone, spelled_alone}
 use Rattle.words.proofs.reading.classify_parts.Goals as goal
 
@@ -35,6 +35,16 @@ pub returns-in-Some-decimal_of : goal.returns-in-Some-decimal_of
 returns-in-Some-decimal_of c = rw (← c.declaration_of-kind.ensures, c.in-Decimal.is)
     (spelled_alone (IsDecimal c.args.right.now) (λ value. decimal _ value)
     (Some c.in-Some-decimal_of.value) c.in-Some-decimal_of.ensures)
+
+pub returns-in-None-float_of : goal.returns-in-None-float_of
+returns-in-None-float_of c = rw (← c.declaration_of-kind.ensures, c.in-Float.is)
+    (spelled_alone (IsFloat c.args.right.now) (λ value. float _ value) None
+    c.in-None-float_of.ensures)
+
+pub returns-in-Some-float_of : goal.returns-in-Some-float_of
+returns-in-Some-float_of c = rw (← c.declaration_of-kind.ensures, c.in-Float.is)
+    (spelled_alone (IsFloat c.args.right.now) (λ value. float _ value)
+    (Some c.in-Some-float_of.value) c.in-Some-float_of.ensures)
 
 pub returns-in-List : goal.returns-in-List
 returns-in-List c = rw (← c.declaration_of-kind.ensures, c.in-List.is)
