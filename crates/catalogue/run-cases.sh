@@ -9,8 +9,8 @@ set -u
 here=$(cd "$(dirname "$0")" && pwd)
 name=catalogue
 usage='usage: catalogue [--fallback FILE] FILE KEY '
-usage+='[NAME=TEXT | NAME:=NUMBER | NAME:.=DECIMAL | NAME[]=ITEM,ITEM..] | catalogue --check FILE..'
-wanted=97
+usage+='[NAME=TEXT | NAME:=NUMBER | NAME:.=DECIMAL | NAME:~=FLOAT | NAME[]=ITEM,ITEM..] | catalogue --check FILE..'
+wanted=102
 . "$here/../../.ci/cases.sh"
 
 # message WANTED WORD..: a message, which goes to standard output, with status 0.
@@ -93,11 +93,11 @@ head_cases() {
     printf '%s\n' 'a(x[y:) = 1' 'b(x]) = 1' 'c(x)y = 1' 'd(x)(y) = 1' 'e(x, [] , :) = 1' \
         'f( x ) = 1' >heads.txt
     told "$(printf '%s\n' \
-        'heads.txt:3:2: declarations are `(NAME, NAME:, NAME:., NAME[])`, each name once' \
+        'heads.txt:3:2: declarations are `(NAME, NAME:, NAME:., NAME:~, NAME[])`, each name once' \
         '  |' '3 | c(x)y = 1' '  |  ^' \
-        'heads.txt:4:2: declarations are `(NAME, NAME:, NAME:., NAME[])`, each name once' \
+        'heads.txt:4:2: declarations are `(NAME, NAME:, NAME:., NAME:~, NAME[])`, each name once' \
         '  |' '4 | d(x)(y) = 1' '  |  ^' \
-        'heads.txt:5:6: declarations are `(NAME, NAME:, NAME:., NAME[])`, each name once' \
+        'heads.txt:5:6: declarations are `(NAME, NAME:, NAME:., NAME:~, NAME[])`, each name once' \
         '  |' '5 | e(x, [] , :) = 1' '  |      ^')" \
         heads.txt f x=1
 
@@ -140,13 +140,13 @@ kind_cases() {
         '  |' '2 | b(n:) = {n:x} {m}' '  |               ~^~' \
         'kinds.txt:3:18: trait `LowerHex` not implemented, used by format argument at 8 (byte 8 of the format)' \
         '  |' '3 | c(l[]) = {l:i({:x})}' '  |               ~~~^' \
-        'kinds.txt:4:11: declarations are `(NAME, NAME:, NAME:., NAME[])`, each name once' \
+        'kinds.txt:4:11: declarations are `(NAME, NAME:, NAME:., NAME:~, NAME[])`, each name once' \
         '  |' '4 | d(n:, l[],) = {n}' '  |           ^' \
-        'kinds.txt:5:2: declarations are `(NAME, NAME:, NAME:., NAME[])`, each name once' \
+        'kinds.txt:5:2: declarations are `(NAME, NAME:, NAME:., NAME:~, NAME[])`, each name once' \
         '  |' '5 | e(n = {n}' '  |  ^' \
         'kinds.txt:6:11: specified value not in context `n` at 1 (byte 1 of the format)' \
         '  |' '6 | f(n:x) = {n}' '  |          ~^~' \
-        'kinds.txt:7:9: declarations are `(NAME, NAME:, NAME:., NAME[])`, each name once' \
+        'kinds.txt:7:9: declarations are `(NAME, NAME:, NAME:., NAME:~, NAME[])`, each name once' \
         '  |' '7 | g(n, m, n:) = {n}{m}' '  |         ^')" \
         kinds.txt a name=Ann
 }
@@ -162,10 +162,20 @@ decimal_cases() {
     told 'prices.txt:1: `bill` wants `price:.=DECIMAL`' prices.txt bill item=tea price=12.50
     printf '%s\n' 'c(p:., :.) = 1' 'd(p:.) = {p:x}' >decimals.txt
     told "$(printf '%s\n' \
-        'decimals.txt:1:8: declarations are `(NAME, NAME:, NAME:., NAME[])`, each name once' \
+        'decimals.txt:1:8: declarations are `(NAME, NAME:, NAME:., NAME:~, NAME[])`, each name once' \
         '  |' '1 | c(p:., :.) = 1' '  |        ^' \
         'decimals.txt:2:14: trait `LowerHex` not implemented, used by format argument at 4 (byte 4 of the format)' \
         '  |' '2 | d(p:.) = {p:x}' '  |          ~~~~^')" --check decimals.txt
+}
+
+# Floats.
+float_cases() {
+    printf '%s\n' 'm(x:~) = {x} {x:.1} {x:e}' >floats.txt
+    message '1500 1500.0 1.5e3' floats.txt m x:~=1.5e3
+    message 'NaN NaN NaN' floats.txt m x:~=nan
+    message 'inf inf inf' floats.txt m x:~=1e400
+    wrong 'bad word: x:~=1e' floats.txt m x:~=1e
+    told 'floats.txt:1: `m` wants `x:~=FLOAT`' floats.txt m x:.=1.5
 }
 
 # A byte order mark, and keys that are empty or stand twice.
@@ -186,9 +196,9 @@ key_cases() {
         '  |' '4 |   é(x) = {x' '  |          ~^' \
         'keys.txt:5:2: no key' '  |' '5 |  = no key' '  |  ^' \
         'keys.txt:6:1: no key' '  |' '6 | (n:) = {n}' '  | ^' \
-        'keys.txt:7:10: declarations are `(NAME, NAME:, NAME:., NAME[])`, each name once' \
+        'keys.txt:7:10: declarations are `(NAME, NAME:, NAME:., NAME:~, NAME[])`, each name once' \
         '  |' '7 | greeting(name count) = {name}' '  |          ^' \
-        'keys.txt:8:6: declarations are `(NAME, NAME:, NAME:., NAME[])`, each name once' \
+        'keys.txt:8:6: declarations are `(NAME, NAME:, NAME:., NAME:~, NAME[])`, each name once' \
         '  |' '8 | cart(n :) = {n}' '  |      ^' \
         'keys.txt:9:1: line 3 has the key `bye` too' '  |' '9 | bye=Bye' '  | ^' \
         'keys.txt:10:4: no key' '   |' '10 |    = ' '   |    ^')" \
@@ -312,6 +322,7 @@ all_cases() {
     declared_cases
     kind_cases
     decimal_cases
+    float_cases
     key_cases
     fallback_cases
     form_cases

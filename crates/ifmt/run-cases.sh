@@ -12,7 +12,7 @@ name=ifmt
 least=-170141183460469231731687303715884105728
 greatest=170141183460469231731687303715884105727
 # the cases of the functions below, the example and the 12 rows of README
-wanted=164
+wanted=183
 . "$here/../../.ci/cases.sh"
 
 # A text, which goes to the output, with status 0.
@@ -126,6 +126,29 @@ decimal_cases() {
         'a:.=0.125' 'b:.=+0.375' 'c:.=-0.125'
     text '7 7.00 70.0' '{a} {a:.2} {b}' 'a:.=7' 'b:.=070.0'
     fault 'trait `LowerHex` not implemented, used by format argument at 4' '{v:x}' 'v:.=1.5'
+}
+
+# Floats, as Rust parses and shows an `f64`.
+float_cases() {
+    word 1.5 x 'x:~=1.5'
+    word 1000.0 x 'x:~=1e3'
+    word 0.5 x 'x:~=.5'
+    word -0.0 x 'x:~=-0'
+    word NaN x 'x:~=nan'
+    word -inf x 'x:~=-inf'
+    word inf x 'x:~=1e400'
+    word 7.0 '' ':~=+7.'
+    word '"1.5"' 'x~' 'x~=1.5'
+    text '0.30000000000000004 0.30' '{x} {x:.2}' 'x:~=0.30000000000000004'
+    text '1000|1e3|1.5E3|  +1.0' '{a}|{a:e}|{b:E}|{c:>+6.1}' 'a:~=1e3' 'b:~=1500' 'c:~=1'
+    text 'NaN inf' '{a} {b}' 'a:~=nan' 'b:~=inf'
+    fault 'trait `LowerHex` not implemented, used by format argument at 4' '{x:x}' 'x:~=1.5'
+    bad 'x:~='
+    bad 'x:~=.'
+    bad 'x:~=1e'
+    bad 'x:~=1.5 '
+    bad 'x:~=1,5'
+    bad 'x:~=nano'
 }
 
 # Of two words of one name the later counts, for the slots that it fills. An item has the slots of a
@@ -275,6 +298,7 @@ table_cases() {
 all_cases() {
     word_cases
     decimal_cases
+    float_cases
     list_cases
     line_cases
     long_cases

@@ -7,7 +7,7 @@ set -u
 
 here=$(cd "$(dirname "$0")" && pwd)
 name=strangers
-wanted=91
+wanted=92
 . "$here/../../.ci/cases.sh"
 
 usage='usage: strangers [FLAG NUMBER..] FORMAT '
@@ -88,6 +88,7 @@ decimals() {
     refuses 'trait `LowerHex` not implemented, used by format argument at 4' '{p:x}' p:.=1.5
     misused 'bad word: p:.=1.' '{p}' p:.=1.
     misused 'bad word: p:.=.5' '{p}' p:.=.5
+    misused 'bad word: x:~=1.5' '{x}' x:~=1.5
     misused 'bad word: p:.=1.2.3' '{p}' p:.=1.2.3
     misused 'bad word: p:.=17014118346046923173168730371588410572.8' '{p}' \
         p:.=17014118346046923173168730371588410572.8

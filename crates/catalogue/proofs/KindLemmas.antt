@@ -15,7 +15,9 @@ use Rattle.interpolator.specs.Slots.{Slots, listed_slots, slot_at, slots_listed,
 use Rattle.interpolator.specs.Slots.{empty_slots, with_debug_display}
 use Rattle.interpolator.specs.Template.NodeSamples.{faults_over}
 use Rattle.interpolator.specs.Texts.{view_text}
-use Rattle.interpolator.specs.Views.{Shown, decimal_number, shown_as_value, signed_number, some_text}
+use Rattle.std.specs.Float.{binary64}
+use Rattle.interpolator.specs.Views.{Shown, decimal_number, float_number, shown_as_value}
+use Rattle.interpolator.specs.Views.{signed_number, some_text}
 use Rattle.interpolator.specs.declared.Bits.TheVariants.{B128}
 use Rattle.interpolator.specs.declared.Spec.{Spec}
 use Rattle.interpolator.specs.declared.Trait.{Trait}
@@ -28,7 +30,7 @@ use Rattle.catalogue.specs.Messages.{message_means}
 use Rattle.catalogue.specs.Picks.{HoldsPick}
 use Rattle.catalogue.specs.Objects.{Gives, IsGiven, Showing, shown_by, shown_of, texts_show}
 use Rattle.words.specs.Items.{items_of}
-use Rattle.words.specs.Words.{Assignment, text, number, decimal, list}
+use Rattle.words.specs.Words.{Assignment, text, number, decimal, float, list}
 use Rattle.words.specs.declared.Kind.{Kind}
 use Rattle.words.specs.declared.Kind.TheVariants as kinds
 use Rattle.catalogue.specs.declared.entries.Object.{Object}
@@ -135,6 +137,11 @@ module _ (by_kind : ByKind) (means_none : MeansNone) where
       let kind : object.kind ≡ kinds.Decimal = ap kind_in h in
       rw kind (λ t. slots_alike kinds.Decimal object.value t
       (texts_alike object.value (example kinds.Decimal) (decimal_number d.units d.scale) t
+      (ap value_in h) refl refl))
+  object_alike (float name x) object h =
+      let kind : object.kind ≡ kinds.Float = ap kind_in h in
+      rw kind (λ t. slots_alike kinds.Float object.value t
+      (texts_alike object.value (example kinds.Float) (float_number binary64 x) t
       (ap value_in h) refl refl))
   object_alike (list name items) object h =
       let kind : object.kind ≡ kinds.List = ap kind_in h in

@@ -27,11 +27,13 @@ abbrev pub item_slots : List View → List (Slots View)
 item_slots views = map (λ view. with_debug_display empty_slots view) views
 
 -- the slots that a value of a kind fills: a text those of debug and display, a whole number those
--- of an integer, a decimal those of debug, display and exponents, a list that of its items
+-- of an integer, a decimal or a float those of debug, display and exponents, a list that of its
+-- items
 abbrev pub slots_by : Kind → View → List (Slots View) → Slots View
 slots_by kinds.Text value items = with_debug_display empty_slots value
 slots_by kinds.Number value items = with_integer empty_slots value
 slots_by kinds.Decimal value items = with_float empty_slots value
+slots_by kinds.Float value items = with_float empty_slots value
 slots_by kinds.List value items = with_iter empty_slots items
 
 -- what an object holds under its name

@@ -25,11 +25,13 @@ view_shows view t spec = shown_as_value view
 abbrev pub text_example : View
 text_example = Character 97
 
--- an example of a value of a kind; of a list it does not count
+-- an example of a value of a kind; a float has a text under the same traits as a
+-- decimal, and of a list it does not count
 abbrev pub example : Kind → View
 example kinds.Text = text_example
 example kinds.Number = Signed (pos 0) B128
 example kinds.Decimal = Decimal (pos 0) 0
+example kinds.Float = Decimal (pos 0) 0
 example kinds.List = text_example
 
 -- the slots of an example of a kind: a list has one item

@@ -1,12 +1,13 @@
 -- What the words give: a name with a kind, and what is shown of its value and of its items.
 use Rattle.std.specs.Prelude.{◌≡◌, ℕ, List, [], map, string_bytes}
+use Rattle.std.specs.Float.{binary64}
 use Rattle.std.specs.Str.{chars}
 use Rattle.std.specs.declared.string.String.{String}
 use Rattle.interpolator.specs.Views.{Shown, decimal_number, nothing_implemented, shown_as_value}
-use Rattle.interpolator.specs.Views.{signed_number, some_text}
+use Rattle.interpolator.specs.Views.{float_number, signed_number, some_text}
 use Rattle.interpolator.specs.declared.Bits.TheVariants.{B128}
 use Rattle.words.specs.Items.{items_of}
-use Rattle.words.specs.Words.{Assignment, text, number, decimal, list, IsGood, Means}
+use Rattle.words.specs.Words.{Assignment, text, number, decimal, float, list, IsGood, Means}
 use Rattle.words.specs.declared.Kind.{Kind}
 use Rattle.words.specs.declared.Kind.TheVariants as kinds
 use Rattle.catalogue.specs.Firsts.{IsFirstWithout}
@@ -33,6 +34,7 @@ shown_by (text name value) = ((name, kinds.Text), (some_text (chars value), []))
 shown_by (number name value) = ((name, kinds.Number), (signed_number value B128, []))
 shown_by (decimal name value) =
     ((name, kinds.Decimal), (decimal_number value.units value.scale, []))
+shown_by (float name value) = ((name, kinds.Float), (float_number binary64 value, []))
 shown_by (list name items) =
     ((name, kinds.List), (nothing_implemented, texts_show (items_of items)))
 

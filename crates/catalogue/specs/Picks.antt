@@ -59,6 +59,7 @@ abbrev pub shape_of : Kind → List ℕ
 shape_of kinds.Text = codes "=TEXT"
 shape_of kinds.Number = codes ":=NUMBER"
 shape_of kinds.Decimal = codes ":.=DECIMAL"
+shape_of kinds.Float = codes ":~=FLOAT"
 shape_of kinds.List = codes "[]=ITEM,ITEM"
 
 -- what is reported of a line's message that lacks a value: the file, the line's number, the key,

@@ -36,7 +36,7 @@ told_of_faults line format whys = concat (map (told_of_fault line format) whys)
 
 -- what is reported of a broken declaration
 abbrev pub what_is_declared : List ℕ
-what_is_declared = codes "declarations are `(NAME, NAME:, NAME:., NAME[])`, each name once"
+what_is_declared = codes "declarations are `(NAME, NAME:, NAME:., NAME:~, NAME[])`, each name once"
 
 -- what is reported of a line's message: a broken declaration, or its format's faults
 abbrev pub told_of_message : Line → Declared → (format : List ℕ) → List ℕ

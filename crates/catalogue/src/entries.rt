@@ -15,7 +15,7 @@ use words::Kind;
 pub struct Object<'a> {
     pub name: &'a str,
     pub kind: Kind,
-    /// The view of a text, a whole number or a decimal.
+    /// The view of a text, a whole number, a decimal or a float.
     pub value: View<'a>,
     /// The views of the items of a list.
     pub items: Vec<View<'a>>,
@@ -72,7 +72,8 @@ pub fn entries_of<'e, 'a>(alloc: Global, objects: &'e [Object<'a>]) -> Result<Ve
 }
 
 /// The slots that a value fills, by its kind: a text those of debug and display, a whole number all
-/// those of an integer, a decimal those of debug, display and exponents, a list that of its items.
+/// those of an integer, a decimal or a float those of debug, display and exponents, a list that of
+/// its items.
 fn slots_by<'p, 'e>(entry: &'p Entry<'e>) -> Formattable<'p, View<'e>>
     ensures { slots_of result ≡ entry_slots entry.now }
 {
@@ -80,6 +81,7 @@ fn slots_by<'p, 'e>(entry: &'p Entry<'e>) -> Formattable<'p, View<'e>>
         Kind::Text => Formattable::debug_display(entry.value),
         Kind::Number => Formattable::integer(entry.value),
         Kind::Decimal => Formattable::float(entry.value),
+        Kind::Float => Formattable::float(entry.value),
         Kind::List => Formattable::iter(entry.items.as_slice()),
     }
 }

@@ -24,7 +24,7 @@ const TEXT: View<'static> = View::Character('a');
 /// An example of a whole number.
 const NUMBER: View<'static> = View::Signed(0, Bits::B128);
 
-/// An example of a decimal.
+/// An example of a decimal, and of a float: both can be formatted under the same traits.
 const DECIMAL: View<'static> = View::Decimal { units: 0, scale: 0 };
 
 /// An example of a declaration.
@@ -38,6 +38,7 @@ fn example_of<'a>(alloc: Global, declared: &Declaration<'a>) -> Result<Object<'a
     let value = match declared.kind {
         Kind::Number => NUMBER,
         Kind::Decimal => DECIMAL,
+        Kind::Float => DECIMAL,
         Kind::Text => TEXT,
         Kind::List => TEXT,
     };

@@ -31,7 +31,7 @@ pub struct Sought<'a> {
     pub lacks: Option<&'a str>,
 }
 
-/// The whole number that a view has. A decimal is none.
+/// The whole number that a view has. A decimal or a float is none.
 fn number_of(view: &View<'_>) -> Option<i128>
     ensures { result ≡ number_of view.now }
 {

@@ -18,7 +18,8 @@ use std::alloc::Global;
 use std::collections::HashMap;
 
 /// What is reported of a broken declaration.
-const WHAT_IS_DECLARED: &str = "declarations are `(NAME, NAME:, NAME:., NAME[])`, each name once";
+const WHAT_IS_DECLARED: &str =
+    "declarations are `(NAME, NAME:, NAME:., NAME:~, NAME[])`, each name once";
 
 /// What is reported of a broken rule.
 const WHAT_IS_A_RULE: &str = "a rule is `NAME == NUMBER ? FORM : .. : FORM`";

@@ -1,11 +1,11 @@
 //! `catalogue [--fallback FILE] FILE KEY [NAME=TEXT | NAME:=NUMBER | NAME:.=DECIMAL |
-//! NAME[]=ITEM,ITEM..]`: the message under a key in a file whose messages are all checked first. If
-//! the file lacks the key, the message is that of the fallback, which is checked too. `catalogue
-//! --check FILE..` checks files alone.
+//! NAME:~=FLOAT | NAME[]=ITEM,ITEM..]`: the message under a key in a file whose messages are all
+//! checked first. If the file lacks the key, the message is that of the fallback, which is checked
+//! too. `catalogue --check FILE..` checks files alone.
 //!
-//! A line of a file is `key = format`, or `key(name, count:, price:., items[]) = format`, which
-//! declares a text `name`, a whole number `count`, a decimal `price` and a list of texts `items`.
-//! The format is then checked with examples of these, and the words have to give them, in any
+//! A line of a file is `key = format`, or `key(name, count:, price:., x:~, items[]) = format`, which
+//! declares a text `name`, a whole number `count`, a decimal `price`, a float `x` and a list of texts
+//! `items`. The format is then checked with examples of these, and the words have to give them, in any
 //! order. No two lines of a file have the same key. Blank lines, and lines whose first character is
 //! `#`, are skipped. White space around a key and in front of a format does not count; an indented
 //! `#` or `plural:` begins a key. Each fault is shown in its line, with the file, the line and the
@@ -48,7 +48,8 @@ use std::{fs, io};
 use words::program::{BAD_USE, FAULT, REFUSED, WRITTEN, arguments};
 
 const USAGE: &str = "usage: catalogue [--fallback FILE] FILE KEY \
-    [NAME=TEXT | NAME:=NUMBER | NAME:.=DECIMAL | NAME[]=ITEM,ITEM..] | catalogue --check FILE..";
+    [NAME=TEXT | NAME:=NUMBER | NAME:.=DECIMAL | NAME:~=FLOAT | NAME[]=ITEM,ITEM..] | \
+    catalogue --check FILE..";
 
 /// What a command line asks for.
 #[derive(Clone, Copy)]

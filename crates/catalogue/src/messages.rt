@@ -154,8 +154,8 @@ fn given<'o, 'a>(objects: &'o Result<Vec<Object<'a>>, &'a str>) -> &'o [Object<'
 }
 
 /// The message under a key, or under its form, in the first file that has it, with the values of
-/// words `NAME=TEXT`, `NAME:=NUMBER`, `NAME:.=DECIMAL` and `NAME[]=ITEM,ITEM..`; or all that is
-/// wrong with the files, or else with the words, the key or the message.
+/// words `NAME=TEXT`, `NAME:=NUMBER`, `NAME:.=DECIMAL`, `NAME:~=FLOAT` and `NAME[]=ITEM,ITEM..`; or all
+/// that is wrong with the files, or else with the words, the key or the message.
 ///
 /// There is a message only if every line of every file but blank ones, comments and a whole rule
 /// before all messages is sound: it has an `=` and a key that no line before it has, its

@@ -76,6 +76,9 @@ fn object_of<'a>(alloc: Global, word: &'a str) -> Result<Option<Object<'a>>, Err
             };
             Ok(Some(single(alloc, name, Kind::Decimal, view)))
         }
+        Word::Float { name, value } => {
+            Ok(Some(single(alloc, name, Kind::Float, View::Float(value))))
+        }
         Word::List { name, items } => Ok(Some(listed(alloc, name, items)?)),
     }
 }

@@ -99,6 +99,7 @@ fn shape_of(kind: Kind) -> &'static str
         Kind::Text => "=TEXT",
         Kind::Number => ":=NUMBER",
         Kind::Decimal => ":.=DECIMAL",
+        Kind::Float => ":~=FLOAT",
         Kind::List => "[]=ITEM,ITEM",
     }
 }

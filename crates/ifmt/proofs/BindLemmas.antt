@@ -16,6 +16,7 @@ use Rattle.interpolator.specs.Slots.{Slots, slots_of}
 use Rattle.interpolator.specs.Views.{shown_as_value}
 use Rattle.words.specs.declared.Word.{Word}
 use Rattle.words.specs.declared.Word.TheVariants.{Text, Number, Decimal as DecimalWord}
+use Rattle.words.specs.declared.Word.TheVariants.{Float as FloatWord}
 use Rattle.words.specs.declared.Word.TheVariants.{List as ListWord, Bad}
 use Rattle.ifmt.specs.declared.binding.Object.{Object}
 use Rattle.ifmt.specs.declared.binding.Entry.{Entry}
@@ -69,6 +70,8 @@ binds text (Text _ _) value objects old new good means shows items filled =
 binds text (Number _ _) value objects old new good means shows items filled =
     (_, (means _).1 refl, _, λ before. (value, shows, refl), filled)
 binds text (DecimalWord _ _) value objects old new good means shows items filled =
+    (_, (means _).1 refl, _, λ before. (value, shows, refl), filled)
+binds text (FloatWord _ _) value objects old new good means shows items filled =
     (_, (means _).1 refl, _, λ before. (value, shows, refl), filled)
 binds text (ListWord _ _) value objects old new good means shows items filled =
     (_, (means _).1 refl, _, λ before. (objects, items, refl), filled)

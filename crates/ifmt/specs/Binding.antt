@@ -1,6 +1,7 @@
 -- What the words of a command line put under their names, one after the other.
 use Rattle.std.specs.Prelude.{◌≡◌, ◌≢◌, ℕ, List, [], map, Option, None, Some, string_bytes}
 use Rattle.std.specs.Option.{unwrap_or}
+use Rattle.std.specs.Float.{binary64}
 use Rattle.std.specs.List.{FoldsTo}
 use Rattle.std.specs.Str.{chars}
 use Rattle.std.specs.declared.string.String.{String}
@@ -9,28 +10,32 @@ use Rattle.interpolator.specs.declared.Bits.TheVariants.{B128}
 use Rattle.interpolator.specs.Slots.{Slots, slots_of, empty_slots, with_debug_display, with_integer}
 use Rattle.interpolator.specs.Slots.{with_float, with_iter}
 use Rattle.interpolator.specs.Views.{Shown, shown_as_value, some_text, signed_number}
-use Rattle.interpolator.specs.Views.{decimal_number, nothing_implemented}
+use Rattle.interpolator.specs.Views.{decimal_number, float_number, nothing_implemented}
 use Rattle.words.specs.declared.Word.{Word}
 use Rattle.words.specs.declared.Word.TheVariants.{Text, Number, Decimal as DecimalWord}
+use Rattle.words.specs.declared.Word.TheVariants.{Float as FloatWord}
 use Rattle.words.specs.declared.Word.TheVariants.{List as ListWord, Bad}
 use Rattle.ifmt.specs.declared.binding.Object.{Object}
 use Rattle.ifmt.specs.declared.binding.Entry.{Entry}
 use Rattle.words.specs.Items.{items_of}
-use Rattle.words.specs.Words.{Assignment, text, number, decimal, list, Means, Classifies}
+use Rattle.words.specs.Words.{Assignment, text, number, decimal, float, list, Means}
+use Rattle.words.specs.Words.{Classifies}
 
 -- the name of an assignment, by its characters
 abbrev pub assigned_name : Assignment → List ℕ
 assigned_name (text name value) = chars name
 assigned_name (number name value) = chars name
 assigned_name (decimal name value) = chars name
+assigned_name (float name value) = chars name
 assigned_name (list name items) = chars name
 
--- what the object of a `Word` shows: its text, its whole number at 128 bits, or its decimal; a list
--- has no such object
+-- what the object of a `Word` shows: its text, its whole number at 128 bits, its decimal or its
+-- float of 64 bits; a list has no such object
 abbrev pub object_shows : Word → Shown
 object_shows (Text name value) = some_text (chars value.now)
 object_shows (Number name value) = signed_number value B128
 object_shows (DecimalWord name value) = decimal_number value.units value.scale
+object_shows (FloatWord name value) = float_number binary64 value
 object_shows (ListWord name items) = nothing_implemented
 object_shows Bad = nothing_implemented
 
@@ -43,6 +48,7 @@ abbrev pub items_show : Word → List Shown
 items_show (Text name value) = []
 items_show (Number name value) = []
 items_show (DecimalWord name value) = []
+items_show (FloatWord name value) = []
 items_show (ListWord name items) = texts_show (items_of items.now)
 items_show Bad = []
 
@@ -65,7 +71,7 @@ module _ {X : Type 0} where
     pub others : (other : List ℕ) → other ≢ name → new other ≡ old other
 
   -- a text word fills the slots of debug and display of its name, a number word those of an
-  -- integer, a decimal word those of a float, a list word that of the items
+  -- integer, a decimal or a float word those of a float, a list word that of the items
   abbrev pub Fills : (old : List ℕ → Option (Slots X)) → Word → (object : X)
       → (items : List (Slots X)) → (new : List ℕ → Option (Slots X)) → Type 0
   Fills old (Text name value) object items new =
@@ -73,6 +79,8 @@ module _ {X : Type 0} where
   Fills old (Number name value) object items new =
       Changes old (chars name.now) (λ slots. with_integer slots object) new
   Fills old (DecimalWord name value) object items new =
+      Changes old (chars name.now) (λ slots. with_float slots object) new
+  Fills old (FloatWord name value) object items new =
       Changes old (chars name.now) (λ slots. with_float slots object) new
   Fills old (ListWord name value) object items new =
       Changes old (chars name.now) (λ slots. with_iter slots items) new
@@ -86,8 +94,8 @@ pub record Lends (object : Object) (entry : Entry) : Type 0 where
 
 -- what an assignment makes of the slots under its name: an object that shows a text fills those of
 -- debug and display, one that shows a whole number those of an integer, one that shows a decimal
--- those of a float, and objects that show the items of a list are the items in the slot of a list,
--- each in its slots of debug and display
+-- or a float those of a float, and objects that show the items of a list are the items in the slot
+-- of a list, each in its slots of debug and display
 abbrev pub Merges : Assignment → (before after : Slots View) → Type 0
 Merges (text name value) before after = (object : View)
     × (shown_as_value object ≡ some_text (chars value)) × (after ≡ with_debug_display before object)
@@ -96,6 +104,8 @@ Merges (number name value) before after = (object : View)
 Merges (decimal name value) before after = (object : View)
     × (shown_as_value object ≡ decimal_number value.units value.scale)
     × (after ≡ with_float before object)
+Merges (float name value) before after = (object : View)
+    × (shown_as_value object ≡ float_number binary64 value) × (after ≡ with_float before object)
 Merges (list name value) before after = (objects : List View)
     × (map shown_as_value objects ≡ texts_show (items_of value))
     × (after ≡ with_iter before (item_slots objects))

@@ -19,7 +19,7 @@ use words::{Word, classify, items};
 pub struct Object<'a> {
     /// The word, classified.
     pub word: Word<'a>,
-    /// The view of a text, a whole number or a decimal.
+    /// The view of a text, a whole number, a decimal or a float.
     pub value: View<'a>,
     /// The views of the items of a list.
     pub items: Vec<View<'a>>,
@@ -30,7 +30,7 @@ pub struct Object<'a> {
 pub struct Entry<'a> {
     /// The word, classified.
     pub word: Word<'a>,
-    /// The view of a text, a whole number or a decimal.
+    /// The view of a text, a whole number, a decimal or a float.
     pub value: &'a View<'a>,
     /// The items of a list.
     pub items: Vec<Formattable<'a, View<'a>>>,
@@ -69,7 +69,8 @@ fn object_of<'a>(alloc: Global, word: Word<'a>) -> Result<Object<'a>, Error>
     })
 }
 
-// The view of a word's text, whole number or decimal; another word has one that shows nothing.
+// The view of a word's text, whole number, decimal or float; another word has one that shows
+// nothing.
 fn value_of<'a>(word: Word<'a>) -> View<'a>
     ensures { shown_as_value result ≡ object_shows word.entry }
 {
@@ -80,6 +81,7 @@ fn value_of<'a>(word: Word<'a>) -> View<'a>
             units: value.units,
             scale: value.scale,
         },
+        Word::Float { name: _, value } => View::Float(value),
         Word::List { name: _, items: _ } => View::NotImplemented,
         Word::Bad => View::NotImplemented,
     }
@@ -102,6 +104,7 @@ fn item_objects<'a>(alloc: Global, word: Word<'a>) -> Result<Vec<View<'a>>, Erro
         Word::Text { name: _, text: _ } => Ok(Vec::new(alloc)),
         Word::Number { name: _, value: _ } => Ok(Vec::new(alloc)),
         Word::Decimal { name: _, value: _ } => Ok(Vec::new(alloc)),
+        Word::Float { name: _, value: _ } => Ok(Vec::new(alloc)),
         Word::Bad => Ok(Vec::new(alloc)),
     }
 }
@@ -152,8 +155,8 @@ fn as_items<'a, V>(alloc: Global, objects: &'a [V]) -> Result<Vec<Formattable<'a
 }
 
 /// Fills slots under a word's name: a text those of debug and display, a whole number all those of
-/// an integer, a decimal those of a float, a list that of its items. The other slots stay as they
-/// were.
+/// an integer, a decimal or a float those of a float, a list that of its items. The other slots
+/// stay as they were.
 ///
 /// # Errors
 ///
@@ -172,6 +175,7 @@ pub fn fill<'a, V>(
         Word::Text { name, text: _ } => context.entry(name)?.set_debug_display(value),
         Word::Number { name, value: _ } => context.entry(name)?.set_integer(value),
         Word::Decimal { name, value: _ } => context.entry(name)?.set_float(value),
+        Word::Float { name, value: _ } => context.entry(name)?.set_float(value),
         Word::List { name, items: _ } => context.entry(name)?.set_iter(items),
         Word::Bad => {}
     }

@@ -1,9 +1,9 @@
 -- What words give: a name, and a text, a whole number, a decimal or the items of a list. Texts are
 -- bytes.
-use Rattle.std.specs.Prelude.{◌≡◌, ◌⊎◌, ℕ, List, [], ◌∷◌, map, Option, None, Some}
+use Rattle.std.specs.Prelude.{◌≡◌, ◌⊎◌, ⊤, ℕ, List, [], ◌∷◌, map, Option, None, Some}
 use Rattle.std.specs.List.{AllZip}
 use Rattle.words.specs.Items.{items_of}
-use Rattle.words.specs.Words.{Assignment, text, number, decimal, list, IsGood, Means}
+use Rattle.words.specs.Words.{Assignment, text, number, decimal, float, list, Means}
 use Rattle.strangers.specs.declared.values.Datum.{Datum}
 use Rattle.strangers.specs.declared.values.Datum.TheVariants.{Text, Number, Decimal as InDecimal}
 use Rattle.strangers.specs.declared.values.Given.{Given}
@@ -30,11 +30,21 @@ abbrev pub IsText : List ℕ → Given → Type 0
 IsText bytes (One value) = text_in value ≡ Some bytes
 IsText bytes (Many values) = ⊥
 
+-- an assignment that a word may make: a float may have more characters than any limit lets through
+abbrev pub IsTaken : Assignment → Type 0
+IsTaken (float name value) = ⊥
+IsTaken _ = ⊤
+
+-- a word that makes one
+abbrev pub IsGood : List ℕ → Type 0
+IsGood word = (assignment : Assignment) × Means word assignment × IsTaken assignment
+
 -- a word has the name and the value of an assignment
 abbrev pub Holds : Assignment → Word → Type 0
 Holds (text name value) word = (word.name.now ≡ name) × IsText value word.given
 Holds (number name value) word = (word.name.now ≡ name) × (word.given ≡ One (Number value))
 Holds (decimal name value) word = (word.name.now ≡ name) × (word.given ≡ One (InDecimal value))
+Holds (float name value) word = ⊥
 Holds (list name items) word = (word.name.now ≡ name) × AreItems items word.given
 
 -- what a word gives: what it means

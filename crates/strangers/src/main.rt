@@ -5,7 +5,8 @@
 //! `--text` and `--items` limit the characters of a text or a decimal and the items of a list among
 //! the values: 80 and 20 by default. `--characters`, `--pieces` and `--buffered` limit the cost of
 //! the format with such values: 10000, 1000 and 10000. Put `--` before a format that begins with
-//! `--`.
+//! `--`. A float, `NAME:~=FLOAT` in other programs, is a bad word: its text may be longer than any
+//! limit.
 #![tactic(auto)]
 
 mod answering;

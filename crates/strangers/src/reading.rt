@@ -6,7 +6,7 @@ ghost use Rattle.strangers.specs.Reading.{with_limit};
 ghost use Rattle.strangers.specs.Words.{GiveAll, Gives, IsFirstBad, are_texts, text_in};
 ghost use Rattle.strangers.specs.declared.values.Given.TheVariants.{One};
 ghost use Rattle.words.specs.Items.{texts_of};
-ghost use Rattle.words.specs.Words.{IsGood};
+ghost use Rattle.strangers.specs.Words.{IsGood};
 
 use crate::serving::Allowed;
 use crate::values::{Datum, Given, Word};
@@ -163,6 +163,7 @@ fn word_of(alloc: Global, word: &str) -> Result<Option<Word<'_>>, AllocError>
 {
     match classify(word) {
         Assigned::Bad => Ok(None),
+        Assigned::Float { .. } => Ok(None),
         Assigned::Text { name, text } => Ok(Some(single(name, Datum::Text(text)))),
         Assigned::Number { name, value } => Ok(Some(single(name, Datum::Number(value)))),
         Assigned::Decimal { name, value } => Ok(Some(single(name, Datum::Decimal(value)))),

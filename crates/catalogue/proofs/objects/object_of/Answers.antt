@@ -34,6 +34,10 @@ returns-in-Decimal-clause-given c =
     let given = rw (to_z-of_z w128 units fits) at c.single-in-Decimal.ensures in
     (_, ((rw c.in-Decimal.is at c.classify.ensures) _).1 refl, given)
 
+pub returns-in-Float-clause-given : goal.returns-in-Float-clause-given
+returns-in-Float-clause-given c =
+    (_, ((rw c.in-Float.is at c.classify.ensures) _).1 refl, c.single-in-Float.ensures)
+
 pub returns-in_ok-listed-in-List-clause-given : goal.returns-in_ok-listed-in-List-clause-given
 returns-in_ok-listed-in-List-clause-given c =
     (_, ((rw c.in-List.is at c.classify.ensures) _).1 refl, c.in_ok-listed-in-List.ensures.listed)

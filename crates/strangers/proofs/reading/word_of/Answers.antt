@@ -1,8 +1,9 @@
-use Rattle.std.proofs.Common.{◌∙◌, ap, refl, rules}
+use Rattle.std.proofs.Common.{◌≡◌, ◌∙◌, ap, refl, rules}
 use Rattle.std.specs.Int.{w128}
 use Rattle.std.specs.Prelude.{FitsSigned}
 use Rattle.std.proofs.lemmas.Int.{to_z-of_z}
 use Rattle.words.specs.Items.{texts_of}
+use Rattle.words.specs.Words.{float}
 use Rattle.words.proofs.PartLemmas.{bad_is_not_good}
 use Rattle.strangers.specs.Words.{are_texts}
 use Rattle.strangers.specs.declared.values.Datum.TheVariants.{Number}
@@ -10,7 +11,14 @@ use Rattle.strangers.specs.declared.values.Given.TheVariants.{One}
 use Rattle.strangers.proofs.reading.word_of.Goals as goal
 
 pub returns-in-Bad : goal.returns-in-Bad
-returns-in-Bad c = bad_is_not_good c.args.word.now (rw c.in-Bad.is at c.classify.ensures)
+returns-in-Bad c good =
+    bad_is_not_good c.args.word.now (rw c.in-Bad.is at c.classify.ensures) (good.0, good.1.0)
+
+pub returns-in-Float : goal.returns-in-Float
+returns-in-Float c good =
+    let same = ((rw c.in-Float.is at c.classify.ensures) good.0).0 good.1.0 in
+    let is : good.0 ≡ float c.in-Float.name.now c.in-Float.value = cc in
+    rw is at good.1.1
 
 pub returns-in-Text : goal.returns-in-Text
 returns-in-Text c =
