@@ -12,13 +12,13 @@ use Rattle.strangers.proofs.reading.word_of.Goals as goal
 
 pub returns-in-Bad : goal.returns-in-Bad
 returns-in-Bad c good =
-    bad_is_not_good c.args.word.now (rw c.in-Bad.is at c.classify.ensures) (good.0, good.1.0)
+    bad_is_not_good c.args.word.now (rw c.in-Bad.is at c.classify.ensures) (good.0, good.1)
 
 pub returns-in-Float : goal.returns-in-Float
 returns-in-Float c good =
-    let same = ((rw c.in-Float.is at c.classify.ensures) good.0).0 good.1.0 in
+    let same = ((rw c.in-Float.is at c.classify.ensures) good.0).0 good.1 in
     let is : good.0 ≡ float c.in-Float.name.now c.in-Float.value = cc in
-    rw is at good.1.1
+    rw is at good.2
 
 pub returns-in-Text : goal.returns-in-Text
 returns-in-Text c =

@@ -1,5 +1,6 @@
 use Rattle.std.proofs.Common.{[], ◌∷◌, append-nil, append_assoc, inl, inr, sym}
 use Rattle.std.proofs.lemmas.List.{drop_all, drop_more}
+use Rattle.strangers.proofs.TakenLemmas.{taken_if_held}
 use Rattle.strangers.proofs.reading.words_of.Goals as goal
 
 pub loop-word-init : goal.loop-word-init
@@ -16,7 +17,7 @@ loop-word-preserved c =
       given = λ more h. rw append_assoc
           (so_far.given (_ ∷ more) (rw (next, ← c.word-item.is) (one, h)));
       bad = λ text h. so_far.bad text
-          (rw (next, ← c.word-item.is) (inl ((one.0, one.1), h)));
+          (rw (next, ← c.word-item.is) (inl ((one.0, one.1, taken_if_held one.0 _ one.2), h)));
     })
 
 pub returns-in-None : goal.returns-in-None
