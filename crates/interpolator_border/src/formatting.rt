@@ -1,6 +1,5 @@
 //! The whole text of a row.
-ghost use Rattle.std.specs.Prelude.{◌≡◌, [], IfOk, false};
-ghost use Rattle.interpolator_render.specs.Written.{as_writer, plain};
+ghost use Rattle.std.specs.Prelude.{IfOk, IsUtf8};
 ghost use Rattle.interpolator_border.specs.Answers.{FormatAnswers};
 ghost use Rattle.interpolator_border.specs.Measures.{TellsMade, TellsText, TellsWhy, measured};
 
@@ -9,7 +8,7 @@ use crate::bytes::text_of;
 use crate::measured::Measured;
 use crate::row::FieldRow;
 use crate::writing::write_row;
-use interpolator::{Error, TextBuffer, TextWrite};
+use interpolator::{Error, TextWrite};
 use std::alloc::{AllocError, Global};
 
 /// The most bytes, beyond those of the format, for which a new buffer has room at first.
@@ -18,18 +17,13 @@ const MOST_MORE: usize = 256;
 /// How many places of a new buffer are ready at most.
 const READY: usize = 1024;
 
-/// An empty buffer with room for so many bytes, whose places are ready.
-#[tactic(auto, using(interpolator_syntax::proofs::CharacterLemmas::no_text))]
-fn ready_buffer(alloc: Global, room: usize) -> Result<TextBuffer, AllocError>
-    ensures { IfOk result (λ buffer. as_writer buffer
-        ≡ record { text = []; refused = false; origin = plain }) }
+/// Zeros with room for so many bytes, of which no more than [`READY`] are there.
+fn zeros(alloc: Global, room: usize) -> Result<Vec<u8>, AllocError>
+    ensures { IfOk result (λ zeros. IsUtf8 zeros.items) }
 {
-    let mut places = Vec::with_capacity(alloc, room)?;
-    places.resize(room.min(READY), 0u8)?;
-    let zeros = unsafe { String::from_utf8_unchecked(places) };
-    let mut buffer = TextBuffer::from_string(zeros);
-    buffer.clear();
-    Ok(buffer)
+    let mut zeros = Vec::with_capacity(alloc, room)?;
+    zeros.resize(room.min(READY), 0u8)?;
+    Ok(zeros)
 }
 
 /// The answer for a text, which comes to the front of the room if it fits.
@@ -81,10 +75,10 @@ fn format_text<'a>(alloc: Global, text: &str, row: FieldRow<'a>, room: &mut [u8]
         result }
 {
     let first = text.len().saturating_add(text.len().min(MOST_MORE));
-    let Ok(kept) = ready_buffer(alloc, first.min(room.len())) else {
+    let Ok(places) = zeros(alloc, first.min(room.len())) else {
         return told_failure(alloc, &Failure::Fault(Error::NoMemory), room);
     };
-    let mut out = Measured::new(kept, room.len());
+    let mut out = Measured::new(places, room.len());
     let written = write_row(alloc, &mut out, text, row);
     told_made(alloc, &written, &out, room)
 }

@@ -1,8 +1,8 @@
 //! A writer that keeps a text while it fits, and else counts it.
 ghost use Rattle.std.specs.Prelude.{◌≡◌, ◌<◌, ◌∷◌, [], ◌++◌, false, true, length};
-ghost use Rattle.std.specs.Prelude.{encode_utf8, IfSome, MatchResult};
+ghost use Rattle.std.specs.Prelude.{encode_utf8, IfSome, IsUtf8, MatchResult};
 ghost use Rattle.std.specs.Str.{chars};
-ghost use Rattle.interpolator_render.specs.Written.{as_writer, byte_count, plain};
+ghost use Rattle.interpolator_render.specs.Written.{byte_count, plain};
 
 use crate::taken::Taken;
 use interpolator::{Refusal, TextBuffer, TextWrite};
@@ -39,10 +39,16 @@ impl Measured {
     ghost use Rattle.interpolator_border.specs.Measures.{measured};
     ghost use Rattle.interpolator_render.specs.Written.{Appends, Refuses};
 
-    /// A writer that has taken what `kept` holds, and keeps at most `left` bytes more.
-    pub(crate) fn new(kept: TextBuffer, left: usize) -> Measured
-        ensures { measured result ≡ as_writer kept }
+    /// A writer that has taken nothing, and keeps at most `left` bytes, the first of them in these
+    /// places.
+    #[tactic(auto, using(interpolator_syntax::proofs::CharacterLemmas::no_text))]
+    pub(crate) fn new(places: Vec<u8>, left: usize) -> Measured
+        requires { IsUtf8 places.items }
+        ensures { measured result ≡ record { text = []; refused = false; origin = plain } }
     {
+        let held = unsafe { String::from_utf8_unchecked(places) };
+        let mut kept = TextBuffer::from_string(held);
+        kept.clear();
         Measured {
             kept,
             left,
@@ -161,9 +167,13 @@ impl TextWrite for Measured {
         if text.len() > self.left {
             return self.count(text);
         }
-        let result = self.kept.write_str(text);
-        self.left -= text.len();
-        result
+        match self.kept.write_str(text) {
+            Ok(()) => {
+                self.left -= text.len();
+                Ok(())
+            }
+            Err(refusal) => Err(refusal),
+        }
     }
 
     #[inline(always)]
@@ -176,9 +186,13 @@ impl TextWrite for Measured {
         if c.len_utf8() > self.left {
             return self.count_char(c);
         }
-        let result = self.kept.write_char(c);
-        self.left -= c.len_utf8();
-        result
+        match self.kept.write_char(c) {
+            Ok(()) => {
+                self.left -= c.len_utf8();
+                Ok(())
+            }
+            Err(refusal) => Err(refusal),
+        }
     }
 
     fn refused(&self) -> bool {

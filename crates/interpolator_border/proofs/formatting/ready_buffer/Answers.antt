@@ -1,9 +1,0 @@
-use Rattle.std.proofs.Common.{◌≡◌, IsUtf8, arith, lit<, replicate, subst, sym}
-use Rattle.std.proofs.lemmas.Str.{IsUtf8-from_ascii}
-use Rattle.interpolator_render.proofs.LayoutLemmas.{IsAscii-replicate}
-use Rattle.interpolator_border.proofs.formatting.ready_buffer.Goals as goal
-
-pub from_utf8_unchecked-zeros-requires : goal.from_utf8_unchecked-zeros-requires
-from_utf8_unchecked-zeros-requires c =
-    let zeros : c.resize.new.self.items ≡ replicate c.min.result 0 = grind arith in
-    subst IsUtf8 (sym zeros) (IsUtf8-from_ascii _ (IsAscii-replicate c.min.result 0 (lit< tt)))
