@@ -14,15 +14,12 @@ use std::alloc::{AllocError, Global};
 /// The most bytes, beyond those of the format, for which a new buffer has room at first.
 const MOST_MORE: usize = 256;
 
-/// How many places of a new buffer are ready at most.
-const READY: usize = 1024;
-
-/// Zeros with room for so many bytes, of which no more than [`READY`] are there.
-fn zeros(alloc: Global, room: usize) -> Result<Vec<u8>, AllocError>
+/// So many zeros.
+fn zeros(alloc: Global, count: usize) -> Result<Vec<u8>, AllocError>
     ensures { IfOk result (λ zeros. IsUtf8 zeros.items) }
 {
-    let mut zeros = Vec::with_capacity(alloc, room)?;
-    zeros.resize(room.min(READY), 0u8)?;
+    let mut zeros = Vec::with_capacity(alloc, count)?;
+    zeros.resize(count, 0u8)?;
     Ok(zeros)
 }
 
@@ -68,12 +65,16 @@ fn told_made(
     }
 }
 
-/// The text of a format with a row, or its fault's sentence, at the front of the room, if it fits. At
-/// first there is memory for the format and, up to a bound, as many bytes again.
-fn format_text<'a>(alloc: Global, text: &str, row: FieldRow<'a>, room: &mut [u8]) -> Answer
-    ensures { FormatAnswers row.entry.fields.now row.entry.items.now text.now room.old room.new
+/// The text of a format with a row, or the fault's sentence, at the front of the room, if it fits. A
+/// text that does not fit is not made, but for the beginning that does. At first there is memory for
+/// the format and, up to a bound, as many bytes again.
+pub fn format<'a>(alloc: Global, format: &[u8], row: FieldRow<'a>, room: &mut [u8]) -> Answer
+    ensures { FormatAnswers row.entry.fields.now row.entry.items.now format.now room.old room.new
         result }
 {
+    let Some(text) = text_of(format) else {
+        return told_failure(alloc, &Failure::NotUtf8, room);
+    };
     let first = text.len().saturating_add(text.len().min(MOST_MORE));
     let Ok(places) = zeros(alloc, first.min(room.len())) else {
         return told_failure(alloc, &Failure::Fault(Error::NoMemory), room);
@@ -81,16 +82,4 @@ fn format_text<'a>(alloc: Global, text: &str, row: FieldRow<'a>, room: &mut [u8]
     let mut out = Measured::new(places, room.len());
     let written = write_row(alloc, &mut out, text, row);
     told_made(alloc, &written, &out, room)
-}
-
-/// The text of a format with a row, or the fault's sentence, at the front of the room, if it fits. A
-/// text that does not fit is not made, but for the beginning that does.
-pub fn format<'a>(alloc: Global, format: &[u8], row: FieldRow<'a>, room: &mut [u8]) -> Answer
-    ensures { FormatAnswers row.entry.fields.now row.entry.items.now format.now room.old room.new
-        result }
-{
-    match text_of(format) {
-        Some(text) => format_text(alloc, text, row, room),
-        None => told_failure(alloc, &Failure::NotUtf8, room),
-    }
 }

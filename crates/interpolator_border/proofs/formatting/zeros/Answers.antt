@@ -5,5 +5,5 @@ use Rattle.interpolator_border.proofs.formatting.zeros.Goals as goal
 
 pub returns : goal.returns
 returns c =
-    let are : c.resize.new.self.items ≡ replicate c.min.result 0 = grind arith in
-    subst IsUtf8 (sym are) (IsUtf8-from_ascii _ (IsAscii-replicate c.min.result 0 (lit< tt)))
+    let are : c.resize.new.self.items ≡ replicate c.args.count 0 = grind arith in
+    subst IsUtf8 (sym are) (IsUtf8-from_ascii _ (IsAscii-replicate c.args.count 0 (lit< tt)))
