@@ -1,7 +1,7 @@
 //! The whole text of a row.
 ghost use Rattle.std.specs.Prelude.{IfOk, IsUtf8};
 ghost use Rattle.interpolator_border.specs.Answers.{FormatAnswers};
-ghost use Rattle.interpolator_border.specs.Measures.{TellsMade, TellsText, TellsWhy, measured};
+ghost use Rattle.interpolator_border.specs.Measures.{TellsText, TellsWhy, measured};
 
 use crate::answer::{Answer, Failure, put, told_failure, well};
 use crate::bytes::text_of;
@@ -50,21 +50,6 @@ fn told_why(alloc: Global, failure: &Failure, refused: bool, room: &mut [u8]) ->
     told_failure(alloc, failure, room)
 }
 
-/// The answer for what was written.
-fn told_made(
-    alloc: Global,
-    written: &Result<(), Failure>,
-    made: &Measured,
-    room: &mut [u8],
-) -> Answer
-    ensures { TellsMade (measured made.now) written.now room.old room.new result }
-{
-    match written {
-        Ok(()) => told_text(alloc, made, room),
-        Err(failure) => told_why(alloc, failure, made.refused(), room),
-    }
-}
-
 /// The text of a format with a row, or the fault's sentence, at the front of the room, if it fits. A
 /// text that does not fit is not made, but for the beginning that does. At first there is memory for
 /// the format and, up to a bound, as many bytes again.
@@ -80,6 +65,8 @@ pub fn format<'a>(alloc: Global, format: &[u8], row: FieldRow<'a>, room: &mut [u
         return told_failure(alloc, &Failure::Fault(Error::NoMemory), room);
     };
     let mut out = Measured::new(places, room.len());
-    let written = write_row(alloc, &mut out, text, row);
-    told_made(alloc, &written, &out, room)
+    match write_row(alloc, &mut out, text, row) {
+        Ok(()) => told_text(alloc, &out, room),
+        Err(failure) => told_why(alloc, &failure, out.refused(), room),
+    }
 }
