@@ -1,6 +1,6 @@
 -- What a bounded writer holds, what it takes of a text, and why it refuses the rest.
-use Rattle.std.specs.Prelude.{◌≡◌, ◌⊎◌, ℕ, ◌+◌, ◌<◌, ◌≤◌, ◌-◌, Bool, true, List, ◌++◌, ◌∷◌}
-use Rattle.std.specs.Prelude.{length, encode_utf8, if◌then◌else◌, None, Some}
+use Rattle.std.specs.Prelude.{◌≡◌, ◌⊎◌, ℕ, ◌+◌, ◌<◌, ◌≤◌, ◌-◌, Bool, true, List, [], ◌++◌}
+use Rattle.std.specs.Prelude.{◌∷◌, length, encode_utf8, if◌then◌else◌, None, Some}
 use Rattle.interpolator_render.specs.Written.{Written, Origin, byte_count}
 
 -- a bounded writer: what is known of it as of any writer, how many bytes it takes in all, whether it
@@ -14,7 +14,11 @@ pub record BoundedText : Type 0 where
 
 -- the origin of a bounded writer: its bound is known if it has the memory for it
 abbrev pub bounded : ℕ → Bool → Origin
-bounded most ready = record { bound = if ready then Some most else None; below = None }
+bounded most ready = record {
+  bound = if ready then Some most else None;
+  below = None;
+  through = [];
+}
 
 -- a bounded writer as a writer
 abbrev pub bounded_writer : BoundedText → Written

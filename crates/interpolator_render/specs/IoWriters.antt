@@ -1,5 +1,6 @@
 -- What a writer over a writer of bytes has taken, what it has passed on to that one, and why it refuses.
-use Rattle.std.specs.Prelude.{◌≡◌, ◌⊎◌, ℕ, ◌+◌, ◌<◌, ◌≤◌, max, Bool, false, true, ◌||◌, List, ◌++◌}
+use Rattle.std.specs.Prelude.{◌≡◌, ◌⊎◌, ℕ, ◌+◌, ◌<◌, ◌≤◌, max, Bool, false, true, ◌||◌, List, []}
+use Rattle.std.specs.Prelude.{◌++◌}
 use Rattle.std.specs.Prelude.{length, None, string_bytes, string_capacity, encode_utf8_all, Option}
 use Rattle.std.specs.Str.{chars}
 use Rattle.interpolator_render.specs.PassedOn.{Gets, GetsFront}
@@ -8,7 +9,7 @@ use Rattle.interpolator_render.specs.declared.io_writer.IoWriter.{IoWriter}
 
 -- the origin of a writer over a writer of bytes that contained this at first, if that is known
 abbrev pub over : Option (List ℕ) → Origin
-over start = record { bound = None; below = start }
+over start = record { bound = None; below = start; through = [] }
 
 -- it refuses once a call of the writer below has failed, or there was no memory for a text
 abbrev pub refuses : {W : Type 0} {g : _} → IoWriter W g → Bool

@@ -5,15 +5,25 @@ use Rattle.std.specs.Prelude.{IsUtf8, encode_utf8}
 use Rattle.std.specs.Prelude.{encode_utf8_all, Result, MatchResult}
 use Rattle.interpolator_render.specs.declared.text_write.Refusal.{Refusal}
 
--- what never changes of a writer: how many bytes it takes in all, where it is known to have the
--- memory for all of them; and what the writer below it contained at first, where that is known
-pub record Origin : Type 0 where
+-- a writer to which a writer above it passes its text: the name of the reference to it; in which way,
+-- by a number that the writer above has for each; and what never changes of it, as in its origin
+pub record Layer : Type 0 where
+  pub name : ℕ
+  pub way : ℕ
   pub bound : Option ℕ
   pub below : Option (List ℕ)
 
--- the origin of a writer of which neither is known
+-- what never changes of a writer: how many bytes it takes in all, where it is known to have the
+-- memory for all of them; what the writer below it contained at first, where that is known; and the
+-- writers that it passes its text through by references, the nearest first
+pub record Origin : Type 0 where
+  pub bound : Option ℕ
+  pub below : Option (List ℕ)
+  pub through : List Layer
+
+-- the origin of a writer of which none is known
 abbrev pub plain : Origin
-plain = record { bound = None; below = None }
+plain = record { bound = None; below = None; through = [] }
 
 -- what is known of a writer: the characters that it took so far, whether it has refused a text, and
 -- its origin
