@@ -9,5 +9,6 @@ pub mod Meaning
 pub mod Slots
 pub mod SlotNames
 pub mod Contexts
+pub mod Escaping
 pub mod NameMaps
 pub mod Rows

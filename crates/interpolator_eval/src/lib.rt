@@ -12,6 +12,7 @@
 mod constructors;
 mod context;
 mod context_map;
+mod escaper;
 mod evaluate;
 mod field_names;
 pub mod laws;
@@ -23,6 +24,7 @@ mod slots;
 
 pub use context::{ByNames, Context};
 pub use context_map::{ContextMap, NameMap};
+pub use escaper::{Escaper, Unescaped};
 pub use evaluate::environment::Environment;
 pub use evaluate::evaluator::{write_source, write_uncounted};
 pub use evaluate::list::{chosen, forbids_list};

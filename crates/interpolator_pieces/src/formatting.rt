@@ -4,6 +4,7 @@ ghost use Rattle.std.specs.Prelude.{◌≡◌, ◌⊎◌, Some};
 ghost use Rattle.std.specs.Str.{chars};
 ghost use Rattle.interpolator_syntax.specs.At.{outermost};
 ghost use Rattle.interpolator_syntax.specs.Faults.{result_answer, no_memory};
+ghost use Rattle.interpolator_eval.specs.Escaping.{shows_by};
 ghost use Rattle.interpolator_eval.specs.Meaning.CodeEnvironments.{environment_of};
 ghost use Rattle.interpolator_eval.specs.Meaning.Meanings.{forest_means, means};
 ghost use Rattle.interpolator_eval.specs.Meaning.ScannedLists.{ListAt, text_forest};
@@ -14,8 +15,10 @@ ghost use Rattle.interpolator_pieces.specs.Calls.{MakesText, WritesText};
 use crate::functions::buffer_for;
 use crate::parse::parse_pieces;
 use crate::stored_source::{Stored, cut};
-use interpolator_eval::{Context, Environment, Sink, write_before_list, write_uncounted};
-use interpolator_render::TextWrite;
+use interpolator_eval::{
+    Context, Environment, Escaper, Sink, Unescaped, write_before_list, write_uncounted,
+};
+use interpolator_render::{TextBuffer, TextWrite};
 use interpolator_syntax::{Cursor, Error};
 use std::alloc::Global;
 
@@ -40,8 +43,21 @@ use std::alloc::Global;
 pub fn format<C: Context>(alloc: Global, format: &str, context: &C) -> Result<String, Error>
     ensures { MakesText C.Object.shows (C.finds context.now) format.now result }
 {
+    format_by::<C, Unescaped>(alloc, format, context)
+}
+
+/// The format's text in a new `String`, as [`format`] makes it, but the text of each value as the
+/// escaper writes it.
+#[inline(always)]
+pub fn format_by<C: Context, E: Escaper>(
+    alloc: Global,
+    format: &str,
+    context: &C,
+) -> Result<String, Error>
+    ensures { MakesText (shows_by E.shown C.Object.shows) (C.finds context.now) format.now result }
+{
     let mut out = buffer_for(alloc, format)?;
-    let answer = write_once(alloc, &mut out, format, context);
+    let answer = write_once::<TextBuffer, C, E>(alloc, &mut out, format, context);
     if out.refused() {
         return Err(Error::NoMemory);
     }
@@ -51,18 +67,18 @@ pub fn format<C: Context>(alloc: Global, format: &str, context: &C) -> Result<St
 
 /// Writes what the format means in the context, or returns that there was no memory for its pieces.
 #[tactic(auto, using(interpolator_eval::proofs::MeaningLemmas::SinkLemmas::writer_stays))]
-fn write_once<W: TextWrite, C: Context>(
+fn write_once<W: TextWrite, C: Context, E: Escaper>(
     alloc: Global,
     out: &mut W,
     format: &str,
     context: &C,
 ) -> Result<(), Error>
-    ensures { (WritesText C.Object.shows (C.finds context.now) format.now
+    ensures { (WritesText (shows_by E.shown C.Object.shows) (C.finds context.now) format.now
         (W.written out.old) (W.written out.new) (result_answer result))
         ⊎ (result_answer result ≡ Some no_memory) }
 {
     let mut sink = Sink::Writer(out);
-    let answer = write_to_end(
+    let answer = write_to_end::<W, C, E>(
         alloc,
         &mut sink,
         &Environment::outermost(alloc, context),
@@ -73,14 +89,14 @@ fn write_once<W: TextWrite, C: Context>(
 }
 
 /// Writes the format while it is read, up to its first list, and what is left by its pieces.
-fn write_to_end<'a, W: TextWrite, C: Context>(
+fn write_to_end<'a, W: TextWrite, C: Context, E: Escaper>(
     alloc: Global,
     sink: &mut Sink<'_, W>,
     environment: &Environment<'a, C, C::Object>,
     format: &str,
 ) -> Result<(), Error>
     ensures outcome { (Writes W.written
-        (means C.Object.shows (environment_of C.finds environment.now)
+        (means (shows_by E.shown C.Object.shows) (environment_of C.finds environment.now)
         (outermost (chars format.now)))
         sink.old sink.new (result_answer result))
         ⊎ (result_answer result ≡ Some no_memory) }
@@ -90,8 +106,8 @@ fn write_to_end<'a, W: TextWrite, C: Context>(
         place: 0,
         rest: format,
     };
-    match write_before_list(sink, environment, text)? {
-        Some(place) => write_from_list(alloc, sink, environment, format, place),
+    match write_before_list::<W, C, E>(sink, environment, text)? {
+        Some(place) => write_from_list::<W, C, E>(alloc, sink, environment, format, place),
         None => Ok(()),
     }
 }
@@ -99,7 +115,7 @@ fn write_to_end<'a, W: TextWrite, C: Context>(
 /// Reads the format into its pieces from its first list on, which begins at `place`, and writes
 /// these. It is not inlined, so that a text without a list takes no step for it.
 #[inline(never)]
-fn write_from_list<'a, W: TextWrite, C: Context>(
+fn write_from_list<'a, W: TextWrite, C: Context, E: Escaper>(
     alloc: Global,
     sink: &mut Sink<'_, W>,
     environment: &Environment<'a, C, C::Object>,
@@ -108,7 +124,7 @@ fn write_from_list<'a, W: TextWrite, C: Context>(
 ) -> Result<(), Error>
     requires list { ListAt (outermost (chars format.now)) place }
     ensures outcome { (Writes W.written
-        (forest_means C.Object.shows (environment_of C.finds environment.now)
+        (forest_means (shows_by E.shown C.Object.shows) (environment_of C.finds environment.now)
         (from_list (text_forest (outermost (chars format.now)))))
         sink.old sink.new (result_answer result))
         ⊎ (result_answer result ≡ Some no_memory) }
@@ -123,5 +139,5 @@ fn write_from_list<'a, W: TextWrite, C: Context>(
         text: format,
         pieces: &pieces,
     };
-    write_uncounted(sink, environment, source)
+    write_uncounted::<W, C, E, Stored<'_>>(sink, environment, source)
 }

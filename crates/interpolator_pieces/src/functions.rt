@@ -4,6 +4,7 @@ ghost use Rattle.std.specs.Prelude.{◌≡◌, ◌+◌, ◌<◌, ◌≤◌, ◌�
 ghost use Rattle.std.specs.Prelude.{min, option_map};
 ghost use Rattle.std.specs.Str.{chars};
 ghost use Rattle.interpolator_syntax.specs.At.{outermost};
+ghost use Rattle.interpolator_eval.specs.Escaping.{shows_by};
 ghost use Rattle.interpolator_eval.specs.Meaning.AskedNames.{asked_names};
 ghost use Rattle.interpolator_eval.specs.Meaning.Environments.{environment, cut};
 ghost use Rattle.interpolator_syntax.specs.Faults.{result_answer, fault, no_memory, PlaceWithin};
@@ -25,7 +26,8 @@ use crate::piece::Piece;
 use crate::stored_source::Stored;
 use crate::walk::walk_text;
 use interpolator_eval::{
-    Context, Environment, FormatSource, PieceCount, Sink, write_source, write_uncounted,
+    Context, Environment, Escaper, FormatSource, PieceCount, Sink, Unescaped, write_source,
+    write_uncounted,
 };
 use interpolator_render::{TextBuffer, TextWrite};
 use interpolator_syntax::{Cursor, Error};
@@ -69,7 +71,6 @@ use std::sync::ledger::{Blank, Ledger};
 /// write(alloc, &mut out, "{l:i(<{}>)(, )}", &context)?;
 /// // with the list of 1, 2 and 3 under `l`: <1>, <2>, <3>
 /// ```
-#[tactic(auto, using(interpolator_eval::proofs::MeaningLemmas::SinkLemmas::writer_stays))]
 pub fn write<W: TextWrite, C: Context>(
     alloc: Global,
     out: &mut W,
@@ -84,12 +85,29 @@ pub fn write<W: TextWrite, C: Context>(
         (W.written out.old) (W.written out.new) (result_answer result) }
     ensures place { PlaceWithin (length format.now) (result_answer result) }
 {
+    write_by::<W, C, Unescaped>(alloc, out, format, context)
+}
+
+/// Writes what the format means in the context, as [`write`] does, but the text of each value as
+/// the escaper writes it.
+#[tactic(auto, using(interpolator_eval::proofs::MeaningLemmas::SinkLemmas::writer_stays))]
+#[inline(always)]
+pub fn write_by<W: TextWrite, C: Context, E: Escaper>(
+    alloc: Global,
+    out: &mut W,
+    format: &str,
+    context: &C,
+) -> Result<(), Error>
+    ensures { WritesText (shows_by E.shown C.Object.shows) (C.finds context.now) format.now
+        (W.written out.old) (W.written out.new) (result_answer result) }
+{
     let text = Cursor {
         place: 0,
         rest: format,
     };
     let mut sink = Sink::Writer(out);
-    let answer = write_uncounted(&mut sink, &Environment::outermost(alloc, context), text);
+    let environment = Environment::outermost(alloc, context);
+    let answer = write_uncounted::<W, C, E, Cursor<'_>>(&mut sink, &environment, text);
     sink.into_writer();
     answer
 }
@@ -123,7 +141,7 @@ pub struct Parsed<'a> {
 /// goes through: no more than the format's work, and so, with values within limits, no more than
 /// its cost.
 #[tactic(auto, using(interpolator_eval::proofs::MeaningLemmas::SinkLemmas::writer_stays))]
-pub fn write_counted<W: TextWrite, C: Context, L: Ledger>(
+pub fn write_counted<W: TextWrite, C: Context, E: Escaper, L: Ledger>(
     alloc: Global,
     out: &mut W,
     format: Parsed<'_>,
@@ -132,16 +150,19 @@ pub fn write_counted<W: TextWrite, C: Context, L: Ledger>(
 ) -> Result<(), Error>
     requires pieces { nodes_of format.text.now format.pieces.now
         ≡ nodes (outermost (chars format.text.now)) }
-    ensures written { WritesText C.Object.shows (C.finds context.now) format.entry.text.now
+    ensures written { WritesText (shows_by E.shown C.Object.shows)
+        (C.finds context.now) format.entry.text.now
         (W.written out.old) (W.written out.new) (result_answer result) }
-    ensures gone { count.new ≤ count.old + (text_work C.Object.shows
+    ensures gone { count.new ≤ count.old + (text_work (shows_by E.shown C.Object.shows)
         (environment (C.finds context.now))
         (outermost (chars format.entry.text.now))).pieces }
-    ensures exact { IfOk result (λ _. count.new ≡ count.old + (text_work C.Object.shows
+    ensures exact { IfOk result (λ _. count.new ≡ count.old + (text_work
+        (shows_by E.shown C.Object.shows)
         (environment (C.finds context.now))
         (outermost (chars format.entry.text.now))).pieces) }
     ensures within { (limits : Limits)
-        → IsWithin C.Object.shows limits.text limits.items (environment (C.finds context.now))
+        → IsWithin (shows_by E.shown C.Object.shows) limits.text limits.items (environment
+        (C.finds context.now))
         (asked_names (outermost (chars format.entry.text.now)))
         → count.new
         ≤ count.old + (text_cost limits (outermost (chars format.entry.text.now))).pieces }
@@ -153,14 +174,20 @@ pub fn write_counted<W: TextWrite, C: Context, L: Ledger>(
     };
     let environment = Environment::outermost(alloc, context);
     let mut scratch = source.scratch_list();
-    let answer = write_source(&mut sink, &environment, source, &mut scratch, count);
+    let answer = write_source::<W, C, E, Stored<'_>, L>(
+        &mut sink,
+        &environment,
+        source,
+        &mut scratch,
+        count,
+    );
     sink.into_writer();
     answer
 }
 
 /// Writes what the stored pieces of a format mean in the context, counted from a blank ledger.
 #[inline(always)]
-fn write_on<W: TextWrite, C: Context, L: Ledger>(
+fn write_on<W: TextWrite, C: Context, E: Escaper, L: Ledger>(
     alloc: Global,
     out: &mut W,
     format: Parsed<'_>,
@@ -172,15 +199,16 @@ fn write_on<W: TextWrite, C: Context, L: Ledger>(
     requires some { 0 < blank.parts }
     requires pieces { nodes_of format.text.now format.pieces.now
         ≡ nodes (outermost (chars format.text.now)) }
-    ensures { WritesText C.Object.shows (C.finds context.now) format.entry.text.now
+    ensures { WritesText (shows_by E.shown C.Object.shows)
+        (C.finds context.now) format.entry.text.now
         (W.written out.old) (W.written out.new) (result_answer result) }
 {
     let mut count = PieceCount::<L>::open(blank);
-    write_counted(alloc, out, format, context, &mut count)
+    write_counted::<W, C, E, L>(alloc, out, format, context, &mut count)
 }
 
 /// Writes what the stored pieces of a format mean in the context.
-pub fn write_pieces<W: TextWrite, C: Context>(
+pub fn write_pieces<W: TextWrite, C: Context, E: Escaper>(
     alloc: Global,
     out: &mut W,
     format: Parsed<'_>,
@@ -188,24 +216,26 @@ pub fn write_pieces<W: TextWrite, C: Context>(
 ) -> Result<(), Error>
     requires pieces { nodes_of format.text.now format.pieces.now
         ≡ nodes (outermost (chars format.text.now)) }
-    ensures { WritesText C.Object.shows (C.finds context.now) format.entry.text.now
+    ensures { WritesText (shows_by E.shown C.Object.shows)
+        (C.finds context.now) format.entry.text.now
         (W.written out.old) (W.written out.new) (result_answer result) }
 {
-    write_on::<W, C, Brand>(alloc, out, format, context, Blank::new(1))
+    write_on::<W, C, E, Brand>(alloc, out, format, context, Blank::new(1))
 }
 
 /// The text that the stored pieces of a format mean in the context, in a new `String`.
-pub fn format_pieces<C: Context>(
+pub fn format_pieces<C: Context, E: Escaper>(
     alloc: Global,
     format: Parsed<'_>,
     context: &C,
 ) -> Result<String, Error>
     requires pieces { nodes_of format.text.now format.pieces.now
         ≡ nodes (outermost (chars format.text.now)) }
-    ensures { MakesText C.Object.shows (C.finds context.now) format.entry.text.now result }
+    ensures { MakesText (shows_by E.shown C.Object.shows)
+        (C.finds context.now) format.entry.text.now result }
 {
     let mut out = buffer_for(alloc, format.text)?;
-    let answer = write_pieces(alloc, &mut out, format, context);
+    let answer = write_pieces::<TextBuffer, C, E>(alloc, &mut out, format, context);
     if out.refused() {
         return Err(Error::NoMemory);
     }

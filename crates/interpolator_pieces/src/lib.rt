@@ -32,8 +32,10 @@ pub use copy::copy_piece;
 pub use cost::{Cost, Limits, cost_of};
 pub use extent::{Deepest, Widest};
 pub use fault_collector::FaultCollector;
-pub use formatting::format;
-pub use functions::{Parsed, buffer_for, check, format_pieces, write, write_counted, write_pieces};
+pub use formatting::{format, format_by};
+pub use functions::{
+    Parsed, buffer_for, check, format_pieces, write, write_by, write_counted, write_pieces,
+};
 pub use line::{iwriteln, write_newline};
 pub use names::Names;
 pub use parse::parse_pieces;

@@ -4,6 +4,7 @@ ghost use Rattle.std.specs.Prelude.{false, length, option_map, true};
 ghost use Rattle.std.specs.Str.{chars};
 ghost use Rattle.interpolator_syntax.specs.Faults.{result_answer, fault, argument_fault_of};
 ghost use Rattle.interpolator_syntax.specs.Nodes.{as_forest, no_nodes};
+ghost use Rattle.interpolator_eval.specs.Escaping.{shows_by};
 ghost use Rattle.interpolator_eval.specs.Meaning.CodeEnvironments.{environment_of};
 ghost use Rattle.interpolator_eval.specs.Meaning.Meanings.{forest_means};
 ghost use Rattle.interpolator_eval.specs.Meaning.Sinks.{Writes};
@@ -21,8 +22,8 @@ ghost use Rattle.interpolator_pieces.specs.declared.piece.Piece.TheViews.{out-Pi
 
 use crate::piece::{Detail, Form, Piece, list_detail, part_of, spec_end_of};
 use interpolator_eval::{
-    Context, Environment, FormatSource, Formattable, LookUp, PieceCount, Sink, chosen_list,
-    write_plain_value, write_value,
+    Context, Environment, Escaper, FormatSource, Formattable, LookUp, PieceCount, Sink,
+    chosen_list, write_plain_value, write_value,
 };
 use interpolator_render::{Spec, TextWrite};
 use interpolator_syntax::{ArgumentFault, Error, ParseError, PieceKind, Range};
@@ -59,14 +60,14 @@ impl<'t> FormatSource for Stored<'t> {
     }
 
     #[inline(always)]
-    fn write_to_list<'a, W: TextWrite, C: Context, L: Ledger>(
+    fn write_to_list<'a, W: TextWrite, C: Context, E: Escaper, L: Ledger>(
         &self,
         sink: &mut Sink<'_, W>,
         environment: &Environment<'a, C, C::Object>,
         list: &mut Stored<'t>,
         count: &mut PieceCount<L>,
     ) -> Result<bool, Error> {
-        run_pieces(sink, environment, *self, list, count)
+        run_pieces::<W, C, E, L>(sink, environment, *self, list, count)
     }
 
     #[inline(always)]
@@ -155,7 +156,7 @@ fn range_asked(form: &Form) -> Option<Range>
 
 /// Writes what pieces mean up to the first list, in order, and returns whether there is one.
 #[inline(always)]
-fn run_pieces<'t, 'a, W: TextWrite, C: Context, L: Ledger>(
+fn run_pieces<'t, 'a, W: TextWrite, C: Context, E: Escaper, L: Ledger>(
     sink: &mut Sink<'_, W>,
     environment: &Environment<'a, C, C::Object>,
     source: Stored<'t>,
@@ -163,18 +164,19 @@ fn run_pieces<'t, 'a, W: TextWrite, C: Context, L: Ledger>(
     count: &mut PieceCount<L>,
 ) -> Result<bool, Error>
     ensures writes { Writes W.written
-        (forest_means C.Object.shows (environment_of C.finds environment.now)
+        (forest_means (shows_by E.shown C.Object.shows) (environment_of C.finds environment.now)
         (before_list (as_forest (nodes_of source.entry.text.now source.entry.pieces.now))))
         sink.old sink.new (result_answer result) }
     ensures met { IfOk result (λ met. Met met (begins_list list.new.pieces.now ≡ true)
         (stored_list list.new.text.now list.new.pieces.now)
         (stored_rest list.new.text.now list.new.pieces.now)
         (from_list (as_forest (nodes_of source.entry.text.now source.entry.pieces.now)))) }
-    ensures gone { count.new ≤ count.old + ((forest_work C.Object.shows
+    ensures gone { count.new ≤ count.old + ((forest_work (shows_by E.shown C.Object.shows)
         (environment_of C.finds environment.now)
         (before_list (as_forest (nodes_of source.entry.text.now source.entry.pieces.now)))).pieces
         + met_pieces result) }
-    ensures exact { IfOk result (λ _. count.new ≡ count.old + ((forest_work C.Object.shows
+    ensures exact { IfOk result (λ _. count.new ≡ count.old + ((forest_work
+        (shows_by E.shown C.Object.shows)
         (environment_of C.finds environment.now)
         (before_list (as_forest (nodes_of source.entry.text.now source.entry.pieces.now)))).pieces
         + met_pieces result)) }
@@ -183,7 +185,7 @@ fn run_pieces<'t, 'a, W: TextWrite, C: Context, L: Ledger>(
     let mut rest = source.pieces;
     while let Some((piece, after)) = rest.split_first() {
         count.tick();
-        if run_piece(sink, environment, text, piece)? {
+        if run_piece::<W, C, E>(sink, environment, text, piece)? {
             *list = Stored { text, pieces: rest };
             return Ok(true);
         }
@@ -195,7 +197,7 @@ fn run_pieces<'t, 'a, W: TextWrite, C: Context, L: Ledger>(
 /// Writes what a piece means, unless it asks for a list; returns whether it does.
 #[tactic(auto, using(crate::proofs::StoredLemmas::detail_kept))]
 #[inline(always)]
-fn run_piece<'a, W: TextWrite, C: Context>(
+fn run_piece<'a, W: TextWrite, C: Context, E: Escaper>(
     sink: &mut Sink<'_, W>,
     environment: &Environment<'a, C, C::Object>,
     text: &str,
@@ -203,20 +205,20 @@ fn run_piece<'a, W: TextWrite, C: Context>(
 ) -> Result<bool, Error>
     requires whole { node_whole (node_of text.now piece.now) ≡ true }
     ensures writes { Writes W.written
-        (unlisted_means C.Object.shows (environment_of C.finds environment.now)
+        (unlisted_means (shows_by E.shown C.Object.shows) (environment_of C.finds environment.now)
         (node_of text.now piece.now))
         sink.old sink.new (result_answer result) }
     ensures list { IfOk result (λ list. is_list_form (detail_of piece.now).form ≡ list) }
 {
     match &piece.detail {
-        Some(detail) => run_detailed(sink, environment, text, piece, detail),
-        None => run_bare(sink, environment, text, piece),
+        Some(detail) => run_detailed::<W, C, E>(sink, environment, text, piece, detail),
+        None => run_bare::<W, C, E>(sink, environment, text, piece),
     }
 }
 
 /// Writes what a piece without a detail means; it asks for no list.
 #[inline(always)]
-fn run_bare<'a, W: TextWrite, C: Context>(
+fn run_bare<'a, W: TextWrite, C: Context, E: Escaper>(
     sink: &mut Sink<'_, W>,
     environment: &Environment<'a, C, C::Object>,
     text: &str,
@@ -225,7 +227,7 @@ fn run_bare<'a, W: TextWrite, C: Context>(
     requires whole { node_whole (node_of text.now piece.now) ≡ true }
     requires bare { (out-Piece piece.now).detail ≡ None }
     ensures writes { Writes W.written
-        (unlisted_means C.Object.shows (environment_of C.finds environment.now)
+        (unlisted_means (shows_by E.shown C.Object.shows) (environment_of C.finds environment.now)
         (node_of text.now piece.now))
         sink.old sink.new (result_answer result) }
     ensures list { IfOk result (λ list. is_list_form (detail_of piece.now).form ≡ list) }
@@ -233,7 +235,7 @@ fn run_bare<'a, W: TextWrite, C: Context>(
     match piece.kind {
         PieceKind::Closed => {
             let (start, name) = name_of(text, piece);
-            write_plain_value(sink, environment, start, name, spec_end_of(piece))?;
+            write_plain_value::<W, C, E>(sink, environment, start, name, spec_end_of(piece))?;
             Ok(false)
         }
         _ => {
@@ -245,7 +247,7 @@ fn run_bare<'a, W: TextWrite, C: Context>(
 
 /// Writes what a piece with a detail means, unless it asks for a list; returns whether it does.
 #[inline(always)]
-fn run_detailed<'a, W: TextWrite, C: Context>(
+fn run_detailed<'a, W: TextWrite, C: Context, E: Escaper>(
     sink: &mut Sink<'_, W>,
     environment: &Environment<'a, C, C::Object>,
     text: &str,
@@ -255,7 +257,7 @@ fn run_detailed<'a, W: TextWrite, C: Context>(
     requires whole { node_whole (node_of text.now piece.now) ≡ true }
     requires detail { detail_of piece.now ≡ detail.now }
     ensures writes { Writes W.written
-        (unlisted_means C.Object.shows (environment_of C.finds environment.now)
+        (unlisted_means (shows_by E.shown C.Object.shows) (environment_of C.finds environment.now)
         (node_of text.now piece.now))
         sink.old sink.new (result_answer result) }
     ensures list { IfOk result (λ list. is_list_form (detail_of piece.now).form ≡ list) }
@@ -267,7 +269,7 @@ fn run_detailed<'a, W: TextWrite, C: Context>(
         }
         Form::Plain => {
             let (start, name) = name_of(text, piece);
-            write_plain_value(sink, environment, start, name, detail.spec_end)?;
+            write_plain_value::<W, C, E>(sink, environment, start, name, detail.spec_end)?;
             value_done(piece)
         }
         Form::Value(t) => {
@@ -277,7 +279,7 @@ fn run_detailed<'a, W: TextWrite, C: Context>(
                 name,
                 end: detail.spec_end,
             };
-            write_value(sink, environment, look_up, *t, &detail.spec)?;
+            write_value::<W, C, E>(sink, environment, look_up, *t, &detail.spec)?;
             value_done(piece)
         }
         Form::List(_) => Ok(true),

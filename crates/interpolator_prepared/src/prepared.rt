@@ -2,8 +2,14 @@
 ghost use Rattle.std.specs.Prelude.{◌≡◌, ◌≤◌, flat_map, length, map, IfErr, IfOk, Some};
 ghost use Rattle.std.specs.Str.{chars};
 ghost use Rattle.interpolator_syntax.specs.At.{outermost};
-ghost use Rattle.interpolator_syntax.specs.Faults.{answer_of, result_answer, no_memory, PlaceWithin};
+ghost use Rattle.interpolator_syntax.specs.Faults.{
+  answer_of,
+  result_answer,
+  no_memory,
+  PlaceWithin,
+};
 ghost use Rattle.interpolator_syntax.specs.Nodes.{nodes};
+ghost use Rattle.interpolator_eval.specs.Escaping.{shows_by};
 ghost use Rattle.interpolator_eval.specs.Meaning.Environments.{environment};
 ghost use Rattle.interpolator_eval.specs.Meaning.Meanings.{means};
 ghost use Rattle.interpolator_eval.specs.Meaning.Outcomes.{Outcome, Formats};
@@ -17,8 +23,9 @@ use crate::compile::compile;
 use crate::row::{Cells, NamedRow, PreparedRow, Row};
 use crate::run::run_steps;
 use crate::step::Step;
-use interpolator_pieces::{Piece, buffer_for, write, write_newline};
-use interpolator_render::{TextWrite, Value};
+use interpolator_eval::{Escaper, Unescaped};
+use interpolator_pieces::{Piece, buffer_for, write_by, write_newline};
+use interpolator_render::{TextBuffer, TextWrite, Value};
 use interpolator_syntax::Error;
 use std::alloc::Global;
 use std::marker::Model;
@@ -65,7 +72,7 @@ impl Model for Prepared {
 
 /// Writes the steps of a format with a row; if the row is not in the order of the names, writes the
 /// text instead.
-fn write_row<'a, W: TextWrite, R: PreparedRow>(
+fn write_row<'a, W: TextWrite, R: PreparedRow, E: Escaper>(
     alloc: Global,
     out: &mut W,
     text: &str,
@@ -75,21 +82,21 @@ fn write_row<'a, W: TextWrite, R: PreparedRow>(
     requires program { flat_map (steps_of text.now) steps.now
         ≡ map Some (program (name_bytes named.now.names.now) (nodes (outermost (chars text.now)))) }
     ensures outcome { Outcome
-        (means R.Object.shows
+        (means (shows_by E.shown R.Object.shows)
         (environment (R.finds_in named.now.row.now (name_bytes named.now.names.now)))
         (outermost (chars text.now)))
         (W.written out.old) (W.written out.new) (result_answer result) }
     ensures place { PlaceWithin (length text.now) (result_answer result) }
 {
     if !named.row.is_in_order(named.names) {
-        return write(alloc, out, text, named);
+        return write_by::<W, NamedRow<'_, R>, E>(alloc, out, text, named);
     }
-    run_steps(alloc, out, text, named, steps)?;
+    run_steps::<W, R, E>(alloc, out, text, named, steps)?;
     Ok(())
 }
 
 /// The text of the steps of a format with a row, in a new `String`.
-fn format_row<'a, R: PreparedRow>(
+fn format_row<'a, R: PreparedRow, E: Escaper>(
     alloc: Global,
     text: &str,
     named: &NamedRow<'a, R>,
@@ -98,14 +105,14 @@ fn format_row<'a, R: PreparedRow>(
     requires program { flat_map (steps_of text.now) steps.now
         ≡ map Some (program (name_bytes named.now.names.now) (nodes (outermost (chars text.now)))) }
     ensures formats { Formats
-        (means R.Object.shows
+        (means (shows_by E.shown R.Object.shows)
         (environment (R.finds_in named.now.row.now (name_bytes named.now.names.now)))
         (outermost (chars text.now)))
         result }
     ensures place { PlaceWithin (length text.now) (result_answer result) }
 {
     let mut out = buffer_for(alloc, text)?;
-    let answer = write_row(alloc, &mut out, text, named, steps);
+    let answer = write_row::<TextBuffer, R, E>(alloc, &mut out, text, named, steps);
     if out.refused() {
         return Err(Error::NoMemory);
     }
@@ -199,7 +206,7 @@ impl Prepared {
             names: &self.names,
             row,
         };
-        format_row(alloc, self.text.as_str(), &named, &self.steps)
+        format_row::<Row<'_, V>, Unescaped>(alloc, self.text.as_str(), &named, &self.steps)
     }
 
     /// Writes what the format means with a row of another kind than [`Row`]: named values, as
@@ -228,11 +235,31 @@ impl Prepared {
             (W.written out.old) (W.written out.new) (result_answer result) }
         ensures place { PlaceWithin (length self.now.text) (result_answer result) }
     {
+        self.write_by::<W, R, Unescaped>(alloc, out, row)?;
+        Ok(())
+    }
+
+    /// Writes what the format means with such a row, as [`write_named`](Prepared::write_named)
+    /// does, but the text of each value as the escaper writes it.
+    #[inline(always)]
+    pub fn write_by<W: TextWrite, R: PreparedRow, E: Escaper>(
+        &self,
+        alloc: Global,
+        out: &mut W,
+        row: &R,
+    ) -> Result<(), Error>
+        ensures outcome { Outcome
+            (means (shows_by E.shown R.Object.shows)
+            (environment (R.finds_in row.now self.now.names))
+            (outermost (chars self.now.text)))
+            (W.written out.old) (W.written out.new) (result_answer result) }
+        ensures place { PlaceWithin (length self.now.text) (result_answer result) }
+    {
         let named = NamedRow {
             names: &self.names,
             row,
         };
-        write_row(alloc, out, self.text.as_str(), &named, &self.steps)?;
+        write_row::<W, R, E>(alloc, out, self.text.as_str(), &named, &self.steps)?;
         Ok(())
     }
 
@@ -285,11 +312,29 @@ impl Prepared {
             result }
         ensures place { PlaceWithin (length self.now.text) (result_answer result) }
     {
+        self.format_by::<R, Unescaped>(alloc, row)
+    }
+
+    /// The text that it means with such a row, in a new `String`, where the text of each value is
+    /// as the escaper writes it.
+    #[inline(always)]
+    pub fn format_by<R: PreparedRow, E: Escaper>(
+        &self,
+        alloc: Global,
+        row: &R,
+    ) -> Result<String, Error>
+        ensures formats { Formats
+            (means (shows_by E.shown R.Object.shows)
+            (environment (R.finds_in row.now self.now.names))
+            (outermost (chars self.now.text)))
+            result }
+        ensures place { PlaceWithin (length self.now.text) (result_answer result) }
+    {
         let named = NamedRow {
             names: &self.names,
             row,
         };
-        format_row(alloc, self.text.as_str(), &named, &self.steps)
+        format_row::<R, E>(alloc, self.text.as_str(), &named, &self.steps)
     }
 
     /// Writes what the format means with these values in the order of the names, each in the slots

@@ -2,6 +2,7 @@
 ghost use Rattle.std.specs.Prelude.{◌≡◌, ◌+◌, ◌-◌, ◌<◌, ◌≤◌, ◌⊎◌, IfOk, None, Some, map, true};
 ghost use Rattle.interpolator_syntax.specs.Faults.{result_answer};
 ghost use Rattle.interpolator_syntax.specs.Nodes.{no_nodes};
+ghost use Rattle.interpolator_eval.specs.Escaping.{shows_by};
 ghost use Rattle.interpolator_eval.specs.Meaning.CodeEnvironments.{environment_of};
 ghost use Rattle.interpolator_eval.specs.Meaning.Lists.{padded_list_means};
 ghost use Rattle.interpolator_eval.specs.Meaning.Meanings.{forest_means};
@@ -17,6 +18,7 @@ ghost use Rattle.interpolator_eval.specs.Meaning.Work.{forest_work};
 ghost use Rattle.interpolator_eval.specs.Slots.{slots_of};
 
 use crate::context::Context;
+use crate::escaper::Escaper;
 use crate::evaluate::environment::Environment;
 use crate::evaluate::sink::Sink;
 use crate::evaluate::source::FormatSource;
@@ -30,21 +32,22 @@ use std::sync::ledger::{Blank, Ledger};
 
 /// Writes what the pieces of a source mean, for a caller that needs no count of them.
 #[inline(always)]
-pub fn write_uncounted<'a, W: TextWrite, C: Context, S: FormatSource>(
+pub fn write_uncounted<'a, W: TextWrite, C: Context, E: Escaper, S: FormatSource>(
     sink: &mut Sink<'_, W>,
     environment: &Environment<'a, C, C::Object>,
     source: S,
 ) -> Result<(), Error>
     ensures writes { Writes W.written
-        (forest_means C.Object.shows (environment_of C.finds environment.now) (S.tree source))
+        (forest_means (shows_by E.shown C.Object.shows) (environment_of C.finds environment.now)
+        (S.tree source))
         sink.old sink.new (result_answer result) }
 {
-    write_on::<W, C, S, Brand>(sink, environment, source, Blank::new(1))
+    write_on::<W, C, E, S, Brand>(sink, environment, source, Blank::new(1))
 }
 
 /// Writes what the pieces of a source mean, and counts from a blank ledger.
 #[inline(always)]
-fn write_on<'a, W: TextWrite, C: Context, S: FormatSource, L: Ledger>(
+fn write_on<'a, W: TextWrite, C: Context, E: Escaper, S: FormatSource, L: Ledger>(
     sink: &mut Sink<'_, W>,
     environment: &Environment<'a, C, C::Object>,
     source: S,
@@ -54,19 +57,20 @@ fn write_on<'a, W: TextWrite, C: Context, S: FormatSource, L: Ledger>(
     requires parts { blank.parts ≡ L.parts }
     requires some { 0 < blank.parts }
     ensures writes { Writes W.written
-        (forest_means C.Object.shows (environment_of C.finds environment.now) (S.tree source))
+        (forest_means (shows_by E.shown C.Object.shows) (environment_of C.finds environment.now)
+        (S.tree source))
         sink.old sink.new (result_answer result) }
 {
     let mut count = PieceCount::<L>::open(blank);
     let mut scratch = source.scratch_list();
-    write_source::<W, C, S, L>(sink, environment, source, &mut scratch, &mut count)
+    write_source::<W, C, E, S, L>(sink, environment, source, &mut scratch, &mut count)
 }
 
 /// Writes what the pieces of a source mean, in order, and counts those that it goes through. Each
 /// list that is met is stored in `scratch`, which is made once for all items of a list, since
 /// making it zeroes it.
 #[cycle(evaluate)]
-pub fn write_source<'a, W: TextWrite, C: Context, S: FormatSource, L: Ledger>(
+pub fn write_source<'a, W: TextWrite, C: Context, E: Escaper, S: FormatSource, L: Ledger>(
     sink: &mut Sink<'_, W>,
     environment: &Environment<'a, C, C::Object>,
     source: S,
@@ -74,16 +78,18 @@ pub fn write_source<'a, W: TextWrite, C: Context, S: FormatSource, L: Ledger>(
     count: &mut PieceCount<L>,
 ) -> Result<(), Error>
     ensures writes { Writes W.written
-        (forest_means C.Object.shows (environment_of C.finds environment.now) (S.tree source))
+        (forest_means (shows_by E.shown C.Object.shows) (environment_of C.finds environment.now)
+        (S.tree source))
         sink.old sink.new (result_answer result) }
-    ensures gone { count.new ≤ count.old + (forest_work C.Object.shows
+    ensures gone { count.new ≤ count.old + (forest_work (shows_by E.shown C.Object.shows)
         (environment_of C.finds environment.now) (S.tree source)).pieces }
-    ensures exact { IfOk result (λ _. count.new ≡ count.old + (forest_work C.Object.shows
+    ensures exact { IfOk result (λ _. count.new ≡ count.old + (forest_work
+        (shows_by E.shown C.Object.shows)
         (environment_of C.finds environment.now) (S.tree source)).pieces) }
 {
     let mut here = source;
-    while here.write_to_list(sink, environment, scratch, count)? {
-        here = write_argument::<W, C, S, L>(sink, environment, scratch, count)?;
+    while here.write_to_list::<W, C, E, L>(sink, environment, scratch, count)? {
+        here = write_argument::<W, C, E, S, L>(sink, environment, scratch, count)?;
     }
     Ok(())
 }
@@ -91,7 +97,7 @@ pub fn write_source<'a, W: TextWrite, C: Context, S: FormatSource, L: Ledger>(
 /// Writes the list that was met, and returns what follows the closing brace of its argument.
 #[cycle(evaluate)]
 #[inline(always)]
-fn write_argument<'a, W: TextWrite, C: Context, S: FormatSource, L: Ledger>(
+fn write_argument<'a, W: TextWrite, C: Context, E: Escaper, S: FormatSource, L: Ledger>(
     sink: &mut Sink<'_, W>,
     environment: &Environment<'a, C, C::Object>,
     list: &S::List,
@@ -99,16 +105,18 @@ fn write_argument<'a, W: TextWrite, C: Context, S: FormatSource, L: Ledger>(
 ) -> Result<S, Error>
     requires met { S.is_met list.now }
     ensures writes { Writes W.written
-        (list_with_brace C.Object.shows (environment_of C.finds environment.now) (S.asks list.now)
+        (list_with_brace (shows_by E.shown C.Object.shows) (environment_of C.finds environment.now)
+        (S.asks list.now)
         (S.follows list.now))
         sink.old sink.new (result_answer result) }
     ensures rest { IfOk result (λ rest. S.follows list.now ≡ Some (S.tree rest)) }
-    ensures gone { count.new ≤ count.old + (list_work C.Object.shows
+    ensures gone { count.new ≤ count.old + (list_work (shows_by E.shown C.Object.shows)
         (environment_of C.finds environment.now) (S.asks list.now)).pieces }
-    ensures exact { IfOk result (λ _. count.new ≡ count.old + (list_work C.Object.shows
+    ensures exact { IfOk result (λ _. count.new ≡ count.old + (list_work
+        (shows_by E.shown C.Object.shows)
         (environment_of C.finds environment.now) (S.asks list.now)).pieces) }
 {
-    write_list::<W, C, S, L>(sink, environment, list, count)?;
+    write_list::<W, C, E, S, L>(sink, environment, list, count)?;
     match S::rest(list) {
         Some(rest) => Ok(rest),
         None => Err(Error::Parse(ParseError::Expected("}", S::end(list)))),
@@ -118,7 +126,7 @@ fn write_argument<'a, W: TextWrite, C: Context, S: FormatSource, L: Ledger>(
 /// Writes the list that was met.
 #[cycle(evaluate)]
 #[inline(never)]
-fn write_list<'a, W: TextWrite, C: Context, S: FormatSource, L: Ledger>(
+fn write_list<'a, W: TextWrite, C: Context, E: Escaper, S: FormatSource, L: Ledger>(
     sink: &mut Sink<'_, W>,
     environment: &Environment<'a, C, C::Object>,
     list: &S::List,
@@ -126,24 +134,26 @@ fn write_list<'a, W: TextWrite, C: Context, S: FormatSource, L: Ledger>(
 ) -> Result<(), Error>
     requires met { S.is_met list.now }
     ensures writes { Writes W.written
-        (list_meaning C.Object.shows (environment_of C.finds environment.now) (S.asks list.now))
+        (list_meaning (shows_by E.shown C.Object.shows) (environment_of C.finds environment.now)
+        (S.asks list.now))
         sink.old sink.new (result_answer result) }
-    ensures gone { count.new ≤ count.old + (list_work C.Object.shows
+    ensures gone { count.new ≤ count.old + (list_work (shows_by E.shown C.Object.shows)
         (environment_of C.finds environment.now) (S.asks list.now)).pieces }
-    ensures exact { IfOk result (λ _. count.new ≡ count.old + (list_work C.Object.shows
+    ensures exact { IfOk result (λ _. count.new ≡ count.old + (list_work
+        (shows_by E.shown C.Object.shows)
         (environment_of C.finds environment.now) (S.asks list.now)).pieces) }
 {
     let items = S::items(list, environment)?;
     if S::has_width(list) {
-        write_padded_list::<W, C, S, L>(sink, environment, list, items, count)
+        write_padded_list::<W, C, E, S, L>(sink, environment, list, items, count)
     } else {
-        write_items::<W, C, S, L>(sink, environment, list, items, count)
+        write_items::<W, C, E, S, L>(sink, environment, list, items, count)
     }
 }
 
 /// Makes the text of the items in a buffer, and then writes it padded to the width.
 #[cycle(evaluate)]
-fn write_padded_list<'a, W: TextWrite, C: Context, S: FormatSource, L: Ledger>(
+fn write_padded_list<'a, W: TextWrite, C: Context, E: Escaper, S: FormatSource, L: Ledger>(
     sink: &mut Sink<'_, W>,
     environment: &Environment<'a, C, C::Object>,
     list: &S::List,
@@ -154,17 +164,21 @@ fn write_padded_list<'a, W: TextWrite, C: Context, S: FormatSource, L: Ledger>(
     requires no_precision { (S.asks list.now).spec.precision ≡ None }
     ensures writes { Writes W.written
         (padded_list_means (S.asks list.now).spec (S.asks list.now).end
-        (list_items C.Object.shows (environment_of C.finds environment.now) (S.asks list.now)
+        (list_items (shows_by E.shown C.Object.shows) (environment_of C.finds environment.now)
+        (S.asks list.now)
         (map slots_of items.now)))
         sink.old sink.new (result_answer result) }
-    ensures gone { count.new ≤ count.old + (list_items_work C.Object.shows
-        (environment_of C.finds environment.now) (S.asks list.now) (map slots_of items.now)).pieces }
-    ensures exact { IfOk result (λ _. count.new ≡ count.old + (list_items_work C.Object.shows
-        (environment_of C.finds environment.now) (S.asks list.now) (map slots_of items.now)).pieces) }
+    ensures gone { count.new ≤ count.old + (list_items_work (shows_by E.shown C.Object.shows)
+        (environment_of C.finds environment.now) (S.asks list.now)
+        (map slots_of items.now)).pieces }
+    ensures exact { IfOk result (λ _. count.new ≡ count.old + (list_items_work
+        (shows_by E.shown C.Object.shows)
+        (environment_of C.finds environment.now) (S.asks list.now)
+        (map slots_of items.now)).pieces) }
 {
     let mut made = list_buffer(sink, environment);
     let mut inner: Sink<'_, W> = Sink::Buffer(&mut made);
-    let answer = write_items::<W, C, S, L>(&mut inner, environment, list, items, count);
+    let answer = write_items::<W, C, E, S, L>(&mut inner, environment, list, items, count);
     match inner {
         Sink::Writer(_) => unreachable!(),
         Sink::Buffer(buffer) => {
@@ -180,7 +194,7 @@ fn write_padded_list<'a, W: TextWrite, C: Context, S: FormatSource, L: Ledger>(
 
 /// Writes items of a list, with the join between two of them.
 #[cycle(evaluate)]
-fn write_items<'a, W: TextWrite, C: Context, S: FormatSource, L: Ledger>(
+fn write_items<'a, W: TextWrite, C: Context, E: Escaper, S: FormatSource, L: Ledger>(
     sink: &mut Sink<'_, W>,
     environment: &Environment<'a, C, C::Object>,
     list: &S::List,
@@ -189,29 +203,33 @@ fn write_items<'a, W: TextWrite, C: Context, S: FormatSource, L: Ledger>(
 ) -> Result<(), Error>
     requires met { S.is_met list.now }
     ensures writes { Writes W.written
-        (list_items C.Object.shows (environment_of C.finds environment.now) (S.asks list.now)
+        (list_items (shows_by E.shown C.Object.shows) (environment_of C.finds environment.now)
+        (S.asks list.now)
         (map slots_of items.now))
         sink.old sink.new (result_answer result) }
-    ensures gone { count.new ≤ count.old + (list_items_work C.Object.shows
-        (environment_of C.finds environment.now) (S.asks list.now) (map slots_of items.now)).pieces }
-    ensures exact { IfOk result (λ _. count.new ≡ count.old + (list_items_work C.Object.shows
-        (environment_of C.finds environment.now) (S.asks list.now) (map slots_of items.now)).pieces) }
+    ensures gone { count.new ≤ count.old + (list_items_work (shows_by E.shown C.Object.shows)
+        (environment_of C.finds environment.now) (S.asks list.now)
+        (map slots_of items.now)).pieces }
+    ensures exact { IfOk result (λ _. count.new ≡ count.old + (list_items_work
+        (shows_by E.shown C.Object.shows)
+        (environment_of C.finds environment.now) (S.asks list.now)
+        (map slots_of items.now)).pieces) }
 {
     let Some((first, rest)) = items.split_first() else {
         return Ok(());
     };
     let mut scratch = *list;
-    write_item::<W, C, S, L>(sink, environment, list, first, &mut scratch, count)?;
+    write_item::<W, C, E, S, L>(sink, environment, list, first, &mut scratch, count)?;
     for item in rest {
-        write_join::<W, C, S, L>(sink, environment, list, &mut scratch, count)?;
-        write_item::<W, C, S, L>(sink, environment, list, item, &mut scratch, count)?;
+        write_join::<W, C, E, S, L>(sink, environment, list, &mut scratch, count)?;
+        write_item::<W, C, E, S, L>(sink, environment, list, item, &mut scratch, count)?;
     }
     Ok(())
 }
 
 /// Writes one item of a list. `scratch` is for lists in the item format.
 #[cycle(evaluate)]
-fn write_item<'a, W: TextWrite, C: Context, S: FormatSource, L: Ledger>(
+fn write_item<'a, W: TextWrite, C: Context, E: Escaper, S: FormatSource, L: Ledger>(
     sink: &mut Sink<'_, W>,
     environment: &Environment<'a, C, C::Object>,
     list: &S::List,
@@ -221,22 +239,24 @@ fn write_item<'a, W: TextWrite, C: Context, S: FormatSource, L: Ledger>(
 ) -> Result<(), Error>
     requires met { S.is_met list.now }
     ensures writes { Writes W.written
-        (list_item C.Object.shows (environment_of C.finds environment.now) (S.asks list.now)
+        (list_item (shows_by E.shown C.Object.shows) (environment_of C.finds environment.now)
+        (S.asks list.now)
         (slots_of item.now))
         sink.old sink.new (result_answer result) }
-    ensures gone { count.new ≤ count.old + (list_item_work C.Object.shows
+    ensures gone { count.new ≤ count.old + (list_item_work (shows_by E.shown C.Object.shows)
         (environment_of C.finds environment.now) (S.asks list.now) (slots_of item.now)).pieces }
-    ensures exact { IfOk result (λ _. count.new ≡ count.old + (list_item_work C.Object.shows
+    ensures exact { IfOk result (λ _. count.new ≡ count.old + (list_item_work
+        (shows_by E.shown C.Object.shows)
         (environment_of C.finds environment.now) (S.asks list.now) (slots_of item.now)).pieces) }
 {
     match S::item(list) {
         Some(format) => {
             count_empty(format, count);
-            write_source::<W, C, S, L>(sink, &environment.bind(item), format, scratch, count)
+            write_source::<W, C, E, S, L>(sink, &environment.bind(item), format, scratch, count)
         }
         None => {
             count.tick();
-            write_plain_item(sink, item, S::end(list))
+            write_plain_item::<W, C::Object, E>(sink, item, S::end(list))
         }
     }
 }
@@ -254,7 +274,7 @@ fn count_empty<S: FormatSource, L: Ledger>(format: S, count: &mut PieceCount<L>)
 
 /// Writes what comes between two items. `scratch` is for lists in the join.
 #[cycle(evaluate)]
-fn write_join<'a, W: TextWrite, C: Context, S: FormatSource, L: Ledger>(
+fn write_join<'a, W: TextWrite, C: Context, E: Escaper, S: FormatSource, L: Ledger>(
     sink: &mut Sink<'_, W>,
     environment: &Environment<'a, C, C::Object>,
     list: &S::List,
@@ -263,15 +283,17 @@ fn write_join<'a, W: TextWrite, C: Context, S: FormatSource, L: Ledger>(
 ) -> Result<(), Error>
     requires met { S.is_met list.now }
     ensures writes { Writes W.written
-        (list_join C.Object.shows (environment_of C.finds environment.now) (S.asks list.now))
+        (list_join (shows_by E.shown C.Object.shows) (environment_of C.finds environment.now)
+        (S.asks list.now))
         sink.old sink.new (result_answer result) }
-    ensures gone { count.new ≤ count.old + (list_join_work C.Object.shows
+    ensures gone { count.new ≤ count.old + (list_join_work (shows_by E.shown C.Object.shows)
         (environment_of C.finds environment.now) (S.asks list.now)).pieces }
-    ensures exact { IfOk result (λ _. count.new ≡ count.old + (list_join_work C.Object.shows
+    ensures exact { IfOk result (λ _. count.new ≡ count.old + (list_join_work
+        (shows_by E.shown C.Object.shows)
         (environment_of C.finds environment.now) (S.asks list.now)).pieces) }
 {
     match S::join(list) {
-        Some(format) => { write_source::<W, C, S, L>(sink, environment, format, scratch, count) }
+        Some(format) => { write_source::<W, C, E, S, L>(sink, environment, format, scratch, count) }
         None => Ok(()),
     }
 }

@@ -7,13 +7,24 @@ ghost use Rattle.interpolator_syntax.specs.Arguments.{argument_at, argument_afte
 ghost use Rattle.interpolator_syntax.specs.Arguments.{plain_argument, named_argument, request_of};
 ghost use Rattle.interpolator_syntax.specs.Faults.{result_answer};
 ghost use Rattle.interpolator_syntax.specs.Groups.{group_of};
-ghost use Rattle.interpolator_syntax.specs.Nodes.{as_forest, group_branch, no_nodes, nodes, nodes_and};
+ghost use Rattle.interpolator_syntax.specs.Nodes.{
+  as_forest,
+  group_branch,
+  no_nodes,
+  nodes,
+  nodes_and,
+};
 ghost use Rattle.interpolator_syntax.specs.Nodes.{token_node};
 ghost use Rattle.interpolator_syntax.specs.Pieces.{argument_from};
 ghost use Rattle.interpolator_syntax.specs.Tokens.{argument as argument_token};
+ghost use Rattle.interpolator_eval.specs.Escaping.{shows_by};
 ghost use Rattle.interpolator_eval.specs.Meaning.CodeEnvironments.{environment_of};
 ghost use Rattle.interpolator_eval.specs.Meaning.Meanings.{argument_means, forest_means};
-ghost use Rattle.interpolator_eval.specs.Meaning.ScannedLists.{ArgumentTold, ListPlace, scanned_list};
+ghost use Rattle.interpolator_eval.specs.Meaning.ScannedLists.{
+  ArgumentTold,
+  ListPlace,
+  scanned_list,
+};
 ghost use Rattle.interpolator_eval.specs.Meaning.ScannedLists.{scanned_rest, text_forest};
 ghost use Rattle.interpolator_eval.specs.Meaning.Sinks.{Writes};
 ghost use Rattle.interpolator_eval.specs.Meaning.Sources.{FirstAsks, Met, asks_list, before_list};
@@ -22,6 +33,7 @@ ghost use Rattle.interpolator_eval.specs.Meaning.Sources.{unlisted_means, with_b
 ghost use Rattle.interpolator_eval.specs.Meaning.Work.{forest_work};
 
 use crate::context::Context;
+use crate::escaper::Escaper;
 use crate::evaluate::environment::Environment;
 use crate::evaluate::sink::Sink;
 use crate::evaluate::source::FormatSource;
@@ -79,14 +91,14 @@ impl<'t> FormatSource for Cursor<'t> {
     }
 
     #[inline(always)]
-    fn write_to_list<'a, W: TextWrite, C: Context, L: Ledger>(
+    fn write_to_list<'a, W: TextWrite, C: Context, E: Escaper, L: Ledger>(
         &self,
         sink: &mut Sink<'_, W>,
         environment: &Environment<'a, C, C::Object>,
         list: &mut ScannedList<'t>,
         count: &mut PieceCount<L>,
     ) -> Result<bool, Error> {
-        write_tokens::<W, C, L, WholeText>(sink, environment, *self, list, count)
+        write_tokens::<W, C, E, L, WholeText>(sink, environment, *self, list, count)
     }
 
     #[inline(always)]
@@ -140,23 +152,23 @@ impl<'t> FormatSource for Cursor<'t> {
 
 /// Writes what a text means up to its first list, and returns the place where that begins, if there
 /// is one.
-pub fn write_before_list<'a, W: TextWrite, C: Context>(
+pub fn write_before_list<'a, W: TextWrite, C: Context, E: Escaper>(
     sink: &mut Sink<'_, W>,
     environment: &Environment<'a, C, C::Object>,
     text: Cursor<'_>,
 ) -> Result<Option<usize>, Error>
     ensures writes { Writes W.written
-        (forest_means C.Object.shows (environment_of C.finds environment.now)
+        (forest_means (shows_by E.shown C.Object.shows) (environment_of C.finds environment.now)
         (before_list (text_forest (at text.entry))))
         sink.old sink.new (result_answer result) }
     ensures list { IfOk result (λ place. ListPlace (at text.entry) place) }
 {
-    write_before_list_on::<W, C, Brand>(sink, environment, text, Blank::new(1))
+    write_before_list_on::<W, C, E, Brand>(sink, environment, text, Blank::new(1))
 }
 
 /// Does what [`write_before_list`] does, and counts from a blank ledger.
 #[inline(always)]
-fn write_before_list_on<'a, W: TextWrite, C: Context, L: Ledger>(
+fn write_before_list_on<'a, W: TextWrite, C: Context, E: Escaper, L: Ledger>(
     sink: &mut Sink<'_, W>,
     environment: &Environment<'a, C, C::Object>,
     text: Cursor<'_>,
@@ -166,14 +178,14 @@ fn write_before_list_on<'a, W: TextWrite, C: Context, L: Ledger>(
     requires parts { blank.parts ≡ L.parts }
     requires some { 0 < blank.parts }
     ensures writes { Writes W.written
-        (forest_means C.Object.shows (environment_of C.finds environment.now)
+        (forest_means (shows_by E.shown C.Object.shows) (environment_of C.finds environment.now)
         (before_list (text_forest (at text.entry))))
         sink.old sink.new (result_answer result) }
     ensures list { IfOk result (λ place. ListPlace (at text.entry) place) }
 {
     let mut count = PieceCount::<L>::open(blank);
     let mut list = text.scratch_list();
-    if write_tokens::<W, C, L, BeforeList>(sink, environment, text, &mut list, &mut count)? {
+    if write_tokens::<W, C, E, L, BeforeList>(sink, environment, text, &mut list, &mut count)? {
         return Ok(Some(list.start - 1));
     }
     Ok(None)
@@ -193,7 +205,7 @@ fn group_start(group: Option<Group<'_>>) -> Option<Cursor<'_>>
 
 /// Writes what a text means up to its first list, token by token, and returns whether there is one.
 #[inline(always)]
-fn write_tokens<'t, 'a, W: TextWrite, C: Context, L: Ledger, Loop>(
+fn write_tokens<'t, 'a, W: TextWrite, C: Context, E: Escaper, L: Ledger, Loop>(
     sink: &mut Sink<'_, W>,
     environment: &Environment<'a, C, C::Object>,
     text: Cursor<'t>,
@@ -201,15 +213,16 @@ fn write_tokens<'t, 'a, W: TextWrite, C: Context, L: Ledger, Loop>(
     count: &mut PieceCount<L>,
 ) -> Result<bool, Error>
     ensures writes { Writes W.written
-        (forest_means C.Object.shows (environment_of C.finds environment.now)
+        (forest_means (shows_by E.shown C.Object.shows) (environment_of C.finds environment.now)
         (before_list (text_forest (at text.entry))))
         sink.old sink.new (result_answer result) }
     ensures met { IfOk result (λ met. Met met ⊤ (scanned_list list.new) (scanned_rest list.new)
         (from_list (text_forest (at text.entry)))) }
-    ensures gone { count.new ≤ count.old + ((forest_work C.Object.shows
+    ensures gone { count.new ≤ count.old + ((forest_work (shows_by E.shown C.Object.shows)
         (environment_of C.finds environment.now) (before_list (text_forest (at text.entry)))).pieces
         + met_pieces result) }
-    ensures exact { IfOk result (λ _. count.new ≡ count.old + ((forest_work C.Object.shows
+    ensures exact { IfOk result (λ _. count.new ≡ count.old + ((forest_work
+        (shows_by E.shown C.Object.shows)
         (environment_of C.finds environment.now) (before_list (text_forest (at text.entry)))).pieces
         + met_pieces result)) }
 {
@@ -229,7 +242,12 @@ fn write_tokens<'t, 'a, W: TextWrite, C: Context, L: Ledger, Loop>(
                 sink.put_char('}', here.place)?;
                 rest
             }
-            Token::Argument => match write_argument::<W, C, Loop>(sink, environment, rest, list)? {
+            Token::Argument => match write_argument::<W, C, E, Loop>(
+                sink,
+                environment,
+                rest,
+                list,
+            )? {
                 Some(after) => after,
                 None => return Ok(true),
             },
@@ -244,14 +262,14 @@ fn write_tokens<'t, 'a, W: TextWrite, C: Context, L: Ledger, Loop>(
 ///
 /// A name alone has a function of its own, in which the compiler knows the trait and the spec.
 #[inline(always)]
-fn write_argument<'t, 'a, W: TextWrite, C: Context, Loop>(
+fn write_argument<'t, 'a, W: TextWrite, C: Context, E: Escaper, Loop>(
     sink: &mut Sink<'_, W>,
     environment: &Environment<'a, C, C::Object>,
     here: Cursor<'t>,
     list: &mut ScannedList<'t>,
 ) -> Result<Option<Cursor<'t>>, Error>
     ensures writes { (p : ℕ) → Writes W.written
-        (unlisted_means C.Object.shows (environment_of C.finds environment.now)
+        (unlisted_means (shows_by E.shown C.Object.shows) (environment_of C.finds environment.now)
         (token_node nodes p argument_token (at here.entry)))
         sink.old sink.new (result_answer result) }
     ensures rest { (p : ℕ) → IfOk result (λ told. ArgumentTold p (at here.entry) list.new told) }
@@ -259,10 +277,16 @@ fn write_argument<'t, 'a, W: TextWrite, C: Context, Loop>(
     let named = take_name(here);
     match named.end.strip(b'}') {
         Some(after) => {
-            write_plain_value(sink, environment, here.place, named.name, named.end.place)?;
+            write_plain_value::<W, C, E>(
+                sink,
+                environment,
+                here.place,
+                named.name,
+                named.end.place,
+            )?;
             Ok(Some(after))
         }
-        None => write_asked(sink, environment, here, named, list),
+        None => write_asked::<W, C, E>(sink, environment, here, named, list),
     }
 }
 
@@ -270,7 +294,7 @@ fn write_argument<'t, 'a, W: TextWrite, C: Context, Loop>(
 /// Returns the text after its closing brace. If the argument is a list, nothing is written; it is
 /// stored in `list`, and the result is `None`.
 #[inline(always)]
-fn write_asked<'t, 'a, W: TextWrite, C: Context>(
+fn write_asked<'t, 'a, W: TextWrite, C: Context, E: Escaper>(
     sink: &mut Sink<'_, W>,
     environment: &Environment<'a, C, C::Object>,
     here: Cursor<'t>,
@@ -281,7 +305,7 @@ fn write_asked<'t, 'a, W: TextWrite, C: Context>(
     requires named { argument_at (at here)
         ≡ argument_after here.place (plain_argument named) (at named.end) }
     ensures writes { (p : ℕ) → Writes W.written
-        (unlisted_means C.Object.shows (environment_of C.finds environment.now)
+        (unlisted_means (shows_by E.shown C.Object.shows) (environment_of C.finds environment.now)
         (token_node nodes p argument_token (at here.entry)))
         sink.old sink.new (result_answer result) }
     ensures rest { (p : ℕ) → IfOk result (λ told. ArgumentTold p (at here.entry) list.new told) }
@@ -302,14 +326,14 @@ fn write_asked<'t, 'a, W: TextWrite, C: Context>(
         return Ok(None);
     }
     let read = ArgumentName { end, ..named };
-    let after = write_closed(sink, environment, here.place, read, &asked)?;
+    let after = write_closed::<W, C, E>(sink, environment, here.place, read, &asked)?;
     Ok(Some(after))
 }
 
 /// Writes the value under a name, for an argument that starts at `start`; `named.end` is the text
 /// after its spec. Returns the text after its closing brace.
 #[inline(always)]
-fn write_closed<'t, 'a, W: TextWrite, C: Context>(
+fn write_closed<'t, 'a, W: TextWrite, C: Context, E: Escaper>(
     sink: &mut Sink<'_, W>,
     environment: &Environment<'a, C, C::Object>,
     start: usize,
@@ -319,7 +343,7 @@ fn write_closed<'t, 'a, W: TextWrite, C: Context>(
     requires value { asked.now.slot ≢ Iter }
     ensures writes { let end = at named.entry.end in Writes W.written
         (with_brace (strip close_brace end) end.place
-        (argument_means C.Object.shows (environment_of C.finds environment.now)
+        (argument_means (shows_by E.shown C.Object.shows) (environment_of C.finds environment.now)
         start (named_argument named.entry (request_of asked.now)) end.place))
         sink.old sink.new (result_answer result) }
     ensures rest { IfOk result (λ r. strip close_brace (at named.entry.end) ≡ Some (at r)) }
@@ -329,7 +353,7 @@ fn write_closed<'t, 'a, W: TextWrite, C: Context>(
         name: named.name,
         end: named.end.place,
     };
-    write_value(sink, environment, look_up, asked.slot, &asked.spec)?;
+    write_value::<W, C, E>(sink, environment, look_up, asked.slot, &asked.spec)?;
     match named.end.strip(b'}') {
         Some(after) => Ok(after),
         None => Err(Error::Parse(ParseError::Expected("}", named.end.place))),

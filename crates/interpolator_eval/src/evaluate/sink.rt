@@ -10,6 +10,7 @@ ghost use Rattle.interpolator_render.specs.Written.{Written};
 ghost use Rattle.interpolator_syntax.specs.At.{placed_at, placed_from};
 ghost use Rattle.interpolator_syntax.specs.Faults.{answer_of};
 ghost use Rattle.interpolator_syntax.specs.SpecTexts.{plain_spec};
+ghost use Rattle.interpolator_eval.specs.Escaping.{shows_by};
 ghost use Rattle.interpolator_eval.specs.Meaning.Meanings.{text_alone, view_means, value_means};
 ghost use Rattle.interpolator_eval.specs.Meaning.Outcomes.{Outcome};
 ghost use Rattle.interpolator_eval.specs.Meaning.Sinks.{HasRoom, IsWriter, Writes, write_answered};
@@ -17,9 +18,8 @@ ghost use Rattle.interpolator_eval.specs.declared.evaluate.sink.Sink.TheVariants
 ghost use Rattle.interpolator_eval.specs.Meaning.Sinks.{write_fault_answer};
 ghost use Rattle.interpolator_render.specs.declared.view.RenderFault.TheVariants.{NotImplemented};
 
-use interpolator_render::{
-    Bounded, RenderFault, Spec, TextWrite, Trait, Value, View, pad, render, render_plainly,
-};
+use crate::escaper::Escaper;
+use interpolator_render::{Bounded, RenderFault, Spec, TextWrite, Trait, Value, View, pad};
 use interpolator_syntax::Error;
 use std::fmt;
 
@@ -103,7 +103,7 @@ fn fault_at(fault: RenderFault, wanted: Trait, place: usize) -> WriteFault
 
 /// Writes a view, with all its characters at one place.
 #[inline(always)]
-fn write_view<W: TextWrite>(
+fn write_view<W: TextWrite, E: Escaper>(
     out: &mut W,
     view: View<'_>,
     wanted: Trait,
@@ -112,59 +112,30 @@ fn write_view<W: TextWrite>(
 ) -> Result<(), WriteFault>
     requires in_range { IsInRange (shown_by view) }
     ensures outcome { Outcome
-        (view_means wanted place (view_text (shown_by view.entry) wanted spec.now))
+        (view_means wanted place
+        (view_text (E.shown (shown_by view.entry) wanted spec.now) wanted spec.now))
         (W.written out.old) (W.written out.new) (write_answered result) }
 {
-    match render(out, view, wanted, spec) {
+    match E::put(out, view, wanted, spec) {
         Ok(()) => Ok(()),
         Err(fault) => Err(fault_at(fault, wanted, place)),
     }
 }
 
-/// Writes a view displayed plainly, with all its characters at one place. A text is written as it
-/// is, which saves making a spec.
+/// Writes a view displayed plainly, with all its characters at one place.
 #[inline(always)]
-fn write_plain_view<W: TextWrite>(
+fn write_plain_view<W: TextWrite, E: Escaper>(
     out: &mut W,
     view: View<'_>,
     place: usize,
 ) -> Result<(), WriteFault>
     requires in_range { IsInRange (shown_by view) }
     ensures outcome { Outcome
-        (view_means Display place (view_text (shown_by view.entry) Display plain_spec))
+        (view_means Display place
+        (view_text (E.shown (shown_by view.entry) Display plain_spec) Display plain_spec))
         (W.written out.old) (W.written out.new) (write_answered result) }
 {
-    match view {
-        View::Text(text) => write_text_at(out, text, place),
-        _ => write_displayed(out, view, place),
-    }
-}
-
-/// Writes a text, with all its characters at one place.
-#[inline(always)]
-fn write_text_at<W: TextWrite>(out: &mut W, text: &str, place: usize) -> Result<(), WriteFault>
-    ensures outcome { Outcome (text_alone (placed_at place (chars text.now)))
-        (W.written out.old) (W.written out.new) (write_answered result) }
-{
-    match out.write_str(text) {
-        Ok(()) => Ok(()),
-        Err(_) => Err(WriteFault::Fmt(place)),
-    }
-}
-
-/// Writes a view displayed plainly.
-#[inline(always)]
-fn write_displayed<W: TextWrite>(
-    out: &mut W,
-    view: View<'_>,
-    place: usize,
-) -> Result<(), WriteFault>
-    requires in_range { IsInRange (shown_by view) }
-    ensures outcome { Outcome
-        (view_means Display place (view_text (shown_by view.entry) Display plain_spec))
-        (W.written out.old) (W.written out.new) (write_answered result) }
-{
-    match render_plainly(out, view) {
+    match E::put_plainly(out, view) {
         Ok(()) => Ok(()),
         Err(fault) => Err(fault_at(fault, Trait::Display, place)),
     }
@@ -189,7 +160,7 @@ fn write_padded<W: TextWrite>(
 
 /// Writes the value in a slot, under a trait and a spec, with all its characters at one place.
 #[inline(always)]
-pub fn write_shown<W: TextWrite, V: Value>(
+pub fn write_shown<W: TextWrite, V: Value, E: Escaper>(
     out: &mut W,
     value: Option<&V>,
     wanted: Trait,
@@ -197,44 +168,49 @@ pub fn write_shown<W: TextWrite, V: Value>(
     place: usize,
 ) -> Result<(), WriteFault>
     ensures outcome { Outcome
-        (value_means V.shows wanted spec.now place (option_copied value.entry))
+        (value_means (shows_by E.shown V.shows) wanted spec.now place
+        (option_copied value.entry))
         (W.written out.old) (W.written out.new) (write_answered result) }
 {
     let Some(value) = value else {
         return Err(fault_at(RenderFault::NotImplemented, wanted, place));
     };
-    write_view(out, value.view(wanted, spec), wanted, spec, place)
+    write_view::<W, E>(out, value.view(wanted, spec), wanted, spec, place)
 }
 
 /// Writes the value in a slot, displayed plainly, with all its characters at one place.
 #[inline(always)]
-pub fn write_plain<W: TextWrite, V: Value>(
+pub fn write_plain<W: TextWrite, V: Value, E: Escaper>(
     out: &mut W,
     value: Option<&V>,
     place: usize,
 ) -> Result<(), WriteFault>
-    ensures outcome { Outcome (value_means V.shows Display plain_spec place (option_copied value.entry))
+    ensures outcome { Outcome
+        (value_means (shows_by E.shown V.shows) Display plain_spec place
+        (option_copied value.entry))
         (W.written out.old) (W.written out.new) (write_answered result) }
 {
     let Some(value) = value else {
         return Err(fault_at(RenderFault::NotImplemented, Trait::Display, place));
     };
     let view = value.view(Trait::Display, &Spec::default());
-    write_plain_view(out, view, place)
+    write_plain_view::<W, E>(out, view, place)
 }
 
 /// As [`write_plain`], by a call. A buffer is for lists under a width alone, and the code for it would
 /// make that of each other list longer.
 #[inline(never)]
-fn write_plain_apart<W: TextWrite, V: Value>(
+fn write_plain_apart<W: TextWrite, V: Value, E: Escaper>(
     out: &mut W,
     value: Option<&V>,
     place: usize,
 ) -> Result<(), WriteFault>
-    ensures outcome { Outcome (value_means V.shows Display plain_spec place (option_copied value.entry))
+    ensures outcome { Outcome
+        (value_means (shows_by E.shown V.shows) Display plain_spec place
+        (option_copied value.entry))
         (W.written out.old) (W.written out.new) (write_answered result) }
 {
-    write_plain(out, value, place)
+    write_plain::<W, V, E>(out, value, place)
 }
 
 /// Where text goes: to the writer, or into a buffer, for a list that is padded when it is whole.
@@ -309,7 +285,7 @@ impl<'s, W: TextWrite> Sink<'s, W> {
 
     /// Writes the value in a slot, under a trait and a spec, with all its characters at one place.
     #[inline(always)]
-    pub fn put_value<V: Value>(
+    pub fn put_value<V: Value, E: Escaper>(
         &mut self,
         value: Option<&V>,
         wanted: Trait,
@@ -317,25 +293,33 @@ impl<'s, W: TextWrite> Sink<'s, W> {
         place: usize,
     ) -> Result<(), WriteFault>
         ensures writes { Writes W.written
-            (value_means V.shows wanted spec.now place (option_copied value.entry))
+            (value_means (shows_by E.shown V.shows) wanted spec.now place
+            (option_copied value.entry))
             self.old self.new (write_answered result) }
     {
         match self {
-            Sink::Writer(out) => write_shown(&mut **out, value, wanted, spec, place),
-            Sink::Buffer(buffer) => write_shown(&mut **buffer, value, wanted, spec, place),
+            Sink::Writer(out) => write_shown::<W, V, E>(&mut **out, value, wanted, spec, place),
+            Sink::Buffer(buffer) => {
+                write_shown::<Bounded, V, E>(&mut **buffer, value, wanted, spec, place)
+            }
         }
     }
 
     /// Writes the value in a slot, displayed plainly, with all its characters at one place.
     #[inline(always)]
-    pub fn put_plain<V: Value>(&mut self, value: Option<&V>, place: usize) -> Result<(), WriteFault>
+    pub fn put_plain<V: Value, E: Escaper>(
+        &mut self,
+        value: Option<&V>,
+        place: usize,
+    ) -> Result<(), WriteFault>
         ensures writes { Writes W.written
-            (value_means V.shows Display plain_spec place (option_copied value.entry))
+            (value_means (shows_by E.shown V.shows) Display plain_spec place
+            (option_copied value.entry))
             self.old self.new (write_answered result) }
     {
         match self {
-            Sink::Writer(out) => write_plain(&mut **out, value, place),
-            Sink::Buffer(buffer) => write_plain_apart(&mut **buffer, value, place),
+            Sink::Writer(out) => write_plain::<W, V, E>(&mut **out, value, place),
+            Sink::Buffer(buffer) => write_plain_apart::<Bounded, V, E>(&mut **buffer, value, place),
         }
     }
 }

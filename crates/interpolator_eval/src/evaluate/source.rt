@@ -3,16 +3,23 @@ ghost use Rattle.std.specs.Prelude.{◌≡◌, ◌+◌, ◌≤◌, Option, IfOk,
 ghost use Rattle.std.specs.Prelude.{false, is_some, map, option_map, true};
 ghost use Rattle.interpolator_syntax.specs.Faults.{result_answer};
 ghost use Rattle.interpolator_syntax.specs.Nodes.{Forest, no_nodes};
+ghost use Rattle.interpolator_eval.specs.Escaping.{shows_by};
 ghost use Rattle.interpolator_eval.specs.Slots.{slots_of};
 ghost use Rattle.interpolator_eval.specs.Meaning.CodeEnvironments.{environment_of};
 ghost use Rattle.interpolator_eval.specs.Meaning.Lists.{IsChosen, IsNotChosen, ChosenUnder};
 ghost use Rattle.interpolator_eval.specs.Meaning.Meanings.{forbids_list, forest_means};
 ghost use Rattle.interpolator_eval.specs.Meaning.Sinks.{Writes};
-ghost use Rattle.interpolator_eval.specs.Meaning.Sources.{ListArgument, Met, before_list, from_list};
+ghost use Rattle.interpolator_eval.specs.Meaning.Sources.{
+  ListArgument,
+  Met,
+  before_list,
+  from_list,
+};
 ghost use Rattle.interpolator_eval.specs.Meaning.Sources.{branch_of, first_holds, met_pieces};
 ghost use Rattle.interpolator_eval.specs.Meaning.Work.{forest_work};
 
 use crate::context::Context;
+use crate::escaper::Escaper;
 use crate::evaluate::environment::Environment;
 use crate::evaluate::sink::Sink;
 use crate::piece_count::PieceCount;
@@ -28,7 +35,7 @@ use std::sync::ledger::Ledger;
 /// [`write_source`](crate::write_source), which is the same for every source:
 ///
 /// ```text
-/// while here.write_to_list(sink, environment, &mut list, count)? {
+/// while here.write_to_list::<W, C, E, L>(sink, environment, &mut list, count)? {
 ///     ..                      // the items, by S::item(&list) and S::join(&list)
 ///     here = S::rest(&list)   // after the closing brace
 /// }
@@ -51,14 +58,15 @@ pub trait FormatSource: Copy {
 
     /// Returns whether nothing is left.
     fn is_empty(&self) -> bool
-        ensures { MatchBool result (tree self.now ≡ no_nodes) (first_holds (tree self.now) ≡ true) };
+        ensures { MatchBool result (tree self.now ≡ no_nodes) (first_holds (tree self.now)
+            ≡ true) };
 
     /// Returns a list argument that [`write_to_list`](FormatSource::write_to_list) may overwrite.
     fn scratch_list(&self) -> Self::List;
 
     /// Writes everything up to the first list, and returns whether there is one. Counts the pieces
     /// that it reaches, the list as one.
-    fn write_to_list<'a, W: TextWrite, C: Context, L: Ledger>(
+    fn write_to_list<'a, W: TextWrite, C: Context, E: Escaper, L: Ledger>(
         &self,
         sink: &mut Sink<'_, W>,
         environment: &Environment<'a, C, C::Object>,
@@ -66,15 +74,17 @@ pub trait FormatSource: Copy {
         count: &mut PieceCount<L>,
     ) -> Result<bool, Error>
         ensures writes { Writes W.written
-            (forest_means C.Object.shows (environment_of C.finds environment.now)
+            (forest_means (shows_by E.shown C.Object.shows) (environment_of C.finds environment.now)
             (before_list (tree self.now)))
             sink.old sink.new (result_answer result) }
-        ensures met { IfOk result (λ met. Met met (is_met list.new) (asks list.new) (follows list.new)
+        ensures met { IfOk result (λ met. Met met (is_met list.new) (asks list.new)
+            (follows list.new)
             (from_list (tree self.now))) }
-        ensures gone { count.new ≤ count.old + ((forest_work C.Object.shows
+        ensures gone { count.new ≤ count.old + ((forest_work (shows_by E.shown C.Object.shows)
             (environment_of C.finds environment.now) (before_list (tree self.now))).pieces
             + met_pieces result) }
-        ensures exact { IfOk result (λ _. count.new ≡ count.old + ((forest_work C.Object.shows
+        ensures exact { IfOk result (λ _. count.new ≡ count.old + ((forest_work
+            (shows_by E.shown C.Object.shows)
             (environment_of C.finds environment.now) (before_list (tree self.now))).pieces
             + met_pieces result)) };
 
@@ -85,7 +95,8 @@ pub trait FormatSource: Copy {
     ) -> Result<&'a [Formattable<'a, C::Object>], Error>
         requires met { is_met list.now }
         ensures chosen { let x = asks list.now in MatchResult result
-            (λ items. IsChosen (environment_of C.finds environment.now) x.name x.start x.range x.spec
+            (λ items. IsChosen (environment_of C.finds environment.now) x.name x.start x.range
+            x.spec
             x.end (map slots_of items.now))
             (λ error. IsNotChosen (environment_of C.finds environment.now) x.name x.start x.range
             x.spec x.end error) }

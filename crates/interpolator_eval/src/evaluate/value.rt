@@ -7,6 +7,7 @@ ghost use Rattle.interpolator_render.specs.Written.{plain};
 ghost use Rattle.interpolator_render.specs.declared.view.Trait.TheVariants.{Display};
 ghost use Rattle.interpolator_syntax.specs.Faults.{result_answer, fault, missing_value, no_memory};
 ghost use Rattle.interpolator_syntax.specs.SpecTexts.{plain_spec};
+ghost use Rattle.interpolator_eval.specs.Escaping.{shows_by};
 ghost use Rattle.interpolator_eval.specs.Meaning.Environments.{slots_under};
 ghost use Rattle.interpolator_eval.specs.Meaning.Lists.{IsChosen, IsNotChosen, ChosenUnder};
 ghost use Rattle.interpolator_eval.specs.Meaning.Meanings.{under_name, value_means, forbids_list};
@@ -15,6 +16,7 @@ ghost use Rattle.interpolator_eval.specs.Meaning.Sinks.{HasRoom, Writes};
 ghost use Rattle.interpolator_eval.specs.Slots.{slots_of, slot_at, values_of};
 
 use crate::context::Context;
+use crate::escaper::Escaper;
 use crate::evaluate::environment::Environment;
 use crate::evaluate::list::{choose, forbids_list};
 use crate::evaluate::sink::Sink;
@@ -49,7 +51,7 @@ fn refused<'a, C: Context>(
 
 /// Writes the value under a name.
 #[inline(always)]
-pub fn write_value<'a, W: TextWrite, C: Context>(
+pub fn write_value<'a, W: TextWrite, C: Context, E: Escaper>(
     sink: &mut Sink<'_, W>,
     environment: &Environment<'a, C, C::Object>,
     look_up: LookUp<'_>,
@@ -58,7 +60,7 @@ pub fn write_value<'a, W: TextWrite, C: Context>(
 ) -> Result<(), Error>
     ensures writes { let x = look_up.entry in Writes W.written
         (under_name (chars x.name.now) x.start
-        (λ found. value_means C.Object.shows wanted spec.now x.end
+        (λ found. value_means (shows_by E.shown C.Object.shows) wanted spec.now x.end
         (slot_at wanted (values_of found)))
         (slots_under (environment_of C.finds environment.now) (chars x.name.now)))
         sink.old sink.new (result_answer result) }
@@ -66,14 +68,14 @@ pub fn write_value<'a, W: TextWrite, C: Context>(
     let Some(value) = environment.value(look_up.name, wanted) else {
         return refused(environment, look_up.start, look_up.name);
     };
-    sink.put_value(value, wanted, spec, look_up.end)?;
+    sink.put_value::<C::Object, E>(value, wanted, spec, look_up.end)?;
     Ok(())
 }
 
 /// Writes the value under a name, displayed plainly, for an argument that starts at `start` and
 /// ends at `end`.
 #[inline(always)]
-pub fn write_plain_value<'a, W: TextWrite, C: Context>(
+pub fn write_plain_value<'a, W: TextWrite, C: Context, E: Escaper>(
     sink: &mut Sink<'_, W>,
     environment: &Environment<'a, C, C::Object>,
     start: usize,
@@ -82,29 +84,31 @@ pub fn write_plain_value<'a, W: TextWrite, C: Context>(
 ) -> Result<(), Error>
     ensures writes { Writes W.written
         (under_name (chars name.now) start
-        (λ found. value_means C.Object.shows Display plain_spec end (slot_at Display (values_of found)))
+        (λ found. value_means (shows_by E.shown C.Object.shows) Display plain_spec end
+        (slot_at Display (values_of found)))
         (slots_under (environment_of C.finds environment.now) (chars name.now)))
         sink.old sink.new (result_answer result) }
 {
     let Some(value) = environment.value(name, Trait::Display) else {
         return refused(environment, start, name);
     };
-    sink.put_plain(value, end)?;
+    sink.put_plain::<C::Object, E>(value, end)?;
     Ok(())
 }
 
 /// Writes an item of a list without an item format: displayed plainly, for an argument whose spec
 /// ends at `end`.
-pub fn write_plain_item<'a, W: TextWrite, V: Value>(
+pub fn write_plain_item<'a, W: TextWrite, V: Value, E: Escaper>(
     sink: &mut Sink<'_, W>,
     item: &'a Formattable<'a, V>,
     end: usize,
 ) -> Result<(), Error>
     ensures writes { Writes W.written
-        (value_means V.shows Display plain_spec end (slot_at Display (values_of (slots_of item.now))))
+        (value_means (shows_by E.shown V.shows) Display plain_spec end
+        (slot_at Display (values_of (slots_of item.now))))
         sink.old sink.new (result_answer result) }
 {
-    sink.put_plain(item.slot(Trait::Display), end)?;
+    sink.put_plain::<V, E>(item.slot(Trait::Display), end)?;
     Ok(())
 }
 

@@ -1,6 +1,7 @@
 use Rattle.std.proofs.Common.{arith, rules, chars, IsUtf8}
 use Rattle.interpolator_syntax.specs.At.{outermost}
 use Rattle.interpolator_eval.specs.Meaning.Environments.{environment}
+use Rattle.interpolator_eval.specs.Escaping.{shows_by}
 use Rattle.interpolator_pieces.proofs.CallLemmas.{text_written}
 use Rattle.interpolator_pieces.proofs.CostLawLemmas.{text_at_most}
 use Rattle.interpolator_pieces.proofs.RunLemmas.{text_whole}
@@ -12,7 +13,7 @@ invariant_of-source g c = grind (arith, text_whole)
 pub returns-clause-written : goal.returns-clause-written
 returns-clause-written g c =
     let utf8 : IsUtf8 c.args.format.text.now = search rules in
-    text_written g.C.Object.Value.shows (g.C.Context.finds c.args.context.now)
+    text_written (shows_by g.E.Escaper.shown g.C.Object.Value.shows) (g.C.Context.finds c.args.context.now)
     c.args.format.text.now _ _ _ utf8 (grind arith)
 
 pub returns-clause-gone : goal.returns-clause-gone
@@ -20,7 +21,7 @@ returns-clause-gone g c = grind arith
 
 pub returns-clause-within : goal.returns-clause-within
 returns-clause-within g c limits within =
-    let cost = text_at_most g.C.Object.Value.shows limits
+    let cost = text_at_most (shows_by g.E.Escaper.shown g.C.Object.Value.shows) limits
     (environment (g.C.Context.finds c.args.context.now)) (outermost (chars c.args.format.text.now))
     within in grind arith
 

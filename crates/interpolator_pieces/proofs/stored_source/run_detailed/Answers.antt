@@ -37,7 +37,14 @@ returns-in_ok-write_plain_value-in-Plain-clause-writes g c =
 
 pub returns-in_err-write_value-in-Value-clause-writes : goal.returns-in_err-write_value-in-Value-clause-writes
 returns-in_err-write_value-in-Value-clause-writes g c =
-    grind (arith, node_of_out, value_held, closed_fault, err_from_is_err_and)
+    let residual = c.from_residual-in_err-write_value-in-Value in
+    let err = err_from_is_err_and residual.result residual.ensures.1 in
+    let text = c.args.text.now in
+    let x = c.args.piece.now in
+    let name = c.name_of-start-in-Value.ensures in
+    let held = value_held text x _ _ name.start name.name c.in-Value.t (grind arith) in
+    rw (err.1, err.2, node_of_out text x, held, c.requires.detail)
+    (closed_fault _ _ _ _ _ _ _ c.in_err-write_value-in-Value.ensures.writes)
 
 pub returns-in_ok-write_value-in-Value-clause-writes : goal.returns-in_ok-write_value-in-Value-clause-writes
 returns-in_ok-write_value-in-Value-clause-writes g c =

@@ -1,5 +1,6 @@
 use Rattle.std.proofs.Common.{◌≡◌, length, true}
 use Rattle.interpolator_syntax.specs.Nodes.{as_forest}
+use Rattle.interpolator_eval.specs.Escaping.{shows_by}
 use Rattle.interpolator_eval.specs.Meaning.CodeEnvironments.{environment_of}
 use Rattle.interpolator_eval.proofs.MeaningLemmas.FirstPieceLemmas.{Passed}
 use Rattle.interpolator_pieces.specs.Stored.{forest_whole, nodes_of}
@@ -11,7 +12,7 @@ invariant-loop-piece g l =
     let rest = as_forest (nodes_of l.source.text.now l.rest) in
     record {
       whole : forest_whole rest ≡ true;
-      passed : Passed g.C.Object.Value.shows (environment_of g.C.Context.finds l.environment)
+      passed : Passed (shows_by g.E.Escaper.shown g.C.Object.Value.shows) (environment_of g.C.Context.finds l.environment)
           g.W.TextWrite.written (as_forest (nodes_of l.source.text.now l.source.pieces.now)) rest
           l.fn.sink l.sink l.fn.count l.count;
     }

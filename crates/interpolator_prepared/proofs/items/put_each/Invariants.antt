@@ -2,6 +2,7 @@ use Rattle.std.proofs.Common.{map, drop, Option}
 use Rattle.interpolator_syntax.specs.Faults.{Answer}
 use Rattle.interpolator_eval.specs.Slots.{slots_of}
 use Rattle.interpolator_eval.specs.Meaning.Meanings.{items_after, items_mean, text_alone}
+use Rattle.interpolator_eval.specs.Escaping.{shows_by}
 use Rattle.interpolator_eval.specs.Meaning.Outcomes.{Outcome}
 use Rattle.interpolator_render.specs.Written.{Written}
 use Rattle.interpolator_prepared.specs.Items.{value_under}
@@ -12,7 +13,7 @@ use Rattle.interpolator_prepared.proofs.items.put_each.Given as goal
 abbrev pub invariant-loop-item : goal.invariant-loop-item
 invariant-loop-item g l =
     let between = text_alone (joined_text l.between) in
-    let one = value_under g.V.Value.shows l.value in
+    let one = value_under (shows_by g.E.Escaper.shown g.V.Value.shows) l.value in
     (new : Written) (answer : Option Answer)
     → Outcome (items_after between one (map slots_of (drop l.item-index l.rest)))
     (g.W.TextWrite.written l.out) new answer

@@ -1,4 +1,5 @@
 use Rattle.std.proofs.Common.{rules}
+use Rattle.interpolator_eval.specs.Escaping.{shows_by}
 use Rattle.interpolator_eval.specs.Meaning.Environments.{environment}
 use Rattle.interpolator_pieces.specs.Stored.{node_of}
 use Rattle.interpolator_prepared.specs.Rows.{name_bytes}
@@ -15,7 +16,7 @@ returns g c =
       outcome = λ value_at.
           let named = c.args.named.now in
           let e = environment (g.R.PreparedRow.finds_in named.row.now (name_bytes named.names.now)) in
-          let same = kept_means g.R.Object.Value.shows e value_at
+          let same = kept_means (shows_by g.E.Escaper.shown g.R.Object.Value.shows) e value_at
           (node_of c.args.text.now c.args.kept.now) c.requires.fits in
           let o = rw same at (rw c.into_writer.ensures at
           (rw c.outermost-environment.ensures at c.write_kept-answer.ensures.writes.outcome)) in

@@ -2,6 +2,7 @@ use Rattle.std.proofs.Common.{length, Option}
 use Rattle.std.specs.List.{All}
 use Rattle.interpolator_syntax.specs.Faults.{Answer}
 use Rattle.interpolator_eval.specs.Meaning.Environments.{environment}
+use Rattle.interpolator_eval.specs.Escaping.{shows_by}
 use Rattle.interpolator_eval.specs.Meaning.Outcomes.{Outcome}
 use Rattle.interpolator_render.specs.Written.{Written}
 use Rattle.interpolator_prepared.specs.Rows.{name_bytes}
@@ -12,7 +13,7 @@ use Rattle.interpolator_prepared.proofs.run.run_steps.Given as goal
 abbrev pub invariant-loop-step : goal.invariant-loop-step
 invariant-loop-step g l =
     let row = g.R.PreparedRow in
-    let meaning = stored_steps_mean g.R.Object.Value.shows
+    let meaning = stored_steps_mean (shows_by g.E.Escaper.shown g.R.Object.Value.shows)
     (environment (row.finds_in l.named.row.now (name_bytes l.named.names.now)))
     (row.value_at l.named.row.now) l.text in
     record {

@@ -1,4 +1,5 @@
 use Rattle.std.proofs.Common.{◌≡◌, ◌∷◌, arith, map, rules}
+use Rattle.interpolator_eval.specs.Escaping.{shows_by}
 use Rattle.interpolator_eval.specs.Slots.{slots_of}
 use Rattle.interpolator_eval.specs.Meaning.CodeEnvironments.{environment_of}
 use Rattle.std.proofs.lemmas.Result.{err_from_is_err_and}
@@ -20,7 +21,7 @@ pub write_padded_list-returns-then-refused-clause-writes :
 write_padded_list-returns-then-refused-clause-writes g t c =
     let e = environment_of g.C.Context.finds c.args.environment.now in
     let asked = g.S.FormatSource.asks c.args.list.now in
-    let all = list_items g.C.Object.Value.shows e asked (map slots_of c.args.items.now) in
+    let all = list_items (shows_by g.E.Escaper.shown g.C.Object.Value.shows) e asked (map slots_of c.args.items.now) in
     record { outcome = whole_refused _ _ all _; same = same_end c.args.sink.now }
 
 pub write_padded_list-returns-in_err-answer-in-Buffer-clause-writes :
@@ -115,7 +116,10 @@ write_source-write_argument-requires g t c κs within =
             within.1.1.0,
             (
               within.1.1.1.0,
-              (within.1.1.1.1.0, (within.1.1.1.1.1, met.0)),
+              (
+                within.1.1.1.1.0,
+                (within.1.1.1.1.1.0, (within.1.1.1.1.1.1, met.0)),
+              ),
             ),
           ),
         ),

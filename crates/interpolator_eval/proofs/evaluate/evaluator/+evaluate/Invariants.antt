@@ -1,4 +1,5 @@
 use Rattle.std.proofs.Common.{◌+◌, ◌*◌, ◌≤◌, drop}
+use Rattle.interpolator_eval.specs.Escaping.{shows_by}
 use Rattle.interpolator_eval.specs.Slots.{slots_of}
 use Rattle.interpolator_eval.specs.Meaning.CodeEnvironments.{environment_of}
 use Rattle.interpolator_eval.specs.Meaning.Sources.{list_join, list_join_work, list_item}
@@ -36,7 +37,7 @@ invariant-write_source-loop-sink g l =
     let tree = g.S.FormatSource.tree in
     record {
       within : forest_size (tree l.here) ≤ forest_size (tree l.fn.source);
-      passed : ListsPassed g.C.Object.Value.shows (environment_of g.C.Context.finds l.environment)
+      passed : ListsPassed (shows_by g.E.Escaper.shown g.C.Object.Value.shows) (environment_of g.C.Context.finds l.environment)
           g.W.TextWrite.written (tree l.fn.source) (tree l.here) l.fn.sink l.sink l.fn.count
           l.count;
     }
@@ -47,7 +48,7 @@ decreases-write_source-loop-sink g l = forest_size (g.S.FormatSource.tree l.here
 -- the items before those left have been written
 abbrev pub invariant-write_items-loop-item : goal.invariant-write_items-loop-item
 invariant-write_items-loop-item g l =
-    let shows = g.C.Object.Value.shows in
+    let shows = (shows_by g.E.Escaper.shown g.C.Object.Value.shows) in
     let e = environment_of g.C.Context.finds l.environment in
     let asked = g.S.FormatSource.asks l.list in
     ItemsPassed g.W.TextWrite.written (list_join shows e asked) (list_join_work shows e asked)

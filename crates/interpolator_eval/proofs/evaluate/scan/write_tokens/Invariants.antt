@@ -1,5 +1,6 @@
 use Rattle.std.proofs.Common.{length, chars}
 use Rattle.interpolator_syntax.specs.At.{at}
+use Rattle.interpolator_eval.specs.Escaping.{shows_by}
 use Rattle.interpolator_eval.specs.Meaning.CodeEnvironments.{environment_of}
 use Rattle.interpolator_eval.specs.Meaning.ScannedLists.{text_forest}
 use Rattle.interpolator_eval.proofs.MeaningLemmas.FirstPieceLemmas.{Passed}
@@ -7,7 +8,7 @@ use Rattle.interpolator_eval.proofs.evaluate.scan.write_tokens.Given as goal
 
 abbrev pub invariant-loop-token : goal.invariant-loop-token
 invariant-loop-token g l =
-    Passed g.C.Object.Value.shows (environment_of g.C.Context.finds l.environment)
+    Passed (shows_by g.E.Escaper.shown g.C.Object.Value.shows) (environment_of g.C.Context.finds l.environment)
     g.W.TextWrite.written (text_forest (at l.text)) (text_forest (at l.here))
     l.fn.sink l.sink l.fn.count l.count
 
