@@ -6,6 +6,11 @@ pub mod KeepLemmas
 pub mod ReaderLemmas
 -- of this crate alone
 mod CodeLemmas
+mod HandSteps
+mod PassingLemmas
+mod EscapingLemmas
+mod HtmlLemmas
+mod PlacingLemmas
 mod RunLemmas
 mod SearchLemmas
 mod SuspectLemmas

@@ -66,7 +66,7 @@ fn put_four_digits<W: TextWrite>(out: &mut W, front: &str, code: u32) -> Result<
 }
 
 /// Returns whether a character is a control of a line.
-fn is_control(c: char) -> bool
+pub(crate) fn is_control(c: char) -> bool
     ensures { result ≡ is_control c }
 {
     match c {

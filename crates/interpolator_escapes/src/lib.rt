@@ -1,7 +1,8 @@
 //! Values written so that none leaves the place in which it stands.
 //!
 //! A page, a table, a message, a log line and a command each have characters that end the place
-//! of a value. An [`Escape`] says what is written for these, and [`put_escaped`] writes a text so.
+//! of a value. An [`Escape`] says what is written for these. [`put_escaped`] writes a text so, and
+//! [`put_view`] what a value shows.
 //! A reader of each of the five languages is defined in `specs/`, in few lines. The laws in
 //! [`laws`] say that it reads an escaped value as that value, and stays where it was.
 //!
@@ -12,12 +13,32 @@
 //! ```
 #![tactic(auto)]
 
+mod checking;
 mod escape;
 mod escaped;
+mod escapers;
+mod escaping;
 pub mod laws;
+mod misplaced;
+pub mod place_laws;
+mod place_text;
+mod placing;
+#[cfg(test)]
+mod placing_tests;
+pub mod readers;
 mod search;
+mod taken;
 #[cfg(test)]
 mod tests;
+#[cfg(test)]
+mod view_tests;
+mod views;
 
+pub use checking::{check_format, check_places};
 pub use escape::Escape;
 pub use escaped::put_escaped;
+pub use escapers::{CsvEscaper, HtmlEscaper, JsonEscaper, LineEscaper, ShellEscaper};
+pub use misplaced::{Misplaced, PlaceError, Why};
+pub use place_text::places_of;
+pub use placing::check_stands;
+pub use views::{put_view, put_view_plainly};

@@ -1,0 +1,88 @@
+-- References of HTML have no structure, and each phase has states of its own.
+use Rattle.std.proofs.Common.{◌≡◌, ℕ, true, false, List, [], ◌∷◌, ◌++◌, refl, arith, map}
+use Rattle.std.proofs.Common.{sym, ap, ◌∙◌}
+use Rattle.interpolator_escapes.specs.Readers.{Token, content}
+use Rattle.interpolator_escapes.specs.CodeReaders.{has_structure}
+use Rattle.interpolator_escapes.specs.Html.{reference_meaning}
+use Rattle.interpolator_escapes.specs.CodeHtml.{html_state, html_state_in}
+use Rattle.interpolator_escapes.specs.Html.{in_text, in_value, HtmlState, in_base}
+use Rattle.interpolator_escapes.specs.Html.{in_reference, opened, closing, marked, marked_dash}
+use Rattle.interpolator_escapes.specs.Html.{declared, comment, comment_dash, comment_dashes, named}
+use Rattle.interpolator_escapes.specs.Html.{spaced, in_name, after_name, before_value}
+use Rattle.interpolator_escapes.specs.Html.{in_bare_value, in_raw, raw_opened, raw_closing, lost}
+use Rattle.interpolator_escapes.specs.declared.readers.html.HtmlReader.{HtmlReader}
+use Rattle.interpolator_escapes.specs.declared.readers.html.names.Phase.{Phase}
+use Rattle.interpolator_escapes.specs.declared.readers.html.names.Phase.TheVariants as phases
+use Rattle.interpolator_escapes.specs.declared.readers.html.names.Quotes.{Quotes}
+use Rattle.interpolator_escapes.specs.declared.readers.html.names.ValueKind.{ValueKind}
+
+-- characters of a name add no structure
+pub name_quiet : (name : List ℕ) (ts : List Token)
+    → has_structure (map content name ++ ts) ≡ has_structure ts
+name_quiet [] ts = refl
+name_quiet (c ∷ cs) ts = name_quiet cs ts
+
+-- nor does what a reference stands for
+pub meaning_quiet : (name : List ℕ) → has_structure (reference_meaning name) ≡ false
+meaning_quiet name = grind (arith, name_quiet)
+
+-- ---- phases
+
+-- the phase of a state
+phase_of : HtmlState → Phase
+phase_of (in_base in_text) = phases.InText
+phase_of (in_base (in_value q e k)) = phases.InValue
+phase_of (in_reference in_text n) = phases.TextReference
+phase_of (in_reference (in_value q e k) n) = phases.ValueReference
+phase_of opened = phases.Opened
+phase_of closing = phases.Closing
+phase_of marked = phases.Marked
+phase_of marked_dash = phases.MarkedDash
+phase_of declared = phases.Declared
+phase_of comment = phases.Comment
+phase_of comment_dash = phases.CommentDash
+phase_of comment_dashes = phases.CommentDashes
+phase_of (named true e) = phases.NameBegins
+phase_of (named false e) = phases.NameEnds
+phase_of (spaced e) = phases.Spaced
+phase_of (in_name e n) = phases.InName
+phase_of (after_name e n) = phases.AfterName
+phase_of (before_value e n) = phases.BeforeValue
+phase_of (in_bare_value e) = phases.InBareValue
+phase_of (in_raw e) = phases.InRaw
+phase_of (raw_opened e) = phases.RawOpened
+phase_of (raw_closing e n) = phases.RawClosing
+phase_of lost = phases.Lost
+
+phase_told : (p : Phase) (q : Quotes) (k : ValueKind) (e n : List ℕ)
+    → phase_of (html_state_in p q k e n) ≡ p
+unfolding phase_of
+phase_told phases.InText q k e n = refl
+phase_told phases.InValue q k e n = refl
+phase_told phases.TextReference q k e n = refl
+phase_told phases.ValueReference q k e n = refl
+phase_told phases.Opened q k e n = refl
+phase_told phases.Closing q k e n = refl
+phase_told phases.Marked q k e n = refl
+phase_told phases.MarkedDash q k e n = refl
+phase_told phases.Declared q k e n = refl
+phase_told phases.Comment q k e n = refl
+phase_told phases.CommentDash q k e n = refl
+phase_told phases.CommentDashes q k e n = refl
+phase_told phases.NameBegins q k e n = refl
+phase_told phases.NameEnds q k e n = refl
+phase_told phases.Spaced q k e n = refl
+phase_told phases.InName q k e n = refl
+phase_told phases.AfterName q k e n = refl
+phase_told phases.BeforeValue q k e n = refl
+phase_told phases.InBareValue q k e n = refl
+phase_told phases.InRaw q k e n = refl
+phase_told phases.RawOpened q k e n = refl
+phase_told phases.RawClosing q k e n = refl
+phase_told phases.Lost q k e n = refl
+
+-- readers in the same state are in the same phase
+pub same_phases : (a b : HtmlReader) → html_state a ≡ html_state b → a.phase ≡ b.phase
+same_phases a b h =
+    sym (phase_told a.phase a.quotes a.kind a.element.items a.name.items)
+    ∙ (ap phase_of h ∙ phase_told b.phase b.quotes b.kind b.element.items b.name.items)

@@ -1,0 +1,120 @@
+//! The escapes as types, by which a format is written.
+ghost use Rattle.interpolator_render.specs.Texts.{view_text};
+ghost use Rattle.interpolator_escapes.specs.Escapes.{csv_escape, html_escape, json_escape};
+ghost use Rattle.interpolator_escapes.specs.Escapes.{line_escape, shell_escape};
+ghost use Rattle.interpolator_escapes.specs.Formats.{escaped_text};
+
+use crate::escape::Escape;
+use crate::views::{put_view, put_view_plainly};
+use interpolator_eval::Escaper;
+use interpolator_render::{RenderFault, Spec, TextWrite, Trait, View};
+
+/// Writes the text of each value as [`Escape::Line`] says.
+pub struct LineEscaper;
+
+/// Writes the text of each value as [`Escape::Html`] says.
+pub struct HtmlEscaper;
+
+/// Writes the text of each value as [`Escape::Csv`] says.
+pub struct CsvEscaper;
+
+/// Writes the text of each value as [`Escape::Json`] says.
+pub struct JsonEscaper;
+
+/// Writes the text of each value as [`Escape::Shell`] says.
+pub struct ShellEscaper;
+
+impl Escaper for LineEscaper {
+    ghost shown = { λ shown t spec. escaped_text line_escape (view_text shown t spec) };
+
+    #[inline(always)]
+    fn put<W: TextWrite>(
+        out: &mut W,
+        view: View<'_>,
+        wanted: Trait,
+        spec: &Spec,
+    ) -> Result<(), RenderFault> {
+        put_view(out, Escape::Line, view, wanted, spec)
+    }
+
+    #[inline(always)]
+    fn put_plainly<W: TextWrite>(out: &mut W, view: View<'_>) -> Result<(), RenderFault> {
+        put_view_plainly(out, Escape::Line, view)
+    }
+}
+
+impl Escaper for HtmlEscaper {
+    ghost shown = { λ shown t spec. escaped_text html_escape (view_text shown t spec) };
+
+    #[inline(always)]
+    fn put<W: TextWrite>(
+        out: &mut W,
+        view: View<'_>,
+        wanted: Trait,
+        spec: &Spec,
+    ) -> Result<(), RenderFault> {
+        put_view(out, Escape::Html, view, wanted, spec)
+    }
+
+    #[inline(always)]
+    fn put_plainly<W: TextWrite>(out: &mut W, view: View<'_>) -> Result<(), RenderFault> {
+        put_view_plainly(out, Escape::Html, view)
+    }
+}
+
+impl Escaper for CsvEscaper {
+    ghost shown = { λ shown t spec. escaped_text csv_escape (view_text shown t spec) };
+
+    #[inline(always)]
+    fn put<W: TextWrite>(
+        out: &mut W,
+        view: View<'_>,
+        wanted: Trait,
+        spec: &Spec,
+    ) -> Result<(), RenderFault> {
+        put_view(out, Escape::Csv, view, wanted, spec)
+    }
+
+    #[inline(always)]
+    fn put_plainly<W: TextWrite>(out: &mut W, view: View<'_>) -> Result<(), RenderFault> {
+        put_view_plainly(out, Escape::Csv, view)
+    }
+}
+
+impl Escaper for JsonEscaper {
+    ghost shown = { λ shown t spec. escaped_text json_escape (view_text shown t spec) };
+
+    #[inline(always)]
+    fn put<W: TextWrite>(
+        out: &mut W,
+        view: View<'_>,
+        wanted: Trait,
+        spec: &Spec,
+    ) -> Result<(), RenderFault> {
+        put_view(out, Escape::Json, view, wanted, spec)
+    }
+
+    #[inline(always)]
+    fn put_plainly<W: TextWrite>(out: &mut W, view: View<'_>) -> Result<(), RenderFault> {
+        put_view_plainly(out, Escape::Json, view)
+    }
+}
+
+impl Escaper for ShellEscaper {
+    ghost shown = { λ shown t spec. escaped_text shell_escape (view_text shown t spec) };
+
+    #[inline(always)]
+    fn put<W: TextWrite>(
+        out: &mut W,
+        view: View<'_>,
+        wanted: Trait,
+        spec: &Spec,
+    ) -> Result<(), RenderFault> {
+        put_view(out, Escape::Shell, view, wanted, spec)
+    }
+
+    #[inline(always)]
+    fn put_plainly<W: TextWrite>(out: &mut W, view: View<'_>) -> Result<(), RenderFault> {
+        put_view_plainly(out, Escape::Shell, view)
+    }
+}
