@@ -1,7 +1,8 @@
 //! Faults as a compiler shows them.
-ghost use Rattle.std.specs.Prelude.{◌≡◌, ◌<◌, ◌++◌, codes, IfErr, IfOk, string_bytes};
+ghost use Rattle.std.specs.Prelude.{◌≡◌, ◌<◌, ◌++◌, codes, IfErr, IfOk, Some, string_bytes};
 ghost use Rattle.std.specs.Str.{chars};
-ghost use Rattle.interpolator.specs.Explained.{before_in_line, explanation_of, head as head_of};
+ghost use Rattle.interpolator.specs.Explained.{before_in_line, explanation, explanation_of};
+ghost use Rattle.interpolator.specs.Explained.{head as head_of};
 ghost use Rattle.interpolator.specs.Explained.{line_of, marked_bytes, names_after, names_line};
 ghost use Rattle.interpolator.specs.Explained.{note_of, told_at, told_in};
 ghost use Rattle.interpolator_syntax.specs.Faults.{answer_of, no_memory};
@@ -104,20 +105,45 @@ pub fn explain_in(alloc: Global, source: &Source<'_>, error: &Error) -> Result<S
             let told = without_place(alloc, source.name, what.as_str())?;
             Ok(told)
         }
-        Some(place) => {
-            let marked = marked_bytes(alloc, source.format, place)?;
-            let at = source.start.saturating_add(place);
-            let note = note(alloc, source.start, place)?;
-            let what = format!(in alloc; "{what}{note}")?;
-            let report = Report {
-                at,
-                marked,
-                what: what.as_str(),
-            };
-            let told = told_at(alloc, source, &report)?;
-            Ok(told)
-        }
+        Some(place) => explain_place(alloc, source, place, what.as_str()),
     }
+}
+
+/// Shows what is said of a byte of a format as [`explain_in`] shows a fault: for what no `Error` says,
+/// like a value that is out of place in a page.
+///
+/// ```text
+/// explain_place(alloc, &source, misplaced.place, "this value stands in a tag")?
+/// // page.html:1:4: this value stands in a tag
+/// //   |
+/// // 1 | <p {class}>
+/// //   |    ^~~~~~~
+/// ```
+///
+/// # Errors
+///
+/// `NoMemory`.
+pub fn explain_place(
+    alloc: Global,
+    source: &Source<'_>,
+    place: usize,
+    what: &str,
+) -> Result<String, Error>
+    ensures told { IfOk result (λ told.
+        string_bytes told ≡ explanation source.now (Some place) what.now) }
+    ensures refused { IfErr result (λ error. answer_of error ≡ no_memory) }
+{
+    let marked = marked_bytes(alloc, source.format, place)?;
+    let at = source.start.saturating_add(place);
+    let note = note(alloc, source.start, place)?;
+    let what = format!(in alloc; "{what}{note}")?;
+    let report = Report {
+        at,
+        marked,
+        what: what.as_str(),
+    };
+    let told = told_at(alloc, source, &report)?;
+    Ok(told)
 }
 
 /// Shows a fault of a format as [`explain_in`] does, and for a `MissingValue` the names that there

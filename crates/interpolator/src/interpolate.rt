@@ -5,10 +5,13 @@ ghost use Rattle.std.specs.Str.{chars};
 ghost use Rattle.interpolator_syntax.specs.At.{outermost};
 ghost use Rattle.interpolator_syntax.specs.Faults.{answer_of, result_answer, fault, no_memory};
 ghost use Rattle.interpolator_syntax.specs.Faults.{PlaceWithin};
+ghost use Rattle.interpolator_escapes.specs.Escapes.{escape_of};
+ghost use Rattle.interpolator_escapes.specs.Formats.{escaped_shows};
 ghost use Rattle.interpolator_pieces.specs.NodeSamples.{faults_over};
 ghost use Rattle.interpolator_pieces.specs.Collecting.{AnswersFirst};
 ghost use Rattle.interpolator_pieces.specs.Calls.{MakesText, WritesLine, WritesText};
 
+use crate::escaped_template::EscapedTemplate;
 use crate::template::Template;
 use interpolator_eval::{ByNames, Context, Formattable, NameMap, Pairs};
 use interpolator_pieces::{format, iwriteln, write};
@@ -136,6 +139,45 @@ pub trait Interpolate: Context {
         template.format(alloc, self)
     }
 
+    /// Writes what the page means, each value escaped, as [`EscapedTemplate::write`] does.
+    ///
+    /// # Errors
+    ///
+    /// Those of `write_template_to`.
+    ///
+    /// ```text
+    /// let page = Template::parse(alloc, "<b>{n}</b>")?.escaped(alloc, Escape::Html)?;
+    /// context.write_escaped_to(alloc, &mut out, &page)?;    // with `a<b`, appends "<b>a&lt;b</b>"
+    /// ```
+    fn write_escaped_to<W: TextWrite>(
+        &self,
+        alloc: Global,
+        out: &mut W,
+        page: &EscapedTemplate,
+    ) -> Result<(), Error>
+        ensures { WritesText (escaped_shows (escape_of page.now.escape) Self.Object.shows)
+            (Self.finds self.now) page.now.text
+            (W.written out.old) (W.written out.new) (result_answer result) }
+    {
+        page.write(alloc, out, self)
+    }
+
+    /// The text that the page means, each value escaped, in a new `String`.
+    ///
+    /// # Errors
+    ///
+    /// Those of `format_template`.
+    ///
+    /// ```text
+    /// context.format_escaped(alloc, &page)?    // for `<b>{n}</b>` and `a<b`: "<b>a&lt;b</b>"
+    /// ```
+    fn format_escaped(&self, alloc: Global, page: &EscapedTemplate) -> Result<String, Error>
+        ensures { MakesText (escaped_shows (escape_of page.now.escape) Self.Object.shows)
+            (Self.finds self.now) page.now.text result }
+    {
+        page.format(alloc, self)
+    }
+
     /// Reports the first fault that the template has by itself or against this context as a sample,
     /// as [`Template::check_in`] does.
     ///
@@ -223,6 +265,19 @@ impl<'k, 'a, V: Value> Interpolate for HashMap<&'k str, Formattable<'a, V>> {
 
     fn format_template(&self, alloc: Global, template: &Template) -> Result<String, Error> {
         template.format(alloc, &ByNames::new(self))
+    }
+
+    fn write_escaped_to<W: TextWrite>(
+        &self,
+        alloc: Global,
+        out: &mut W,
+        page: &EscapedTemplate,
+    ) -> Result<(), Error> {
+        page.write(alloc, out, &ByNames::new(self))
+    }
+
+    fn format_escaped(&self, alloc: Global, page: &EscapedTemplate) -> Result<String, Error> {
+        page.format(alloc, &ByNames::new(self))
     }
 
     fn check_template(&self, alloc: Global, template: &Template) -> Result<(), Error> {

@@ -21,6 +21,8 @@
 mod choice;
 mod decimal;
 mod decimal_sums;
+mod escaped_prepared;
+mod escaped_template;
 mod escaping;
 mod examining;
 mod excerpt;
@@ -40,13 +42,17 @@ mod template;
 mod values;
 mod values_of;
 mod values_of_many;
+mod values_of_most;
 mod views;
 
 pub use choice::first_if;
 pub use decimal::Decimal;
+pub use escaped_prepared::EscapedPrepared;
+pub use escaped_template::EscapedTemplate;
 pub use escaping::escape;
-pub use explaining::{Source, explain, explain_in, explain_with_names};
+pub use explaining::{Source, explain, explain_in, explain_place, explain_with_names};
 pub use interpolate::Interpolate;
+pub use interpolator_escapes::{Escape, Misplaced, PlaceError, Why, places_of, put_escaped};
 pub use interpolator_eval::{
     Context, ContextMap, Formattable, NameMap, Pairs, PieceCount, chosen, is_name, items_of,
     rows_of,

@@ -15,7 +15,7 @@ ghost use Rattle.interpolator.specs.Meaning.Parts.{Clean, FrontsClose};
 ghost use Rattle.interpolator_eval.specs.Meaning.CodeEnvironments.{environment_of};
 ghost use Rattle.interpolator_eval.specs.Meaning.Sinks.{Writes};
 
-use interpolator_eval::{Context, Environment, Sink, write_uncounted};
+use interpolator_eval::{Context, Environment, Sink, Unescaped, write_uncounted};
 use interpolator_render::TextWrite;
 use interpolator_syntax::{Cursor, Error, Token, next_token, take_argument};
 use std::alloc::Global;
@@ -121,7 +121,7 @@ fn write_part<'a, W: TextWrite, C: Context>(
     ensures place { PlaceWithin (place + length part.now) (result_answer result) }
 {
     let text = Cursor { place, rest: part };
-    match write_uncounted(sink, environment, text) {
+    match write_uncounted::<W, C, Unescaped, Cursor<'_>>(sink, environment, text) {
         Ok(()) => Ok(place + part.len()),
         Err(fault) => Err(fault),
     }

@@ -5,6 +5,7 @@ ghost use Rattle.std.specs.Str.{chars};
 ghost use Rattle.interpolator_syntax.specs.At.{outermost};
 ghost use Rattle.interpolator_syntax.specs.Faults.{answer_of, result_answer, fault, no_memory};
 ghost use Rattle.interpolator_syntax.specs.Faults.{PlaceWithin};
+ghost use Rattle.interpolator_eval.specs.Escaping.{shows_by};
 ghost use Rattle.interpolator_eval.specs.Meaning.AskedNames.{asked_names};
 ghost use Rattle.interpolator_eval.specs.Meaning.Environments.{environment};
 ghost use Rattle.interpolator_eval.specs.Meaning.Limits.{IsWithin};
@@ -21,7 +22,7 @@ ghost use Rattle.interpolator.specs.NamedValues.{found_by_values, pairs_of, view
 ghost use Rattle.interpolator_pieces.specs.Calls.{MakesText, WritesLine, WritesText};
 
 use crate::values::Values;
-use interpolator_eval::{Context, Pairs, PieceCount};
+use interpolator_eval::{Context, Escaper, Pairs, PieceCount, Unescaped};
 use interpolator_pieces::{
     Limits, Parsed, Piece, format_pieces, parse_pieces, write_counted, write_newline, write_pieces,
 };
@@ -129,7 +130,21 @@ impl Template {
         ensures { WritesText C.Object.shows (C.finds context.now) self.now
             (W.written out.old) (W.written out.new) (result_answer result) }
     {
-        write_pieces(alloc, out, self.parsed(), context)
+        self.write_by::<W, C, Unescaped>(alloc, out, context)
+    }
+
+    /// Writes what the format means in the context, the text of each value as the escaper writes it.
+    #[inline(always)]
+    pub(crate) fn write_by<W: TextWrite, C: Context, E: Escaper>(
+        &self,
+        alloc: Global,
+        out: &mut W,
+        context: &C,
+    ) -> Result<(), Error>
+        ensures { WritesText (shows_by E.shown C.Object.shows) (C.finds context.now) self.now
+            (W.written out.old) (W.written out.new) (result_answer result) }
+    {
+        write_pieces::<W, C, E>(alloc, out, self.parsed(), context)
     }
 
     /// Writes what the format means in the context, and after it a newline if there is no fault.
@@ -186,14 +201,27 @@ impl Template {
             (asked_names (outermost (chars self.now)))
             → count.new ≤ count.old + (text_cost limits (outermost (chars self.now))).pieces }
     {
-        write_counted(alloc, out, self.parsed(), context, count)
+        write_counted::<W, C, Unescaped, L>(alloc, out, self.parsed(), context, count)
     }
 
     /// The text that it means in the context, in a new `String`.
     pub(crate) fn format<C: Context>(&self, alloc: Global, context: &C) -> Result<String, Error>
         ensures { MakesText C.Object.shows (C.finds context.now) self.now result }
     {
-        format_pieces(alloc, self.parsed(), context)
+        self.format_by::<C, Unescaped>(alloc, context)
+    }
+
+    /// The text that it means in the context, in which the text of each value is as the escaper writes
+    /// it.
+    #[inline(always)]
+    pub(crate) fn format_by<C: Context, E: Escaper>(
+        &self,
+        alloc: Global,
+        context: &C,
+    ) -> Result<String, Error>
+        ensures { MakesText (shows_by E.shown C.Object.shows) (C.finds context.now) self.now result }
+    {
+        format_pieces::<C, E>(alloc, self.parsed(), context)
     }
 
     /// The format, prepared for rows of values in the order of the sample's pairs, if it has no
