@@ -2,6 +2,7 @@
 mod CheckLawLemmas
 mod ContiguousLemmas
 mod FaultLemmas
+mod FloatLengthLemmas
 mod InnermostLemmas
 mod ItselfLemmas
 mod ResembleLemmas

@@ -1,7 +1,14 @@
 //! Laws of what a format can cost at most, each the contract of a small function.
 
-ghost use Rattle.std.specs.Prelude.{◌≡◌, ◌≢◌, ℕ, ◌-◌, ◌^◌, ◌<◌, ◌≤◌, List, [], Option, Some, length};
-ghost use Rattle.std.specs.Prelude.{codes};
+ghost use Rattle.std.specs.Prelude.{◌≡◌, ◌≢◌, ℕ, ◌*◌, ◌-◌, ◌^◌, ◌<◌, ◌≤◌, Bool, List, [], Option};
+ghost use Rattle.std.specs.Prelude.{None, Some, codes, false, length, max};
+ghost use Rattle.std.specs.Float.{float_is_finite};
+ghost use Rattle.std.specs.Float.Ieee.{Float, Format};
+ghost use lib.Ieee.Exact.{HasValue};
+ghost use Rattle.interpolator_render.specs.Forms.{float_body};
+ghost use Rattle.interpolator_render.specs.Lengths.{IsBodyWithin, IsFloatWithin, most_decimal};
+ghost use Rattle.interpolator_render.specs.Lengths.{most_text};
+ghost use Rattle.interpolator_render.specs.declared.view.Trait.{Trait};
 ghost use Rattle.interpolator_syntax.specs.At.{At, outermost};
 ghost use Rattle.interpolator_syntax.specs.Faults.{missing_value};
 ghost use Rattle.interpolator_syntax.specs.declared.range.Range.{Range};
@@ -15,6 +22,7 @@ ghost use Rattle.interpolator_eval.specs.Meaning.Work.{text_work};
 ghost use Rattle.interpolator_pieces.specs.declared.cost.Limits.{Limits};
 
 use interpolator_render::Value;
+use interpolator_render::laws::precise_digits;
 
 /// With values within the limits, a format costs no more than its cost: the text that it means has
 /// no more characters, writing it goes through no more pieces, and lists under a width have no more
@@ -88,3 +96,22 @@ pub fn a_range_chooses_no_more_than_is_said_of_it<T>()
     ensures { (most : ℕ) (range : Option Range) (xs : List T) → length xs ≤ most
         → length (chosen_items range xs) ≤ most_chosen most range }
 {}
+
+/// A float below 2^126 that is within a limit without a precision is within it at any precision.
+/// So is an infinity, or a NaN.
+///
+/// So with the limit 10 `{x:.9}` of 1.5 has no more than 50 characters.
+pub fn a_float_that_keeps_a_limit_keeps_it_at_each_precision()
+    ensures finite { (most : ℕ) (format : Format) (x : Float) (negative : Bool)
+        (mantissa power : ℕ) → HasValue x negative (mantissa * 2 ^ power) (2 ^ 1074)
+        → mantissa < 2 ^ 53 → power ≤ 1147
+        → ((t : Trait) → IsBodyWithin (max (most_decimal t None) (most_text t most))
+        (float_body format t None x))
+        → IsFloatWithin most format x }
+    ensures words { (most : ℕ) (format : Format) (x : Float) → float_is_finite x ≡ false
+        → ((t : Trait) → IsBodyWithin (max (most_decimal t None) (most_text t most))
+        (float_body format t None x))
+        → IsFloatWithin most format x }
+{
+    precise_digits();
+}

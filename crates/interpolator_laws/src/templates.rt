@@ -25,7 +25,7 @@ ghost use Rattle.interpolator_syntax.specs.declared.piece_kind.PieceKind.TheVari
 ghost use Rattle.interpolator_syntax.specs.declared.piece_kind.PieceKind.TheVariants.{Closed};
 
 use interpolator::Template;
-use interpolator_eval::{Context, Environment, Sink, write_uncounted};
+use interpolator_eval::{Context, Environment, Sink, Unescaped, write_uncounted};
 use interpolator_pieces::{Piece, Stored};
 use interpolator_render::{TextWrite, Value};
 use interpolator_syntax::{Error, PieceKind};
@@ -134,7 +134,7 @@ pub fn rest_of_the_pieces_is_written<W: TextWrite, C: Context>(
         text: template.text(),
         pieces: rest,
     };
-    let answer = write_uncounted(&mut sink, &environment, source);
+    let answer = write_uncounted::<W, C, Unescaped, Stored<'_>>(&mut sink, &environment, source);
     sink.into_writer();
     answer
 }
