@@ -6,6 +6,7 @@ mod helpers;
 mod invoice;
 mod languages;
 mod lent;
+mod pages;
 mod profile;
 mod totals;
 
@@ -23,6 +24,7 @@ fn all(alloc: Global) -> Result<String, Error> {
         languages::shown(alloc)?,
         lent::shown(alloc)?,
         helpers::shown(alloc)?,
+        pages::shown(alloc)?,
         profile::shown(alloc)?,
     ] {
         page.push_str(text.as_str())?;

@@ -13,6 +13,7 @@ mod counting;
 mod decimal_sums;
 mod decimals;
 mod depth;
+mod escaped;
 mod explained;
 mod faults;
 mod given;
@@ -41,6 +42,7 @@ fn run_others(report: &mut Report) -> Result<(), Error> {
     decimal_sums::run(report)?;
     decimals::run(report)?;
     depth::run(report)?;
+    escaped::run(report)?;
     explained::run(report)?;
     faults::run(report)?;
     io_writers::run(report)?;
