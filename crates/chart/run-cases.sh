@@ -1,8 +1,9 @@
 #!/usr/bin/env bash
 # Runs the built program on formats and tables, and compares what it writes to both streams and its
 # status with what is worked out by hand: 64 stand above the first line and 82 from one line to the
-# next, and the second number of a line has a bar of 100; fields are those of RFC 4180. Then it runs
-# the line of docs/USING.md. The picture of docs is the one of its table.
+# next, and the second number of a line has a bar of 100; fields are those of RFC 4180, and names are
+# escaped as text of a page. Then it runs
+# the line of crates/README.md. The picture of docs is the one of its table.
 #
 # usage: run-cases.sh [PROGRAM..]
 set -u
@@ -26,7 +27,7 @@ range='is no whole number from 0 to 18446744073709551615'
 stray='a stray quote: write the field in quotes, and double those in it'
 here=$(cd "$(dirname "$0")" && pwd)
 name=chart
-wanted=55
+wanted=57
 . "$here/../../.ci/cases.sh"
 
 # files TEXT: the format of all cells, and a file with this text.
@@ -55,7 +56,8 @@ table_cases() {
     table '64;' ''
     table '64;' $'\r\n\n'
     table '146;64,a b,50,1,100,2' $'a b ; 1 ;"2"\n\n'
-    table $'146;64,a\n"b,50,1,100,2' $'"a\n""b",1,2\n'
+    table $'146;64,a\n&quot;b,50,1,100,2' $'"a\n""b",1,2\n'
+    table '146;64,&lt;b&gt; &amp; c,50,1,100,2' $'<b> & c,1,2\n'
     table '146;64,a,b,50,1,100,2' $'a,b\t1\t2\n' --separator tab
     table '146;64,é,50,1,100,2' $'\xe9,1,2\n' --latin1
 }
@@ -84,6 +86,9 @@ fault_cases() {
     printf '%s' $'é\n {q}' >f
     case_of file file 1 '' \
         $'f:2:3: specified value not in context `q` at 5\n  |\n2 |  {q}\n  |  ~^~\n' f t
+    printf '%s' '<a b={height}>' >f
+    case_of file file 1 '' \
+        $'f:1:6: this value is out of place; a value may stand in text, or between the quotes of an attribute that is a text\n  |\n1 | <a b={height}>\n  |      ^\n' f t
 }
 
 broken_cases() {

@@ -9,12 +9,13 @@
 //! The second number is the measure of its record: its bar is 100 long, and the other bars of the
 //! record are in proportion, rounded down. The format gets `{height}`, the height of the picture, and
 //! `{rows}`, a list for each record: its place from the top, its name, and each number after the
-//! length of its bar.
+//! length of its bar. Values are escaped as in a page, so each has to stand in text, or between the
+//! quotes of an attribute.
 //!
 //! Each record has as many numbers as the first, at least two, and as many as the format draws by
 //! their indices. What is wrong is told by line and column, and no picture is drawn: a byte that is
 //! no UTF-8; else all places where the file goes on with no record; else all that is wrong with
-//! records; else the first fault of the format.
+//! records; else the first value of the format that is out of place, or its first fault.
 #![tactic(auto)]
 
 ghost use Rattle.std.specs.Prelude.{◌<◌, IfSome, length};
@@ -24,8 +25,9 @@ mod rows;
 
 use faults::Faults;
 use interpolator::{
-    Argument, ContextMap, Error, Formattable, Interpolate, Kind, Range, Template, View, explain,
-    items_of, rows_of,
+    Argument, ContextMap, Error, Escape, EscapedTemplate, Formattable, Interpolate, Kind,
+    PlaceError, Range, Source, Template, View, explain, explain_place, items_of, places_of,
+    rows_of,
 };
 use records::{BadByte, Separator, Table, latin1, text_in};
 use rows::{Rows, place_of, rows_of_records};
@@ -110,7 +112,7 @@ fn numbers_drawn(alloc: Global, template: &Template) -> Result<usize, Error> {
 }
 
 /// The picture of rows, drawn by a format.
-fn drawn(alloc: Global, template: &Template, rows: Rows<'_>) -> Result<String, Error> {
+fn drawn(alloc: Global, page: &EscapedTemplate, rows: Rows<'_>) -> Result<String, Error> {
     let Rows { cells, ends } = rows;
     let height = View::Unsigned(place_of(ends.len()));
     let items = items_of(alloc, &cells)?;
@@ -118,7 +120,7 @@ fn drawn(alloc: Global, template: &Template, rows: Rows<'_>) -> Result<String, E
     let mut context = ContextMap::new(alloc);
     context.put("height", Formattable::integer(&height))?;
     context.put("rows", Formattable::iter(&lists))?;
-    context.format_template(alloc, template)
+    context.format_escaped(alloc, page)
 }
 
 /// The picture of rows, or the fault of the format, whose text this is.
@@ -126,10 +128,10 @@ fn picture_of(
     alloc: Global,
     asked: Asked<'_>,
     format: &str,
-    template: &Template,
+    page: &EscapedTemplate,
     rows: Rows<'_>,
 ) -> Result<Chart, Error> {
-    match drawn(alloc, template, rows) {
+    match drawn(alloc, page, rows) {
         Ok(picture) => Ok(Chart::Picture(picture)),
         Err(Error::NoMemory) => Err(Error::NoMemory),
         Err(error) => {
@@ -138,6 +140,30 @@ fn picture_of(
             Ok(Chart::Faults(told))
         }
     }
+}
+
+/// The value of the format that is out of place in a picture.
+fn misplaced(
+    alloc: Global,
+    asked: Asked<'_>,
+    format: &str,
+    error: &PlaceError,
+) -> Result<Chart, Error> {
+    let PlaceError::Misplaced(misplaced) = error else {
+        return Err(Error::NoMemory);
+    };
+    let source = Source {
+        name: asked.format,
+        first_line: 1,
+        text: format,
+        start: 0,
+        format,
+    };
+    let places = places_of(Escape::Html);
+    let why = format!(in alloc; "{}; a value may stand {places}", misplaced.why)?;
+    let mut told = explain_place(alloc, &source, misplaced.place, why.as_str())?;
+    told.push('\n')?;
+    Ok(Chart::Faults(told))
 }
 
 /// The places where a table goes on with no record, as lines of text.
@@ -168,7 +194,10 @@ fn chart_of(alloc: Global, asked: Asked<'_>, format: &str, text: &str) -> Result
     if !told.is_empty() {
         return Ok(Chart::Faults(told));
     }
-    picture_of(alloc, asked, format, &template, rows)
+    match template.escaped(alloc, Escape::Html) {
+        Ok(page) => picture_of(alloc, asked, format, &page, rows),
+        Err(error) => misplaced(alloc, asked, format, &error),
+    }
 }
 
 /// The chart of a table with a byte that is no UTF-8.
