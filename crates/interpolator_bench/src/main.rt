@@ -3,6 +3,7 @@
 
 mod checksum;
 mod documents;
+mod escapes;
 mod failure;
 mod formats;
 mod lists;

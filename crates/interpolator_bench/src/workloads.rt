@@ -1,10 +1,12 @@
 //! The tables of workloads.
 
+use crate::escapes::{self, Text};
 use crate::failure::Failure;
 use crate::merge::{self, Kind};
 use crate::uses::How;
 use crate::values::Values;
 use crate::{documents, formats, lists};
+use interpolator::Escape;
 use std::alloc::{AllocError, Global};
 
 /// Sixty-four bytes of literal text.
@@ -40,6 +42,8 @@ enum Task {
     MergeByTemplate(Kind),
     /// Letters are written by a prepared format.
     MergeByRow,
+    /// A text is written escaped.
+    Escape(Escape, Text),
 }
 
 /// A format and its context.
@@ -145,6 +149,16 @@ const MERGES: [Workload; 5] = [
     Workload { front: "prepared-", name: "merge-10000", task: Task::MergeByRow },
 ];
 
+/// The escapes, by the front of a name.
+#[rattlefmt::skip]
+const ESCAPES: [(&str, Escape); 5] = [
+    ("line-", Escape::Line),
+    ("html-", Escape::Html),
+    ("csv-", Escape::Csv),
+    ("json-", Escape::Json),
+    ("shell-", Escape::Shell),
+];
+
 /// All workloads, in the order in which `all` runs them.
 pub fn workloads(alloc: Global) -> Result<Vec<Workload>, AllocError> {
     let mut all = Vec::new(alloc);
@@ -157,7 +171,26 @@ pub fn workloads(alloc: Global) -> Result<Vec<Workload>, AllocError> {
     for workload in MERGES {
         all.push(workload)?;
     }
+    for (front, escape) in ESCAPES {
+        push_escape(&mut all, front, escape)?;
+    }
     Ok(all)
+}
+
+// Adds the texts that are written escaped.
+fn push_escape(
+    all: &mut Vec<Workload>,
+    front: &'static str,
+    escape: Escape,
+) -> Result<(), AllocError> {
+    for (name, text) in [("plain-1k", Text::Plain), ("prose-1k", Text::Prose)] {
+        all.push(Workload {
+            front,
+            name,
+            task: Task::Escape(escape, text),
+        })?;
+    }
+    Ok(())
 }
 
 // Adds the uses of a format.
@@ -214,6 +247,7 @@ impl Workload {
             Task::Merge(kind) => merge::by_text(alloc, kind, repeats),
             Task::MergeByTemplate(kind) => merge::by_template(alloc, kind, repeats),
             Task::MergeByRow => merge::by_row(alloc, repeats),
+            Task::Escape(escape, text) => escapes::escaped(alloc, escape, text, repeats),
         }
     }
 }
