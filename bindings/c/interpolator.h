@@ -87,7 +87,11 @@ enum {
   INTERPOLATOR_SIGNED64,
   INTERPOLATOR_SIGNED128,   /* `number` * 2^64 + `natural`: the halves of an __int128 */
   INTERPOLATOR_LIST,        /* the items from `first` up to, and without, `end`; `lent` for what is no list */
-  INTERPOLATOR_LENT         /* the text of `lent` that has the request; without one, MISSING_TRAIT */
+  INTERPOLATOR_LENT,        /* the text of `lent` that has the request; without one, MISSING_TRAIT */
+  INTERPOLATOR_DOUBLE,      /* `real`, be it an infinity or a NaN, as Rust writes an f64 */
+  INTERPOLATOR_FLOAT,       /* `single`, as Rust writes an f32 */
+  INTERPOLATOR_DECIMAL      /* `number` * 2^64 + `natural` units of 10^-`upper`: 12.50 is 1250 units at
+                               2; if `upper` is 2^32 or more, writing it is the fault FMT */
 };
 
 /* The slots of a value: under which traits a format may write it, as a mask. */
@@ -108,15 +112,18 @@ typedef struct {
   interpolator_bytes text;       /* TEXT and PLAIN */
   const interpolator_lent *lent; /* LENT and LIST: texts, each for a request of its own; the first counts */
   size_t lent_count;
-  uint32_t kind;                 /* INTERPOLATOR_TEXT .. INTERPOLATOR_LENT */
+  uint32_t kind;                 /* INTERPOLATOR_TEXT .. INTERPOLATOR_DECIMAL */
   uint32_t slots;                /* a mask of its slots; 0 for those of its kind: DISPLAY and DEBUG of
-                                    TEXT, PLAIN, TRUTH and CHARACTER, none of LIST, all eight of any
+                                    TEXT, PLAIN, TRUTH and CHARACTER, these, LOWER_EXP and UPPER_EXP
+                                    of DOUBLE and the kinds after it, none of LIST, all eight of any
                                     other. A LIST has its items besides, whatever the mask is. */
   int64_t number;
   uint64_t natural;
   uint64_t upper;
   size_t first, end;             /* LIST */
-  uint64_t spare[2];             /* not read; zero them */
+  double real;                   /* DOUBLE */
+  float single;                  /* FLOAT */
+  uint32_t spare;                /* not read; zero it */
 } interpolator_field;
 
 /* What a call returns as its code. */
@@ -132,7 +139,9 @@ enum {
   INTERPOLATOR_NOT_UTF8,      /* the format, a column's name or a source is not UTF-8 */
   INTERPOLATOR_LISTS,         /* a list does not lie as it should: see "Lists" */
   INTERPOLATOR_FULL,          /* of interpolator_write alone: the room is too small for the text */
-  INTERPOLATOR_TABLE          /* there are not as many cells as columns times rows */
+  INTERPOLATOR_TABLE,         /* there are not as many cells as columns times rows */
+  INTERPOLATOR_MISPLACED,     /* of interpolator_escaped alone: a value is out of place */
+  INTERPOLATOR_NO_ESCAPE      /* of interpolator_escaped alone: the number is no escape's */
 };
 
 /* How a format is broken: `detail & 15` of PARSE. */
@@ -155,11 +164,21 @@ enum {
   INTERPOLATOR_TOO_SMALL = 4
 };
 
+/* Why a value or a list is out of place: `detail` of MISPLACED. */
+enum {
+  INTERPOLATOR_MISPLACED_VALUE = 1, /* the value, or the item of a list without an item format */
+  INTERPOLATOR_MISPLACED_ITEM = 2,  /* an item of the list ends elsewhere than it began */
+  INTERPOLATOR_MISPLACED_JOIN = 3,  /* so does what is between two items */
+  INTERPOLATOR_MISPLACED_FILL = 4   /* the character that pads the list would be more than text */
+};
+
 /* What a call returns: see "Answers". */
 typedef struct {
-  uint32_t code;   /* of the enum above */
-  uint32_t detail; /* of MISSING_TRAIT the trait; of PARSE how the format is broken; else 0 */
-  size_t place;    /* of the codes 1 to 5, and of FULL: the byte of the format at which it is; else 0 */
+  uint32_t code;   /* of the codes above */
+  uint32_t detail; /* of MISSING_TRAIT the trait; of PARSE how the format is broken; of MISPLACED why;
+                      else 0 */
+  size_t place;    /* of the codes 1 to 5, FULL and MISPLACED: the byte of the format at which it is;
+                      else 0 */
   size_t length;   /* of OK: bytes of the text, or how many there are; of interpolator_write: bytes in
                       the room, whatever the code is; else 0 */
   size_t message;  /* bytes of the sentence that says what is wrong; 0 if there is none */
@@ -178,13 +197,17 @@ typedef struct {
  * 1 to 5, a fault: `detail` and `place` say which. Its sentence (docs/DEFINITIONS.md) has `message`
  * bytes, and lies in the room for sentences if it fits. If memory is refused for the sentence, the
  * answer is NO_MEMORY instead.
- * Each other code: `detail` is 0, and `place` is, but for FULL. The sentence has `message` bytes, and
- * lies in the room for sentences if it fits. It is
+ * Each other code: `detail` is 0, but for MISPLACED, and `place` is, but for FULL and MISPLACED. The
+ * sentence has `message` bytes, and lies in the room for sentences if it fits. It is
  *   NO_MEMORY: out of memory
  *   NOT_UTF8: not UTF-8
  *   LISTS: a list lies where it may not
  *   FULL: the room is too small
  *   TABLE: not as many cells as columns times rows
+ *   MISPLACED: by its `detail`, this value is out of place, an item of this list ends elsewhere than it
+ *       began, what is between two items of this list ends elsewhere than it began, or the character
+ *       that pads this list is structure
+ *   NO_ESCAPE: there is no such escape
  * `length` is 0 of each code but OK, except by interpolator_write; `row` is 0 except by
  * interpolator_rows.
  *
@@ -214,7 +237,8 @@ typedef struct {
  * interpolator_write takes as much memory as the room has, and stops where that is full: its room is
  * the limit, also of time, for a format that others wrote. What a list under a width holds in memory
  * is within it, too. interpolator_rows makes the whole text, even if it does not fit in the room.
- * interpolator_cost tells before how long a text can get. All other calls take memory for what the
+ * interpolator_cost tells before how long a text can get. interpolator_escaped also takes memory for
+ * the pieces of the format, and of its text as interpolator_format does. All other calls take memory for what the
  * format and the fields are, not for their text. */
 
 /* The text of a format over a row of fields: the whole text, or none. Of two equal names the last
@@ -225,6 +249,33 @@ typedef struct {
  * 1 to 5: the format's fault, at `place`.
  * NO_MEMORY, NOT_UTF8, LISTS: as in "Answers". */
 interpolator_answer interpolator_format(
+    const char *format, size_t format_length,
+    const interpolator_field *fields, size_t field_count,
+    const interpolator_field *items, size_t item_count,
+    char *room, size_t room_length);
+
+/* Where the values of a format are shown, and so which of their characters are escaped. A *place* of
+ * an escape is where a value that is written so stays what it is. */
+enum {
+  INTERPOLATOR_ESCAPE_NONE,  /* none: anywhere, and a value is written as it is */
+  INTERPOLATOR_ESCAPE_LINE,  /* a line, as of a log: anywhere */
+  INTERPOLATOR_ESCAPE_HTML,  /* a page: in text, or between the quotes of an attribute that is a text */
+  INTERPOLATOR_ESCAPE_CSV,   /* a table: between double quotes */
+  INTERPOLATOR_ESCAPE_JSON,  /* a JSON text: in a string */
+  INTERPOLATOR_ESCAPE_SHELL  /* a command: between single quotes, with nothing but words before it */
+};
+
+/* The text of a format over a row of fields, as by interpolator_format, but the text of each value is
+ * escaped, after it was cut and padded, if each value of the format stands in a place of the escape.
+ * docs/USING.md, "Values in pages, tables, logs and commands", says what is a place, and what the
+ * text then is to whoever reads it.
+ *
+ * MISPLACED: a value or a list at `place` is the first that does not stand, whatever the values are and
+ * whatever faults the format has; `detail` says why.
+ * NO_ESCAPE: `escape` is no number of the enum above.
+ * All others: as of interpolator_format; of OK and 1 to 5, each value stands. */
+interpolator_answer interpolator_escaped(
+    uint32_t escape,
     const char *format, size_t format_length,
     const interpolator_field *fields, size_t field_count,
     const interpolator_field *items, size_t item_count,
@@ -256,7 +307,8 @@ interpolator_answer interpolator_write(
  * that has, under each name that the format uses, a field that resembles the example. A field
  * resembles an example of its kind if it fills all slots that the example fills, and has a text
  * wherever the example has one:
- * - a TEXT or PLAIN is UTF-8, a CHARACTER is the code of one, a SIGNED8 to SIGNED64 is in its range;
+ * - a TEXT or PLAIN is UTF-8, a CHARACTER is the code of one, a SIGNED8 to SIGNED64 and the `upper` of a
+ *   DECIMAL are in their range;
  * - a LENT or LIST has a text in UTF-8 for each request for which the example has one;
  * - each item of a LIST resembles some item of the example's (so only an empty list resembles an
  *   empty one).
@@ -377,7 +429,7 @@ uint32_t interpolator_version(void);
 /* The sizes of the structs, and the offsets of some members, that the library was built with. */
 typedef struct {
   size_t request, lent, field, answer, argument, cost_answer, fault, source;
-  size_t request_width, lent_text, field_kind, field_number, field_first;
+  size_t request_width, lent_text, field_kind, field_number, field_first, field_real, field_single;
   size_t answer_place, argument_request, argument_item;
 } interpolator_sizes;
 
@@ -398,6 +450,8 @@ static inline int interpolator_agrees(void) {
       && of.field_kind == offsetof(interpolator_field, kind)
       && of.field_number == offsetof(interpolator_field, number)
       && of.field_first == offsetof(interpolator_field, first)
+      && of.field_real == offsetof(interpolator_field, real)
+      && of.field_single == offsetof(interpolator_field, single)
       && of.answer_place == offsetof(interpolator_answer, place)
       && of.argument_request == offsetof(interpolator_argument, request)
       && of.argument_item == offsetof(interpolator_argument, item_first);
@@ -475,6 +529,32 @@ static inline interpolator_field interpolator_truth(const char *name, int truth)
 static inline interpolator_field interpolator_character(const char *name, uint32_t code) {
   interpolator_field field = interpolator_of(name, INTERPOLATOR_CHARACTER);
   field.natural = code;
+  return field;
+}
+
+/* A double, as Rust writes it: with a precision all digits are exact, and without one they are the
+ * fewest that are read as the same double again. Neither the locale nor the rounding mode matters. */
+static inline interpolator_field interpolator_double(const char *name, double number) {
+  interpolator_field field = interpolator_of(name, INTERPOLATOR_DOUBLE);
+  field.real = number;
+  return field;
+}
+
+/* A float, which as a double would have more digits. */
+static inline interpolator_field interpolator_float(const char *name, float number) {
+  interpolator_field field = interpolator_of(name, INTERPOLATOR_FLOAT);
+  field.single = number;
+  return field;
+}
+
+/* A decimal, `units` of 10^-scale: 12.50 is 1250 at the scale 2. A precision rounds to the nearest, of
+ * two to the even one. */
+static inline interpolator_field interpolator_decimal(
+    const char *name, int64_t units, uint32_t scale) {
+  interpolator_field field = interpolator_of(name, INTERPOLATOR_DECIMAL);
+  field.number = units < 0 ? -1 : 0;
+  field.natural = (uint64_t)units;
+  field.upper = scale;
   return field;
 }
 

@@ -9,7 +9,7 @@
 // with it; a std::string it keeps. Nothing else has to be freed or kept.
 #ifndef INTERPOLATOR_HPP
 #define INTERPOLATOR_HPP
-#include "interpolator_numbers.h"
+#include "interpolator.h"
 
 #include <algorithm>
 #include <cstddef>
@@ -33,9 +33,8 @@ namespace interpolator {
 // How an argument wants its value written: its trait, and its spec.
 using request = interpolator_request;
 
-// No printer is asked for a text under a greater width or precision, and no floating number has
-// one: the format then has the fault MISSING_TRAIT at that argument. The same limit is that of
-// Rust's own formats.
+// No printer is asked for a text under a greater width or precision: the format then has the fault
+// MISSING_TRAIT at that argument. The same limit is that of Rust's own formats.
 inline constexpr std::size_t most_width = 65535;
 
 // ---- Texts that a program makes
@@ -101,32 +100,7 @@ inline std::string padded_number(bool negative, std::string_view digits, const r
   return detail::aligned(made, asked, 3);
 }
 
-// ---- Decimals and floating numbers, by interpolator_numbers.h
-
 namespace detail {
-
-// The text that such a function of the C header makes in a room, if there is one.
-template <class Put> std::optional<std::string> text_by(Put put) {
-  std::string made(64, '\0');
-  std::size_t length = put(made.data(), made.size());
-  if (length == 0 || length == SIZE_MAX) return std::nullopt;
-  const bool fits = length <= made.size();
-  made.resize(length);
-  if (!fits) put(made.data(), made.size());
-  return made;
-}
-
-inline std::optional<std::string> floating_text(double number, const request &asked) {
-  return text_by([&](char *room, std::size_t size) {
-    return interpolator_double_text(number, &asked, room, size);
-  });
-}
-
-inline std::optional<std::string> floating_text(float number, const request &asked) {
-  return text_by([&](char *room, std::size_t size) {
-    return interpolator_float_text(number, &asked, room, size);
-  });
-}
 
 template <class Type>
 inline constexpr bool is_character =
@@ -166,30 +140,30 @@ public:
 
   // A truth value, and nothing that only converts to one.
   template <class Truth, std::enable_if_t<std::is_same_v<Truth, bool>, int> = 0>
-  value(Truth truth) : kind_(INTERPOLATOR_TRUTH), of_(whole{0, truth, 0}) {}
+  value(Truth truth) : kind_(INTERPOLATOR_TRUTH), of_(numbers{0, truth}) {}
 
   // A character. A `char` past ASCII is none: to write it is the fault FMT.
   template <class Character, std::enable_if_t<detail::is_character<Character>, long> = 0>
   value(Character character)
-      : kind_(INTERPOLATOR_CHARACTER), of_(whole{0, code_of(character), 0}) {}
+      : kind_(INTERPOLATOR_CHARACTER), of_(numbers{0, code_of(character)}) {}
 
   // A whole number of 8 to 64 bits.
   template <class Number, std::enable_if_t<detail::is_whole<Number>, short> = 0>
-  value(Number number) : kind_(kind_of<Number>()), of_(whole_of(number)) {}
+  value(Number number) : kind_(kind_of<Number>()), of_(numbers_of(number)) {}
 
 #ifdef __SIZEOF_INT128__
   __extension__ value(__int128 number)
       : kind_(INTERPOLATOR_SIGNED128),
-        of_(whole{static_cast<std::int64_t>(number >> 64), static_cast<std::uint64_t>(number), 0}) {
-  }
+        of_(numbers{static_cast<std::int64_t>(number >> 64), static_cast<std::uint64_t>(number)}) {}
   __extension__ value(unsigned __int128 number)
-      : kind_(INTERPOLATOR_UNSIGNED128), of_(whole{0, static_cast<std::uint64_t>(number),
-                                                   static_cast<std::uint64_t>(number >> 64)}) {}
+      : kind_(INTERPOLATOR_UNSIGNED128),
+        of_(numbers{0, static_cast<std::uint64_t>(number),
+                    static_cast<std::uint64_t>(number >> 64)}) {}
 #endif
 
   // A floating number, written as Rust writes it.
-  value(double number) : kind_(INTERPOLATOR_LENT), of_(number) {}
-  value(float number) : kind_(INTERPOLATOR_LENT), of_(number) {}
+  value(double number) : kind_(INTERPOLATOR_DOUBLE), of_(numbers{0, 0, 0, number}) {}
+  value(float number) : kind_(INTERPOLATOR_FLOAT), of_(numbers{0, 0, 0, 0, number}) {}
 
   // What a printer prints.
   template <class Printer, std::enable_if_t<std::is_invocable_r_v<std::optional<std::string>,
@@ -208,6 +182,14 @@ public:
     return made;
   }
 
+  // A decimal, `units` of 10^-scale.
+  static value decimal(std::int64_t units, std::uint32_t scale) {
+    value made;
+    made.kind_ = INTERPOLATOR_DECIMAL;
+    made.of_ = numbers{units < 0 ? -1 : 0, static_cast<std::uint64_t>(units), scale};
+    return made;
+  }
+
   // The same value, which a format may write under these slots alone: INTERPOLATOR_SLOT_DISPLAY ..
   value only(std::uint32_t slots) && {
     slots_ = slots;
@@ -215,14 +197,16 @@ public:
   }
 
   // What a call needs of it.
-  struct whole {
-    std::int64_t number;
-    std::uint64_t natural, upper;
+  struct numbers {
+    std::int64_t number = 0;
+    std::uint64_t natural = 0, upper = 0;
+    double real = 0;
+    float single = 0;
   };
   std::uint32_t kind() const { return kind_; }
   std::uint32_t slots() const { return slots_; }
   const std::vector<value> *items() const { return std::get_if<std::vector<value>>(&of_); }
-  const whole *number() const { return std::get_if<whole>(&of_); }
+  const numbers *number() const { return std::get_if<numbers>(&of_); }
   std::string_view text() const {
     if (const auto *view = std::get_if<std::string_view>(&of_)) return *view;
     if (const auto *kept = std::get_if<std::string>(&of_)) return *kept;
@@ -230,9 +214,6 @@ public:
   }
   std::optional<std::string> printed(const request &asked) const {
     if (asked.width > most_width || asked.precision > most_width) return std::nullopt;
-    if (const auto *number = std::get_if<double>(&of_))
-      return detail::floating_text(*number, asked);
-    if (const auto *number = std::get_if<float>(&of_)) return detail::floating_text(*number, asked);
     const auto *print = std::get_if<printer>(&of_);
     return print && *print ? (*print)(asked) : std::nullopt;
   }
@@ -245,9 +226,9 @@ private:
            : sizeof(Number) == 4 ? INTERPOLATOR_SIGNED32
                                  : INTERPOLATOR_SIGNED64;
   }
-  template <class Number> static whole whole_of(Number number) {
-    if constexpr (std::is_unsigned_v<Number>) return whole{0, number, 0};
-    else return whole{number, 0, 0};
+  template <class Number> static numbers numbers_of(Number number) {
+    if constexpr (std::is_unsigned_v<Number>) return numbers{0, number};
+    else return numbers{number};
   }
   template <class Character> static std::uint64_t code_of(Character character) {
     const auto code = static_cast<std::uint32_t>(character);
@@ -256,18 +237,13 @@ private:
 
   std::uint32_t kind_;
   std::uint32_t slots_ = 0;
-  std::variant<std::string_view, std::string, whole, double, float, printer, std::vector<value>>
-      of_;
+  std::variant<std::string_view, std::string, numbers, printer, std::vector<value>> of_;
 };
 
 // A decimal, `units` of 10^-scale: 12.50 is 1250 at the scale 2. Its digits are exact, and a
 // precision rounds to the nearest, of two to the even one.
 inline value decimal(std::int64_t units, std::uint32_t scale) {
-  return [units, scale](const request &asked) {
-    return detail::text_by([&](char *room, std::size_t size) {
-      return interpolator_decimal_text(units, scale, &asked, room, size);
-    });
-  };
+  return value::decimal(units, scale);
 }
 
 // A value under a name.
@@ -288,7 +264,7 @@ public:
 
   const std::uint32_t code;   // INTERPOLATOR_MISSING_TRAIT ..
   const std::uint32_t detail; // as interpolator.h says
-  const std::size_t place;    // the byte of the format, of the codes 1 to 5
+  const std::size_t place;    // the byte of the format, of the codes 1 to 5 and MISPLACED
   const std::size_t row;      // of `rows`: how many rows come before it
 };
 
@@ -459,6 +435,8 @@ private:
       made.number = number->number;
       made.natural = number->natural;
       made.upper = number->upper;
+      made.real = number->real;
+      made.single = number->single;
     } else if (of.kind() == INTERPOLATOR_LENT) {
       lend(made, of, used);
     } else {
@@ -500,6 +478,34 @@ inline result try_format(std::string_view format, const fields &row) {
 // The text of a format; a fault is thrown as `error`.
 inline std::string format(std::string_view format, const fields &row) {
   return detail::text_or_throw(try_format(format, row));
+}
+
+// Where the values of a format are shown: see interpolator.h.
+enum class escape : std::uint32_t {
+  none = INTERPOLATOR_ESCAPE_NONE,
+  line = INTERPOLATOR_ESCAPE_LINE,
+  html = INTERPOLATOR_ESCAPE_HTML,
+  csv = INTERPOLATOR_ESCAPE_CSV,
+  json = INTERPOLATOR_ESCAPE_JSON,
+  shell = INTERPOLATOR_ESCAPE_SHELL
+};
+
+// The text of a format in which each value is escaped, or its fault, or which value is out of place.
+// A printer's text is escaped too.
+inline result try_format_escaped(escape by, std::string_view format, const fields &row) {
+  const detail::laid of(format, row);
+  return detail::answered(
+      [&](char *room, std::size_t size) {
+        return interpolator_escaped(static_cast<std::uint32_t>(by), format.data(), format.size(),
+                                    of.row(), of.count(), of.items(), of.item_count(), room, size);
+      },
+      format.size() + 128);
+}
+
+// The text of a format in which each value is escaped; a fault, and a value that is out of place, are
+// thrown as `error`.
+inline std::string format_escaped(escape by, std::string_view format, const fields &row) {
+  return detail::text_or_throw(try_format_escaped(by, format, row));
 }
 
 // The text of a format, or its fault, in no more memory than `most` bytes for the text: if it has

@@ -52,7 +52,7 @@ names_are_known() {
     given=$(nm -g --defined-only "$archive" | awk 'NF == 3 {print $3}' | sort | tr '\n' ' ')
     wanted=$(nm -g --undefined-only "$archive" | awk 'NF == 2 {print $2}' | sort -u | tr '\n' ' ')
     echo "gives $given; wants $wanted"
-    [[ $given == 'interpolator_arguments interpolator_check interpolator_check_alone interpolator_cost interpolator_explain interpolator_faults interpolator_format interpolator_layout interpolator_rows interpolator_version interpolator_write ' ]] &&
+    [[ $given == 'interpolator_arguments interpolator_check interpolator_check_alone interpolator_cost interpolator_escaped interpolator_explain interpolator_faults interpolator_format interpolator_layout interpolator_rows interpolator_version interpolator_write ' ]] &&
         [[ $(printf '%s\n' $wanted | grep -vxE 'rattle_(alloc|realloc|dealloc)|mem(cpy|move|set|cmp)|bcmp|__u(div|mod)ti3' | wc -l) -eq 0 ]]
 }
 
@@ -172,6 +172,7 @@ readme() {
     block cmake 1 >"$room/CMakeLists.txt"
     block c 1 >"$room/lists.c"
     block cpp 1 >"$room/lists.cpp"
+    block cpp 2 >"$room/page.cpp"
     if command -v cmake >/dev/null; then
         cmake -S "$room" -B "$room/made" -DCMAKE_PREFIX_PATH="$scratch/unpacked" -DCMAKE_BUILD_TYPE=Release &&
             cmake --build "$room/made" || return 1
@@ -182,7 +183,10 @@ readme() {
         cc -std=c99 "$room/lists.c" $found -o "$room/made/lists_c" &&
             c++ -std=c++17 "$room/lists.cpp" $found -o "$room/made/lists_cpp" || return 1
     fi
-    diff <(block text 1) <("$room/made/lists_c") && diff <(block text 2) <("$room/made/lists_cpp")
+    c++ -std=c++17 "$room/page.cpp" $(pkg-config --cflags --libs interpolator) \
+        -Wl,-rpath,"$scratch/unpacked/lib" -o "$room/page_cpp" || return 1
+    diff <(block text 1) <("$room/made/lists_c") && diff <(block text 2) <("$room/made/lists_cpp") &&
+        diff <(block text 3) <("$room/page_cpp")
 }
 
 # A later version than there is, and one of another major number, are not found.

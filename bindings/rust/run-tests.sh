@@ -50,7 +50,7 @@ has_valgrind() {
 # with the calls of tests/filled/filled.c over its own.
 copies() {
     local object library=$INTERPOLATOR_LIB/libinterpolator.a
-    local calls=(format write check check_alone faults explain rows cost arguments)
+    local calls=(format escaped write check check_alone faults explain rows cost arguments)
     printf '%s\n' malloc realloc free | sed 's/.*/& refusing_&/' >"$scratch/memory"
     printf 'interpolator_%s\n' "${calls[@]}" | sed 's/.*/& plain_&/' >"$scratch/calls"
     for object in refusing filled; do

@@ -10,7 +10,7 @@
  *
  * The status is 0 if all messages were written, 1 if a line has a fault, and 2 if the file cannot
  * be read, the messages cannot be written, or there is no memory. */
-#include "interpolator_numbers.h"
+#include "interpolator.h"
 #include <stdio.h>
 #include <stdlib.h>
 
@@ -46,49 +46,20 @@ static size_t read_all(FILE *file, buffer *text) {
   }
 }
 
-/* The values of a message, and the texts of those that the library does not write by itself. */
-typedef struct {
-  interpolator_field fields[3];
-  buffer arguments, lent, digits;
-} row;
-
-static void make_room(buffer *room, size_t size) {
-  if (room->size < size) enlarge(room, size);
-}
-
-/* Makes the values of a line, which is known not to be too costly. */
-static void fill(row *of, const interpolator_source *line, const char *name, int cents) {
-  const char *format = line->text.at;
-  size_t length = line->text.length, places = 1, k;
-  for (k = 0; k < length; k++) places += format[k] == '{';
-  make_room(&of->arguments, places * sizeof(interpolator_argument));
-  make_room(&of->lent, places * sizeof(interpolator_lent));
-  make_room(&of->digits, 256);
-  for (;;) {
-    interpolator_texts texts = interpolator_texts_for(
-        format, length, (interpolator_argument *)(void *)of->arguments.at, places,
-        (interpolator_lent *)(void *)of->lent.at, places, of->digits.at, of->digits.size);
-    if (texts.code == INTERPOLATOR_NO_MEMORY) no_memory();
-    of->fields[0] = interpolator_text("name", name);
-    of->fields[1] = interpolator_int("count", cents);
-    of->fields[2] = interpolator_decimal("total", cents, 2, &texts);
-    if (!texts.is_short) return;
-    enlarge(&of->digits, of->digits.size * 2);
-  }
-}
-
-static void release(row *of) {
-  free(of->arguments.at);
-  free(of->lent.at);
-  free(of->digits.at);
+/* Makes the values of a message. */
+static void fill(interpolator_field *fields, const char *name, int cents) {
+  fields[0] = interpolator_text("name", name);
+  fields[1] = interpolator_int("count", cents);
+  fields[2] = interpolator_decimal("total", cents, 2);
 }
 
 /* Whether a line has no fault over the example: the first one is shown. */
-static int holds(const interpolator_source *source, const row *example, buffer *room) {
+static int holds(const interpolator_source *source, const interpolator_field *example,
+                 buffer *room) {
   for (;;) {
     interpolator_answer got =
-        interpolator_explain(source, source->text.at, source->text.length, example->fields, 3, NULL,
-                             0, 0, room->at, room->size);
+        interpolator_explain(source, source->text.at, source->text.length, example, 3, NULL, 0, 0,
+                             room->at, room->size);
     if (got.code == INTERPOLATOR_OK) return 1;
     if (got.code == INTERPOLATOR_NO_MEMORY) no_memory();
     if (got.message > room->size) {
@@ -116,10 +87,11 @@ static int is_short(const interpolator_source *source, size_t longest) {
 }
 
 /* Writes a message that was checked. */
-static int write_message(const interpolator_source *source, const row *of, buffer *room) {
+static int write_message(const interpolator_source *source, const interpolator_field *fields,
+                         buffer *room) {
   for (;;) {
-    interpolator_answer got = interpolator_format(source->text.at, source->text.length, of->fields,
-                                                  3, NULL, 0, room->at, room->size);
+    interpolator_answer got = interpolator_format(source->text.at, source->text.length, fields, 3,
+                                                  NULL, 0, room->at, room->size);
     size_t length = got.code == INTERPOLATOR_OK ? got.length : got.message;
     if (got.code == INTERPOLATOR_NO_MEMORY) no_memory();
     if (length > room->size) {
@@ -135,17 +107,11 @@ static int write_message(const interpolator_source *source, const row *of, buffe
 
 /* Checks a line and writes its message. */
 static int serve(const interpolator_source *line, const char *name, int cents, buffer *room) {
-  row example, values;
-  int is_written;
-  memset(&example, 0, sizeof example);
-  memset(&values, 0, sizeof values);
+  interpolator_field example[3], values[3];
   if (!is_short(line, strlen(name) + 40)) return 0; /* a total has at most 12 digits */
-  fill(&example, line, "Ann", 1250);
-  fill(&values, line, name, cents);
-  is_written = holds(line, &example, room) && write_message(line, &values, room);
-  release(&example);
-  release(&values);
-  return is_written;
+  fill(example, "Ann", 1250);
+  fill(values, name, cents);
+  return holds(line, example, room) && write_message(line, values, room);
 }
 
 int main(int words, char **word) {

@@ -1,5 +1,5 @@
-/* The sizes of the structs and the offsets of their members, which programs are compiled with: they
- * may not change in a library of the same soname. */
+/* The sizes of the structs, the offsets of their members, and numbers, which programs are compiled
+ * with: they may not change in a library of the same soname. */
 #include "interpolator.h"
 #include <stdio.h>
 
@@ -7,6 +7,8 @@
   { #type, sizeof(type), size }
 #define AT(type, member, offset)                                                                   \
   { #type "." #member, offsetof(type, member), offset }
+#define NUMBER(constant, number)                                                                   \
+  { #constant, constant, number }
 
 static const struct {
   const char *name;
@@ -41,7 +43,9 @@ static const struct {
     AT(interpolator_field, upper, 72),
     AT(interpolator_field, first, 80),
     AT(interpolator_field, end, 88),
-    AT(interpolator_field, spare, 96),
+    AT(interpolator_field, real, 96),
+    AT(interpolator_field, single, 104),
+    AT(interpolator_field, spare, 108),
     SIZE(interpolator_answer, 40),
     AT(interpolator_answer, code, 0),
     AT(interpolator_answer, detail, 4),
@@ -72,8 +76,17 @@ static const struct {
     AT(interpolator_argument, item_end, 72),
     AT(interpolator_argument, join_first, 80),
     AT(interpolator_argument, join_end, 88),
-    SIZE(interpolator_sizes, 128),
+    SIZE(interpolator_sizes, 144),
     SIZE(rattle_block, 16),
+    NUMBER(INTERPOLATOR_TABLE, 10),
+    NUMBER(INTERPOLATOR_MISPLACED, 11),
+    NUMBER(INTERPOLATOR_NO_ESCAPE, 12),
+    NUMBER(INTERPOLATOR_ESCAPE_NONE, 0),
+    NUMBER(INTERPOLATOR_ESCAPE_LINE, 1),
+    NUMBER(INTERPOLATOR_ESCAPE_HTML, 2),
+    NUMBER(INTERPOLATOR_ESCAPE_CSV, 3),
+    NUMBER(INTERPOLATOR_ESCAPE_JSON, 4),
+    NUMBER(INTERPOLATOR_ESCAPE_SHELL, 5),
 };
 
 int main(void) {

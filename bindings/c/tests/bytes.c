@@ -122,7 +122,7 @@ static void unmake(void) {
 static void judge(interpolator_answer got, size_t length) {
   size_t k, written = length <= now.size ? length : 0;
   calls++;
-  WANT(got.code <= INTERPOLATOR_TABLE);
+  WANT(got.code <= INTERPOLATOR_NO_ESCAPE);
   WANT(got.place <= now.format.length);
   if (got.code == INTERPOLATOR_OK) WANT(got.message == 0);
   if (got.code >= 1 && got.code <= 5) WANT(got.message > 0);
@@ -154,6 +154,20 @@ static void texts(void) {
   if (written.code >= 1 && written.code <= 5) WANT(written.code == code && written.place == place);
   memset(now.room, 'Z', now.size);
   free(sentence);
+}
+
+static void escapes(void) {
+  uint32_t escape = (uint32_t)below(7);
+  interpolator_answer got = interpolator_escaped(escape, FORMAT, VALUES, INTO), plain;
+  WANT((got.code == INTERPOLATOR_NO_ESCAPE) == (escape == 6));
+  if (got.code == INTERPOLATOR_MISPLACED) WANT(got.detail >= 1 && got.detail <= 4 && escape);
+  judge(got, length_of(got));
+  if (escape == 6 || got.code == INTERPOLATOR_MISPLACED) return;
+  plain = interpolator_format(FORMAT, VALUES, INTO);
+  WANT(plain.code == got.code && plain.place == got.place && plain.detail == got.detail);
+  if (plain.code == INTERPOLATOR_OK)
+    WANT(escape ? plain.length <= got.length : plain.length == got.length);
+  judge(plain, length_of(plain));
 }
 
 static void checks(void) {
@@ -210,6 +224,7 @@ int main(int words, char **word) {
     make();
     memset(now.room, 'Z', now.size);
     texts();
+    escapes();
     checks();
     others();
     unmake();

@@ -64,6 +64,7 @@ static const char *sentence_of(uint32_t code) {
     case INTERPOLATOR_LISTS: return "a list lies where it may not";
     case INTERPOLATOR_FULL: return "the room is too small";
     case INTERPOLATOR_TABLE: return "not as many cells as columns times rows";
+    case INTERPOLATOR_NO_ESCAPE: return "there is no such escape";
     default: return "";
   }
 }
@@ -570,6 +571,79 @@ static void tables(void) {
   WANT(is_text(got, "xxx") && ends[0] == 1 && ends[1] == 2 && ends[2] == 3);
 }
 
+/* What the escapes write of these values, and where they do not let one stand: rows of
+ * crates/interpolator_tests/src/escaped.rt. */
+static const struct {
+  uint32_t escape;
+  const char *format, *text;
+} escaped_rows[] = {
+    {INTERPOLATOR_ESCAPE_HTML, "<p title=\"{a}\">{b}</p>", "<p title=\"&lt;&amp;&gt;&quot;x\">it&#39;s</p>"},
+    {INTERPOLATOR_ESCAPE_HTML, "{a:<^9}{n:&>4}", "&lt;&lt;&lt;&amp;&gt;&quot;x&lt;&lt;&amp;&amp;-7"},
+    {INTERPOLATOR_ESCAPE_HTML, "{l:i(<b>{}</b>)(, )}{l:i}", "<b>&lt;</b>, <b>&quot;</b>&lt;&quot;"},
+    {INTERPOLATOR_ESCAPE_CSV, "\"{a:.4}\",\"{a:>6}\"", "\"<&>\"\"\",\" <&>\"\"x\""},
+    {INTERPOLATOR_ESCAPE_JSON, "{{\"a\": \"{a}\", \"b\": \"{b}\"}}",
+     "{\"a\": \"\\u003c&>\\\"x\", \"b\": \"it's\"}"},
+    {INTERPOLATOR_ESCAPE_JSON, "\"{c}{n}\"", "\"\\t\\\\-7\""},
+    {INTERPOLATOR_ESCAPE_SHELL, "echo '{b}' -- '{c}'", "echo 'it'\\''s' -- '\t\\'"},
+    {INTERPOLATOR_ESCAPE_LINE, "{a} {b} {c}", "<&>\"x it's \\t\\\\"},
+    {INTERPOLATOR_ESCAPE_NONE, "<p id={a}>{c}", "<p id=<&>\"x>\t\\"},
+};
+static const struct {
+  uint32_t escape;
+  const char *format;
+  size_t place;
+  uint32_t why;
+} misplaced_rows[] = {
+    {INTERPOLATOR_ESCAPE_HTML, "<p id={a}>", 6, INTERPOLATOR_MISPLACED_VALUE},
+    {INTERPOLATOR_ESCAPE_HTML, "{l:i(<b>{}</b)}", 0, INTERPOLATOR_MISPLACED_ITEM},
+    {INTERPOLATOR_ESCAPE_HTML, "{l:i({})(<br)}", 0, INTERPOLATOR_MISPLACED_JOIN},
+    {INTERPOLATOR_ESCAPE_CSV, "\"{a}\",{n}", 6, INTERPOLATOR_MISPLACED_VALUE},
+    {INTERPOLATOR_ESCAPE_JSON, "{{\"n\": {n}}}", 7, INTERPOLATOR_MISPLACED_VALUE},
+    {INTERPOLATOR_ESCAPE_SHELL, "echo {b}", 5, INTERPOLATOR_MISPLACED_VALUE},
+    {INTERPOLATOR_ESCAPE_LINE, "{a}{l:\t>9i({})}", 3, INTERPOLATOR_MISPLACED_FILL},
+};
+
+static interpolator_field escaped_fields[5], escaped_items[2];
+
+static interpolator_answer escaped(uint32_t escape, const char *format, size_t size) {
+  fill(room, sizeof room);
+  return interpolator_escaped(escape, format, strlen(format), escaped_fields, 5, escaped_items, 2, room, size);
+}
+
+static void escapes(void) {
+  static const char *const whys[] = {
+      "", "this value is out of place", "an item of this list ends elsewhere than it began",
+      "what is between two items of this list ends elsewhere than it began",
+      "the character that pads this list is structure"};
+  size_t k;
+  escaped_items[0] = interpolator_text("", "<");
+  escaped_items[1] = interpolator_text("", "\"");
+  escaped_fields[0] = interpolator_text("a", "<&>\"x");
+  escaped_fields[1] = interpolator_text("b", "it's");
+  escaped_fields[2] = interpolator_text("c", "\t\\");
+  escaped_fields[3] = interpolator_int("n", -7);
+  escaped_fields[4] = interpolator_list("l", 0, 2);
+  for (k = 0; k < sizeof escaped_rows / sizeof *escaped_rows; k++) {
+    const char *format = escaped_rows[k].format, *text = escaped_rows[k].text;
+    WANT(is_text(escaped(escaped_rows[k].escape, format, sizeof room), text));
+    WANT(same(escaped(escaped_rows[k].escape, format, 3), answer(INTERPOLATOR_OK, 0, 0, strlen(text), 0, 0)));
+    WANT(is_as_before(room, sizeof room));
+  }
+  for (k = 0; k < sizeof misplaced_rows / sizeof *misplaced_rows; k++) {
+    uint32_t escape = misplaced_rows[k].escape, why = misplaced_rows[k].why;
+    WANT(is_fault(escaped(escape, misplaced_rows[k].format, sizeof room), INTERPOLATOR_MISPLACED, why,
+                  misplaced_rows[k].place, whys[why]));
+  }
+  WANT(is_code(escaped(6, "<p id={a}>", sizeof room), INTERPOLATOR_NO_ESCAPE));
+  WANT(is_code(escaped(UINT32_MAX, "\xff", sizeof room), INTERPOLATOR_NO_ESCAPE));
+  WANT(is_code(escaped(INTERPOLATOR_ESCAPE_HTML, "\xff", sizeof room), INTERPOLATOR_NOT_UTF8));
+  WANT(is_missing_value(escaped(INTERPOLATOR_ESCAPE_HTML, "<b>{q}</b>", sizeof room), "q", 4));
+  WANT(is_fault(escaped(INTERPOLATOR_ESCAPE_HTML, "{q}<p id={a}>", sizeof room), INTERPOLATOR_MISPLACED,
+                INTERPOLATOR_MISPLACED_VALUE, 9, whys[1]));
+  escaped_fields[4].end = 3;
+  WANT(is_code(escaped(INTERPOLATOR_ESCAPE_HTML, "{a}", sizeof room), INTERPOLATOR_LISTS));
+}
+
 int main(void) {
   WANT(interpolator_agrees());
   texts();
@@ -588,6 +662,7 @@ int main(void) {
   faults();
   costs();
   tables();
+  escapes();
   printf("calls: %lu checks, %lu failed\n", checks, failures);
   return failures != 0;
 }

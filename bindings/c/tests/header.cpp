@@ -128,8 +128,9 @@ static void floating_numbers() {
   WANT(tiny && tiny.text.size() == 2002 + 1 + 2007 && tiny.text.substr(322, 6) == "000494");
   TEXT(std::string(65531, ' ') + "1.5", "{v:65534}", {{"v", 1.5}});
   FAULT(INTERPOLATOR_MISSING_TRAIT, 4, "{v:x}", {{"v", 1.5}});
-  FAULT(INTERPOLATOR_MISSING_TRAIT, 13, "{v:4294967290}", {{"v", 1.5}});
-  FAULT(INTERPOLATOR_MISSING_TRAIT, 9, "{v:.65536}", {{"v", 1.5}});
+  TEXT(std::string(99997, ' ') + "1.5", "{v:100000}", {{"v", 1.5}});
+  TEXT("1.5" + std::string(99999, '0'), "{v:.100000}", {{"v", 1.5f}});
+  TEXT("12.50|12|-0.75", "{a}|{a:.0}|{b}", {{"a", decimal(1250, 2)}, {"b", decimal(-75, 2)}});
 }
 
 // The text in no more memory than is allowed.
@@ -229,6 +230,27 @@ static void tables() {
   }
 }
 
+static void escapes() {
+  const fields row = {{"a", "<&>\"x"}, {"b", std::string("it's")}, {"l", {"<", "\""}}};
+  WANT(format_escaped(escape::html, "<p title=\"{a}\">{b}</p>", row)
+       == "<p title=\"&lt;&amp;&gt;&quot;x\">it&#39;s</p>");
+  WANT(format_escaped(escape::shell, "echo {l:i('{}')( )}", row) == "echo '<' '\"'");
+  WANT(format_escaped(escape::none, "<{b}>", row) == "<it's>");
+  const auto lent = [](const request &) { return std::optional<std::string>("\"lent\""); };
+  WANT(format_escaped(escape::json, "\"{v}\"", {{"v", lent}}) == "\"\\\"lent\\\"\"");
+  const std::string longer(1000, '"');
+  WANT(format_escaped(escape::csv, "\"{v}\"", {{"v", longer}}).size() == 2002);
+  WANT(try_format_escaped(escape::line, "{q}", row).answer.code == INTERPOLATOR_MISSING_VALUE);
+  try {
+    format_escaped(escape::html, "<p id={a}>", row);
+    WANT(false);
+  } catch (const error &fault) {
+    WANT(fault.code == INTERPOLATOR_MISPLACED && fault.place == 6);
+    WANT(fault.detail == INTERPOLATOR_MISPLACED_VALUE);
+    WANT(std::string(fault.what()) == "this value is out of place");
+  }
+}
+
 int main() {
   WANT(interpolator_agrees());
   values();
@@ -238,6 +260,7 @@ int main() {
   printers();
   faults_and_pictures();
   tables();
+  escapes();
   std::printf("header: %lu checks, %lu failed\n", checks, failures);
   return failures != 0;
 }

@@ -3,7 +3,8 @@
 usage: make_rows.py FILE.rows ..
 
 A row goes into the table if it has a format, and if C can pass its context: a name or an item with one
-view, or with one list and nothing else. How many are left out is written as a comment.
+view, or with one list and nothing else; or if it has a view, as a format of one argument. How many are
+left out is written as a comment.
 """
 import re
 import sys
@@ -64,7 +65,8 @@ def text_from(words):
 
 
 def value(words):
-    """What is under a name, or an item: (kind, slots, text, number, natural, upper, items)."""
+    """What is under a name, or an item: (kind, slots, text, number, natural, upper, items), or with
+    a float for the number."""
     if not words:
         return None
     if words[0] == ("word", "list"):
@@ -96,6 +98,11 @@ def value(words):
     elif kind[0] == "u" and kind[1:].isdigit():
         number = int(words.pop(0)[1])
         made = (5 if kind == "u128" else 4, mask, b"", 0, number & (2**64 - 1), number >> 64, [])
+    elif kind in ("f64", "f32"):
+        made = (13 if kind == "f64" else 14, mask, b"", words.pop(0)[1], 0, 0, [])
+    elif kind == "decimal":
+        units, scale = int(words.pop(0)[1]), int(words.pop(0)[1])
+        made = (15, mask, b"", units >> 64, units & (2**64 - 1), scale, [])
     elif kind == "truth":
         made = (2, mask, b"", 0, int(words.pop(0)[1] == "true"), 0, [])
     elif kind == "character":
@@ -112,6 +119,30 @@ def value(words):
     if made is None or words:
         raise LeftOut("more than one view, or a list beside one")
     return made
+
+
+LETTERS = dict(zip(TRAITS, ["", "?", "b", "o", "x", "X", "e", "E"]))
+
+
+def format_of(trait, words):
+    """The format of one argument, `v`, under a trait and a spec."""
+    text = ""
+    words = list(words)
+    while words:
+        kind, word = words.pop(0)
+        if word == "fill":
+            text = words.pop(0)[1]
+        elif word in ("x?", "X?"):
+            trait = word
+        else:
+            text += {"width": "", "precision": "."}.get(word, word)
+    return "{v:%s%s}" % (text, LETTERS.get(trait, trait))
+
+
+def fault_of_view(kind, trait, format):
+    """The fault of a view under a format of one argument."""
+    place = len(format.encode()) - 1
+    return (1, TRAITS.index(trait), place) if kind == "NotImplemented" else (2, 0, place)
 
 
 def fault_from(words):
@@ -163,14 +194,22 @@ def literal(data):
     return '"' + "".join(chr(byte) if plain(byte) else "\\%03o" % byte for byte in data) + '"'
 
 
+def real(word):
+    """A float as C writes it."""
+    return {"NaN": "NAN", "inf": "HUGE_VAL", "-inf": "-HUGE_VAL"}.get(word) or "%s%s" % (
+        word, "" if set(word) & set(".e") else ".0")
+
+
 def field_of(name, made, first, end):
     # what has no slot filled: a list slot of its own kind is not there, so a kind that is unknown
     # with a slot that no format can reach stands for it
     kind, slots, text, number, natural, upper, _ = made if made else (99, 256, b"", 0, 0, 0, [])
     name = name.encode()
+    reals = {13: "%s,0", 14: "0,%s"}.get(kind)
+    reals, number = (reals % real(number), 0) if reals else ("0,0", number)
     signed = "INT64_MIN" if number == -(2**63) else "%dLL" % number
-    return "{{%s,%d},{%s,%d},0,0,%d,%d,%s,%dULL,%dULL,%d,%d,{0,0}}" % (
-        literal(name), len(name), literal(text), len(text), kind, slots, signed, natural, upper, first, end)
+    return "{{%s,%d},{%s,%d},0,0,%d,%d,%s,%dULL,%dULL,%d,%d,%s,0}" % (
+        literal(name), len(name), literal(text), len(text), kind, slots, signed, natural, upper, first, end, reals)
 
 
 def main(files):
@@ -184,12 +223,26 @@ def main(files):
                 contexts.append(Table(names))
                 context = len(contexts) - 1
                 names = None
-            if row is not None:
+            if row is not None and "view" in row:
+                view = [("word", "integer")] + row["view"]
+                trait = row["trait"]
+                format = format_of(trait, row.get("spec", []))
+                contexts.append(Table({"v": view}))
+                made = {"name": row["name"], "format": format.encode()}
+                if "text" in row:
+                    made["text"] = row["text"]
+                if "view_fault" in row:
+                    made["fault"] = fault_of_view(row["view_fault"], trait, format)
+                if contexts[-1].left_out or row["left_out"] or trait == "iter":
+                    left_out += 1
+                else:
+                    rows.append((file.split("/")[-1], made, len(contexts) - 1))
+            elif row is not None:
                 if "format" in row and not contexts[context].left_out and not row["left_out"]:
                     rows.append((file.split("/")[-1], row, context))
                 elif "format" in row:
                     left_out += 1
-                row = None
+            row = None
 
         for line in open(file, encoding="utf-8", newline="\n").read().split("\n"):
             if not line.strip() or line.lstrip().startswith("#"):
@@ -212,6 +265,12 @@ def main(files):
                     row[key] = text_from(words).encode()
                     if words or len(row[key]) > LONGEST:
                         raise LeftOut(key)
+                elif key in ("view", "spec"):
+                    row[key] = words
+                elif key == "trait":
+                    row[key] = words[0][1]
+                elif key == "fault" and "view" in row:
+                    row["view_fault"] = words[0][1]
                 elif key in ("fault", "sample", "check"):
                     row[key] = fault_from(words)
                 elif key == "faults":

@@ -97,6 +97,14 @@ static int format_text(int refused) {
 static int format_fault(int refused) {
   return format("{nobody}", INTERPOLATOR_MISSING_VALUE, 1, "specified value not in context `nobody` at 1", refused);
 }
+static int escaped(int refused) {
+  static const char *of = "<p title=\"{name}\">{l:i(<i>{}</i>)} and {l:>20i({})}</p>";
+  interpolator_answer got = interpolator_escaped(INTERPOLATOR_ESCAPE_HTML, of, strlen(of), fields, 2, items, 4,
+                                                 room, sizeof room);
+  return refused ? lacks(got, 0, 0, room, sizeof room)
+                 : told(got, INTERPOLATOR_OK, 0,
+                        "<p title=\"Ann\"><i>a</i><i>255</i> and                 a255</p>");
+}
 static int write_fault(int refused) {
   static const char *of = "{name} {l:>9i({})(, )}{nobody}", *text = "Ann    a, 255";
   static const char *says = "specified value not in context `nobody` at 23";
@@ -188,6 +196,7 @@ static const struct {
   int (*call)(int refused);
 } all[] = {
     {"format", format_text},         {"format, a fault", format_fault}, {"write, a fault", write_fault},
+    {"escaped", escaped},
     {"write, too much", write_full}, {"check", check},                  {"explain", explain},
     {"check_alone", check_alone},    {"faults", faults},                {"rows", rows},
     {"rows, a fault", rows_fault},   {"cost", cost},                    {"arguments", arguments},

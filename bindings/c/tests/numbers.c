@@ -1,9 +1,10 @@
-/* Decimals and doubles as fields: against tables of rustc and of Python's decimal, against libc's
- * printf and strtod on numbers by chance, in rooms of each size, in lists, and without places.
+/* Doubles, floats and decimals as fields: against tables of rustc and of Python's decimal, against
+ * libc's printf and strtod on numbers by chance, under each rounding mode, in lists, in tables, and out
+ * of range.
  *
  *   numbers [TIMES]
  */
-#include "interpolator_numbers.h"
+#include "interpolator.h"
 #include <fenv.h>
 #include <float.h>
 #include <math.h>
@@ -19,18 +20,6 @@ static void want_at(int line, int holds, const char *got) {
   printf("FAILED line %d: %s\n", line, got);
 }
 #define WANT(holds, got) want_at(__LINE__, (holds) != 0, got)
-
-/* Memory for the texts of a format. */
-typedef struct {
-  interpolator_argument arguments[40];
-  interpolator_lent lent[40];
-  char room[9000];
-} memory;
-
-static interpolator_texts texts_in(const char *format, memory *of) {
-  return interpolator_texts_for(format, strlen(format), of->arguments, 40, of->lent, 40, of->room,
-                                sizeof of->room);
-}
 
 static void want_text(int line, const char *format, const interpolator_field *fields, size_t count,
                       const interpolator_field *items, size_t item_count, const char *wanted) {
@@ -63,20 +52,18 @@ static void doubles(void) {
       {1e23, "99999999999999991611392.00|99999999999999991611392.0|99999999999999991611392|"
              "+1.000e23|1e23---|000000001E23|99999999999999991611392.0|1e23"},
       {HUGE_VAL, "****inf*****|00000inf|~~~~~~inf|  +inf   |inf----|000000000inf|inf|inf"},
+      {NAN, "****NaN*****|00000NaN|~~~~~~NaN|   NaN   |NaN----|000000000NaN|NaN|NaN"},
       {-HUGE_VAL, "****-inf****|-0000inf|~~~~~-inf|  -inf   |-inf---|-00000000inf|-inf|-inf"},
   };
-  static memory of;
   size_t k, at;
   for (k = 0; k < sizeof all / sizeof *all; k++) {
     char wanted[400], *end = wanted;
-    interpolator_texts texts = texts_in(form, &of);
-    interpolator_field field = interpolator_double("v", all[k].number, &texts);
+    interpolator_field field = interpolator_double("v", all[k].number);
     for (at = 0; all[k].text[at]; at++) {
       if (all[k].text[at] == '~') *end++ = '\xC3', *end++ = '\xA9';
       else *end++ = all[k].text[at];
     }
     *end = '\0';
-    WANT(texts.code == INTERPOLATOR_OK && !texts.is_short, form);
     want_text(__LINE__, form, &field, 1, NULL, 0, wanted);
   }
 }
@@ -112,12 +99,9 @@ static void decimals(void) {
                      "9.223372036854775807e18|9.2E18|9223372036854775807|9223372036854775807|"
                      "9223372036854775807"},
   };
-  static memory of;
   size_t k;
   for (k = 0; k < sizeof all / sizeof *all; k++) {
-    interpolator_texts texts = texts_in(form, &of);
-    interpolator_field field = interpolator_decimal("v", all[k].units, all[k].scale, &texts);
-    WANT(!texts.is_short, form);
+    interpolator_field field = interpolator_decimal("v", all[k].units, all[k].scale);
     want_text(__LINE__, form, &field, 1, NULL, 0, all[k].text);
   }
 }
@@ -145,24 +129,20 @@ static double number_by_chance(void) {
   return isfinite(number) ? number : 0.1;
 }
 
-static interpolator_request asking(uint32_t slot, int precision) {
-  interpolator_request made;
-  memset(&made, 0, sizeof made);
-  made.fill = INTERPOLATOR_NO_FILL;
-  made.slot = slot;
-  if (precision >= 0) {
-    made.given = INTERPOLATOR_PRECISION;
-    made.precision = (size_t)precision;
-  }
-  return made;
+/* The text of a field under a spec, whose precision is left out if it is negative. */
+static const char *text_of(interpolator_field field, const char *letter, int precision) {
+  static char room[2000];
+  char format[40];
+  interpolator_answer got;
+  if (precision < 0) sprintf(format, "{v:%s}", letter);
+  else sprintf(format, "{v:.%d%s}", precision, letter);
+  got = interpolator_format(format, strlen(format), &field, 1, NULL, 0, room, sizeof room - 1);
+  room[got.code == INTERPOLATOR_OK && got.length < sizeof room ? got.length : 0] = '\0';
+  return room;
 }
 
-static const char *double_text(double number, uint32_t slot, int precision) {
-  static char room[2000];
-  interpolator_request asked = asking(slot, precision);
-  size_t length = interpolator_double_text(number, &asked, room, sizeof room - 1);
-  room[length < sizeof room ? length : 0] = '\0';
-  return room;
+static const char *double_text(double number, const char *letter, int precision) {
+  return text_of(interpolator_double("v", number), letter, precision);
 }
 
 /* libc's exponent form, with an exponent as Rust's. */
@@ -182,14 +162,14 @@ static void by_chance(long times) {
     int precision = (int)(chance() % (times % 64 ? 20 : 1300)), digits;
     const char *got;
     snprintf(wanted, sizeof wanted, "%.*f", precision, number);
-    got = double_text(number, INTERPOLATOR_DISPLAY, precision);
+    got = double_text(number, "", precision);
     WANT(strcmp(got, wanted) == 0, wanted);
-    got = double_text(number, INTERPOLATOR_LOWER_EXP, precision);
+    got = double_text(number, "e", precision);
     WANT(strcmp(got, printed_exponent(number, precision)) == 0, got);
     /* the fewest digits that are read as the number */
-    got = double_text(number, INTERPOLATOR_DISPLAY, -1);
+    got = double_text(number, "", -1);
     WANT(strtod(got, NULL) == number, got);
-    got = double_text(number, INTERPOLATOR_LOWER_EXP, -1);
+    got = double_text(number, "e", -1);
     WANT(strtod(got, NULL) == number, got);
     for (digits = 0; strtod(printed_exponent(number, digits), NULL) != number; digits++) {}
     WANT(strlen(got) <= strlen(printed_exponent(number, digits)), got);
@@ -202,103 +182,84 @@ static void rounding_modes(void) {
   size_t k;
   for (k = 0; k < 3; k++) {
     fesetround(modes[k]);
-    WANT(strcmp(double_text(0.125, INTERPOLATOR_DISPLAY, 2), "0.12") == 0, "0.125");
-    WANT(strcmp(double_text(0.3, INTERPOLATOR_DISPLAY, -1), "0.3") == 0, "0.3");
-    WANT(strcmp(double_text(-2.675, INTERPOLATOR_LOWER_EXP, 2), "-2.67e0") == 0, "-2.675");
+    WANT(strcmp(double_text(0.125, "", 2), "0.12") == 0, "0.125");
+    WANT(strcmp(double_text(0.3, "", -1), "0.3") == 0, "0.3");
+    WANT(strcmp(double_text(-2.675, "e", 2), "-2.67e0") == 0, "-2.675");
   }
   fesetround(FE_TONEAREST);
 }
 
 static void floats(void) {
-  char room[64];
-  interpolator_request asked = asking(INTERPOLATOR_DISPLAY, -1);
-  size_t length = interpolator_float_text(0.1f, &asked, room, sizeof room);
-  WANT(length == 3 && memcmp(room, "0.1", 3) == 0, "0.1f");
-  length = interpolator_float_text(162236.625f, &asked, room, sizeof room);
-  WANT(length == 9 && memcmp(room, "162236.63", 9) == 0, "162236.625f");
-  length = interpolator_float_text(FLT_MAX, &asked, room, sizeof room);
-  WANT(length == 39 && memcmp(room, "34028235000", 11) == 0, "FLT_MAX");
+  WANT(strcmp(text_of(interpolator_float("v", 0.1f), "", -1), "0.1") == 0, "0.1f");
+  WANT(strcmp(text_of(interpolator_float("v", 162236.625f), "", -1), "162236.63") == 0, "a float");
+  WANT(strcmp(text_of(interpolator_float("v", 0.1f), "", 11), "0.10000000149") == 0, "0.1f");
+  WANT(strcmp(text_of(interpolator_float("v", FLT_MAX), "e", -1), "3.4028235e38") == 0, "FLT_MAX");
+  WANT(strcmp(text_of(interpolator_float("v", NAN), "", -1), "NaN") == 0, "NAN");
+  WANT(strcmp(text_of(interpolator_float("v", -HUGE_VALF), "?", -1), "-inf") == 0, "an infinity");
 }
 
-/* ---- Rooms and places */
-
-/* A fill of four bytes. */
-#define SMILE "\xF0\x9F\x98\x80"
-
-/* A text lies in a room if it fits; else the room is as it was. */
-static void rooms(void) {
-  interpolator_request asked = asking(INTERPOLATOR_DISPLAY, 3);
-  char room[40];
-  size_t size, k;
-  asked.width = 9;
-  asked.given |= INTERPOLATOR_WIDTH;
-  asked.alignment = 2;
-  asked.fill = 0x1F600;
-  for (size = 0; size < sizeof room; size++) {
-    memset(room, '#', sizeof room);
-    WANT(interpolator_double_text(-0.5, &asked, room, size) == 18, "length");
-    if (size < 18) {
-      for (k = 0; k < sizeof room; k++) WANT(room[k] == '#', "an untouched room");
-    } else {
-      WANT(memcmp(room, SMILE "-0.500" SMILE SMILE "##", 20) == 0, "a text");
-    }
+/* Each bit pattern is a value, also of a NaN with a sign, or one that signals. */
+static void patterns(void) {
+  static const uint64_t nans[] = {0x7FF0000000000001U, 0xFFF8000000000000U, UINT64_MAX};
+  size_t k;
+  for (k = 0; k < 3; k++) {
+    interpolator_field field = interpolator_of("v", INTERPOLATOR_DOUBLE);
+    uint32_t single = (uint32_t)(nans[k] >> 32) | 1;
+    memcpy(&field.real, &nans[k], sizeof field.real);
+    want_text(__LINE__, "{v:+}|{v:06}|{v:.2e}", &field, 1, NULL, 0, "NaN|000NaN|NaN");
+    field = interpolator_of("v", INTERPOLATOR_FLOAT);
+    single |= 0x7F800001U;
+    memcpy(&field.single, &single, sizeof field.single);
+    want_text(__LINE__, "{v:+}|{v:06}|{v:.2e}", &field, 1, NULL, 0, "NaN|000NaN|NaN");
   }
-  asked.width = SIZE_MAX;
-  WANT(interpolator_double_text(-0.5, &asked, room, sizeof room) == SIZE_MAX, "a width");
-  asked.fill = INTERPOLATOR_NO_FILL;
-  WANT(interpolator_double_text(-0.5, &asked, room, sizeof room) == SIZE_MAX, "a width");
-  asked.precision = SIZE_MAX;
-  WANT(interpolator_decimal_text(1, 3, &asked, room, sizeof room) == SIZE_MAX, "a precision");
-  asked.slot = INTERPOLATOR_UPPER_EXP;
-  WANT(interpolator_decimal_text(1, 3, &asked, room, sizeof room) == SIZE_MAX, "a precision");
-  asked.slot = INTERPOLATOR_BINARY;
-  WANT(interpolator_decimal_text(1, 3, &asked, room, sizeof room) == 0, "a trait");
 }
 
-static void places(void) {
-  static const char format[] =
-      "{n} {v:9.1} {v:9.1}{l:i({:.1} {v:.2})(, )} {l:i}{l:i#({:i({:.3})})#}";
-  static memory of;
-  interpolator_field fields[3], items[3];
-  interpolator_texts texts = texts_in(format, &of);
+static void want_fault(int line, const char *format, interpolator_field field, uint32_t code,
+                       size_t place) {
+  interpolator_answer got =
+      interpolator_format(format, strlen(format), &field, 1, NULL, 0, NULL, 0);
+  want_at(line, got.code == code && got.place == place, format);
+  got = interpolator_check(format, strlen(format), &field, 1, NULL, 0, NULL, 0);
+  want_at(line, got.code == code && got.place == place, format);
+}
+
+/* Under the traits that they have not, and out of range. */
+static void without_texts(void) {
+  interpolator_field wide = interpolator_decimal("v", 5, UINT32_MAX);
+  static const char *const formats[] = {"{v:x}", "{v:X}", "{v:b}", "{v:o}"};
+  size_t k;
+  for (k = 0; k < 4; k++) {
+    want_fault(__LINE__, formats[k], interpolator_double("v", .5), INTERPOLATOR_MISSING_TRAIT, 4);
+    want_fault(__LINE__, formats[k], interpolator_float("v", .5), INTERPOLATOR_MISSING_TRAIT, 4);
+    want_fault(__LINE__, formats[k], interpolator_decimal("v", 5, 1), INTERPOLATOR_MISSING_TRAIT, 4);
+  }
+  want_text(__LINE__, "{v:.1}|{v:e}", &wide, 1, NULL, 0, "0.0|5e-4294967295");
+  wide.upper++;
+  want_fault(__LINE__, "{v:.1}", wide, INTERPOLATOR_FMT, 5);
+  wide = interpolator_of("v", INTERPOLATOR_DECIMAL);
+  wide.number = INT64_MIN; /* -2^127 */
+  want_text(__LINE__, "{v}", &wide, 1, NULL, 0, "-170141183460469231731687303715884105728");
+  wide.slots = INTERPOLATOR_SLOT_DISPLAY;
+  want_fault(__LINE__, "{v:e}", wide, INTERPOLATOR_MISSING_TRAIT, 4);
+}
+
+static void lists_and_tables(void) {
+  static const char line[] = "{v:>6.1};";
+  interpolator_field fields[2], items[2], cells[3];
   interpolator_answer got;
-  size_t lent, room;
-  fields[0] = interpolator_int("n", 7);
-  fields[1] = interpolator_decimal("v", 314, 2, &texts);
-  fields[2] = interpolator_list("l", 0, 2);
-  items[0] = interpolator_double("", 0.25, &texts);
-  items[1] = interpolator_decimal("", -75, 2, &texts);
-  WANT(fields[1].lent_count == 2 && items[0].lent_count == 3 && !texts.is_short, format);
-  want_text(__LINE__, "{n} {v:9.1} {v:9.1}", fields, 3, items, 2, "7       3.1       3.1");
-  want_text(__LINE__, "{l:i({:.1} {v:.2})(, )} {l:i}", fields, 3, items, 2,
-            "0.2 3.14, -0.8 3.14 0.25-0.75");
-  /* with fewer places and bytes it is short, or all is as before */
-  for (lent = 0; lent <= 8; lent++) {
-    for (room = 0; room < 60; room++) {
-      int is_enough = lent >= 8 && room >= 9 + 4 + 3 + 5 + 4 + 4 + 6 + 5;
-      texts = interpolator_texts_for(format, sizeof format - 1, of.arguments, 40, of.lent, lent,
-                                     of.room, room);
-      fields[1] = interpolator_decimal("v", 314, 2, &texts);
-      items[0] = interpolator_double("", 0.25, &texts);
-      items[1] = interpolator_decimal("", -75, 2, &texts);
-      WANT(texts.is_short == !is_enough, "is_short");
-    }
-  }
-  texts = interpolator_texts_for(format, sizeof format - 1, of.arguments, 3, of.lent, 40, of.room,
-                                 900);
-  WANT(texts.is_short && texts.code == INTERPOLATOR_OK, "arguments");
-  /* without a text it is a fault, not another text */
-  texts = interpolator_texts_for("{v:.1}", 6, of.arguments, 40, of.lent, 40, of.room, 2);
-  fields[1] = interpolator_double("v", 0.5, &texts);
-  got = interpolator_format("{v:.1}", 6, fields, 2, NULL, 0, NULL, 0);
-  WANT(texts.is_short && got.code == INTERPOLATOR_MISSING_TRAIT && got.place == 5, "a fault");
-  /* nor under a trait that it has not */
-  texts = texts_in("{v:x}", &of);
-  fields[1] = interpolator_decimal("v", 5, 1, &texts);
-  got = interpolator_format("{v:x}", 5, fields, 2, NULL, 0, NULL, 0);
-  WANT(!texts.is_short && got.code == INTERPOLATOR_MISSING_TRAIT && got.place == 4, "a fault");
-  texts = texts_in("\xFF{v}", &of);
-  WANT(texts.code == INTERPOLATOR_NOT_UTF8 && texts.argument_count == 0, "not UTF-8");
+  char room[40];
+  size_t ends[3];
+  items[0] = fields[0] = interpolator_double("v", 0.25);
+  items[1] = interpolator_decimal("", -75, 2);
+  fields[1] = interpolator_list("l", 0, 2);
+  want_text(__LINE__, "{l:i({:.1} {v:.2})(, )} {l:i}{l:i#({:#?})#}", fields, 2, items, 2,
+            "0.2 0.25, -0.8 0.25 0.25-0.750.25-0.75");
+  cells[0] = interpolator_float("", 1.25f);
+  cells[1] = interpolator_double("", -1e9);
+  cells[2] = interpolator_decimal("", 5, 0);
+  got = interpolator_rows(line, sizeof line - 1, fields, 1, cells, 3, ends, 3, room, sizeof room);
+  WANT(got.code == INTERPOLATOR_OK && got.length == 28 && ends[0] == 7 && ends[1] == 21, line);
+  WANT(memcmp(room, "   1.2;-1000000000.0;   5.0;", 28) == 0, room);
 }
 
 int main(int words, char **word) {
@@ -307,8 +268,9 @@ int main(int words, char **word) {
   by_chance(words > 1 ? atol(word[1]) : 2000);
   rounding_modes();
   floats();
-  rooms();
-  places();
+  patterns();
+  without_texts();
+  lists_and_tables();
   printf("numbers: %lu checks, %lu failed\n", checks, failures);
   return failures != 0;
 }

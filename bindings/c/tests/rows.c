@@ -3,6 +3,7 @@
  * as a sample by interpolator_check, interpolator_faults and interpolator_explain; by itself; and its
  * arguments. */
 #include "interpolator.h"
+#include <math.h>
 #include <stdio.h>
 #include <stdlib.h>
 

@@ -1,5 +1,5 @@
 /* Eight threads make each call at the same time, by the shared object, on stacks of 256 KiB. */
-#include "interpolator_numbers.h"
+#include "interpolator.h"
 #include <pthread.h>
 #include <stdio.h>
 #include <stdlib.h>
@@ -11,22 +11,16 @@ static const char faulty[] = "{thread} {nobody} {thread:y}";
 
 /* What a thread calls with. */
 typedef struct {
-  interpolator_argument arguments[8];
-  interpolator_lent lent[2];
   interpolator_field fields[3], items[3];
-  char digits[40];
 } row;
 
-static int fill(row *of, int number, int call) {
-  interpolator_texts texts = interpolator_texts_for(format, sizeof format - 1, of->arguments, 8,
-                                                    of->lent, 2, of->digits, sizeof of->digits);
+static void fill(row *of, int number, int call) {
   of->fields[0] = interpolator_int("thread", number);
   of->fields[1] = interpolator_list("l", 0, 2);
-  of->fields[2] = interpolator_double("half", number + .5, &texts);
+  of->fields[2] = interpolator_double("half", number + .5);
   of->items[0] = interpolator_int("", number);
   of->items[1] = interpolator_int("", call);
   of->items[2] = interpolator_int("", 0);
-  return texts.argument_count == 6 && !texts.is_short;
 }
 
 static int is_text(interpolator_answer got, const char *room, const char *text) {
@@ -88,9 +82,8 @@ static void *run(void *given) {
     char wanted[256];
     snprintf(wanted, sizeof wanted, "thread %d, call %5d: [%d|%d] %d.5", number, k, number, k,
              number);
-    if (!fill(&of, number, k) || !writes(&of, wanted) || !finds_faults(&of)
-        || !writes_a_table(number, k))
-      ++*wrong;
+    fill(&of, number, k);
+    if (!writes(&of, wanted) || !finds_faults(&of) || !writes_a_table(number, k)) ++*wrong;
   }
   return wrong;
 }

@@ -18,6 +18,7 @@ from ._faults import (
     BrokenFormat,
     Code,
     FormatError,
+    Misplaced,
     MissingTrait,
     MissingValue,
     NoMemory,
@@ -38,6 +39,7 @@ from ._templates import (
     explain,
     faults,
     format,
+    format_escaped,
     format_map,
     rows,
 )
@@ -53,6 +55,7 @@ __all__ = [
     "Cost",
     "FormatError",
     "Integer",
+    "Misplaced",
     "MissingTrait",
     "MissingValue",
     "NoMemory",
@@ -72,6 +75,7 @@ __all__ = [
     "explain",
     "faults",
     "format",
+    "format_escaped",
     "format_map",
     "rows",
 ]

@@ -21,6 +21,8 @@ class Code(enum.IntEnum):
     LISTS = 8
     FULL = 9
     TABLE = 10
+    MISPLACED = 11
+    NO_ESCAPE = 12
 
 
 class FormatError(ValueError):
@@ -134,6 +136,12 @@ class TooDeep(FormatError):
     __module__ = "interpolator"
 
 
+class Misplaced(FormatError):
+    """A value or a list stands where the escape does not let it stand."""
+
+    __module__ = "interpolator"
+
+
 _CLASSES: Dict[Code, Type[FormatError]] = {
     Code.MISSING_TRAIT: MissingTrait,
     Code.FMT: ValueFailed,
@@ -143,6 +151,7 @@ _CLASSES: Dict[Code, Type[FormatError]] = {
     Code.NO_MEMORY: NoMemory,
     Code.NOT_UTF8: NotUtf8,
     Code.LISTS: TooDeep,
+    Code.MISPLACED: Misplaced,
 }
 
 # The codes of faults that are at a place.

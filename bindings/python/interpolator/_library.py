@@ -36,6 +36,10 @@ UNSIGNED128 = 5
 SIGNED = {8: 6, 16: 7, 32: 8, 64: 9, 128: 10}
 LIST = 11
 LENT = 12
+DOUBLE = 13
+
+# The numbers of the escapes.
+ESCAPES = {"line": 1, "html": 2, "csv": 3, "json": 4, "shell": 5}
 
 
 class Bytes(ctypes.Structure):
@@ -74,7 +78,9 @@ class Field(ctypes.Structure):
         ("upper", ctypes.c_uint64),
         ("first", ctypes.c_size_t),
         ("end", ctypes.c_size_t),
-        ("spare", ctypes.c_uint64 * 2),
+        ("real", ctypes.c_double),
+        ("single", ctypes.c_float),
+        ("spare", ctypes.c_uint32),
     ]
 
 
@@ -125,8 +131,8 @@ class Sizes(ctypes.Structure):
         (name, ctypes.c_size_t)
         for name in (
             "request", "lent", "field", "answer", "argument", "cost_answer", "fault", "source",
-            "request_width", "lent_text", "field_kind", "field_number", "field_first", "answer_place",
-            "argument_request", "argument_item",
+            "request_width", "lent_text", "field_kind", "field_number", "field_first", "field_real",
+            "field_single", "answer_place", "argument_request", "argument_item",
         )
     ]
 
@@ -146,6 +152,8 @@ def _layout() -> Dict[str, int]:
         "field_kind": Field.kind.offset,
         "field_number": Field.number.offset,
         "field_first": Field.first.offset,
+        "field_real": Field.real.offset,
+        "field_single": Field.single.offset,
         "answer_place": Answer.place.offset,
         "argument_request": Argument.request.offset,
         "argument_item": Argument.item_first.offset,
@@ -177,6 +185,7 @@ def _declare(library: ctypes.CDLL) -> None:
     room = [ctypes.c_char_p, size]
     calls: Dict[str, Any] = {
         "interpolator_format": (Answer, text + fields + fields + room),
+        "interpolator_escaped": (Answer, [ctypes.c_uint32] + text + fields + fields + room),
         "interpolator_check": (Answer, text + fields + fields + room),
         "interpolator_check_alone": (Answer, text + room),
         "interpolator_explain": (

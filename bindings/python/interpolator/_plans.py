@@ -9,7 +9,7 @@ from decimal import Decimal
 from typing import Any, Dict, List, Optional, Tuple
 
 from . import _library as c
-from ._requests import float_spec, struct_of, text_for
+from ._requests import python_spec, struct_of, text_for
 from ._values import Character, Integer, Only, Plain, Uses
 
 try:
@@ -49,5 +49,7 @@ def plan_of(text: bytes, used: Dict[str, Uses]) -> Optional[Plan]:
 def _told(uses: Uses) -> Tuple[Any, ...]:
     """How a value is used, as the extension takes it."""
     wanted = tuple(
-        (bytes(struct_of(request)), request, float_spec(request)) for request in uses.requests)
+        (bytes(struct_of(request)), request, python_spec(request, fixed=True))
+        for request in uses.requests
+    )
     return wanted, None if uses.items is None else _told(uses.items)

@@ -160,14 +160,16 @@ def padded(text: str, request: Request) -> str:
 def text_for(value: Any, request: Request) -> str:
     """The text that Python makes of a value for a request.
 
-    Under `{:?}` it is `repr(value)`, padded like a text; a `float` or an `int` is debugged as it is
-    displayed. Under any other trait it is `format(value, spec)` with the same spec in Python's
-    form; a precision of a number counts the digits after the point. These are displayed as
-    `format(value, "")`, padded here, since their `__format__` does not know widths: a date or a time,
-    a value whose type does not say how it is formatted, and a text or a whole number whose type has
-    a `__str__` of its own. What a whole number or a text ignores is left out.
+    Under `{:?}` it is `repr(value)`, padded like a text; what has the `repr` of a `float` or an
+    `int` is debugged as it is displayed. Under any other trait it is `format(value, spec)` with
+    the same spec in Python's form; a precision of a number counts the digits after the point.
+    These are displayed as `format(value, "")`, padded here, since their `__format__` does not
+    know widths: a date or a time, a value whose type does not say how it is formatted, and a
+    text or a whole number whose type has a `__str__` of its own. What a whole number or a text
+    ignores is left out.
 
-    >>> text_for(3.14159, Request(width=8, precision=2))
+    >>> from decimal import Decimal
+    >>> text_for(Decimal("3.14159"), Request(width=8, precision=2))
     '    3.14'
     >>> text_for(datetime.date(2024, 2, 29), Request(alignment=">", width=12))
     '  2024-02-29'
@@ -190,17 +192,6 @@ def text_for(value: Any, request: Request) -> str:
     if isinstance(value, int) and not _says_how(value):
         request = request._replace(precision=None)
     return format(value, python_spec(request, fixed=isinstance(value, numbers.Number)))
-
-
-def float_spec(request: Request) -> str:
-    """The spec by which `format()` makes the text of a `float` for a request, as `text_for` does.
-
-    >>> float_spec(Request(trait=Trait.DEBUG, width=8, precision=2))
-    '8.2f'
-    """
-    if request.trait == Trait.DEBUG:
-        request = request._replace(trait=_DEBUGS[request.hex_debug])
-    return python_spec(request, fixed=True)
 
 
 # What a number is debugged as.

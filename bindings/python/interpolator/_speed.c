@@ -25,15 +25,14 @@ static format_call library_format;
 static rows_call library_rows;
 
 /* text_for(value, request); the types whose values are left to the other modules, as a tuple; and
- * Decimal, which is printed as a float is, but under `{:?}`. */
+ * Decimal, which is printed by a spec, but under `{:?}`. */
 static PyObject *text_for;
 static PyObject *left_out;
 static PyObject *decimal;
 
 /* ---- How a format uses a value */
 
-/* A request, as the library and as Python have it, and the spec by which a float has the same text.
- */
+/* A request, as the library and as Python have it, and the spec by which a Decimal has the text. */
 typedef struct {
   interpolator_request asked;
   PyObject *request;
@@ -206,8 +205,7 @@ static int lay_number(laid *to, interpolator_field *field, PyObject *value) {
 
 /* The text of a value for a request, as a new reference. */
 static PyObject *printed(laid *to, PyObject *value, const wanted *one) {
-  int by_spec = PyFloat_CheckExact(value)
-                || ((PyObject *)Py_TYPE(value) == decimal && one->asked.slot != INTERPOLATOR_DEBUG);
+  int by_spec = (PyObject *)Py_TYPE(value) == decimal && one->asked.slot != INTERPOLATOR_DEBUG;
   PyObject *text = by_spec ? PyObject_Format(value, one->spec)
                            : PyObject_CallFunctionObjArgs(text_for, value, one->request, NULL);
   if (!text
@@ -246,7 +244,8 @@ static int lay_printed(laid *to, interpolator_field *field, PyObject *value, con
 /* Whether the value is of a type, or of one derived from it, that the other modules know more of.
  */
 static int is_left_out(PyObject *value) {
-  if (PyUnicode_Check(value) || PyLong_Check(value) || PyList_Check(value) || PyTuple_Check(value))
+  if (PyUnicode_Check(value) || PyLong_Check(value) || PyFloat_Check(value) || PyList_Check(value)
+      || PyTuple_Check(value))
     return 1;
   return PyObject_IsInstance(value, left_out);
 }
@@ -265,7 +264,11 @@ static int lay(laid *to, array *in, PyObject *value, const uses *of) {
     return 0;
   }
   if (PyLong_CheckExact(value)) return lay_number(to, field, value);
-  if (PyFloat_CheckExact(value)) return lay_printed(to, field, value, of);
+  if (PyFloat_CheckExact(value)) {
+    field->kind = INTERPOLATOR_DOUBLE;
+    field->real = PyFloat_AsDouble(value);
+    return 0;
+  }
   if (PyList_CheckExact(value) || PyTuple_CheckExact(value)) {
     list *next;
     /* one that is printed as a whole, or is a cell, is rare */

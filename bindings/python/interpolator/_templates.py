@@ -128,6 +128,27 @@ class Template:
             raise self._fault(answer, text, fields, failures)
         return text
 
+    def format_escaped(self, escape: str, /, **values: Any) -> str:
+        """The text of the format with these values, each escaped for where it is shown: "html" in the
+        text of a page, or between the quotes of an attribute that is a text; "csv" and "json" between
+        double quotes; "shell" between single quotes; "line" anywhere. A text is escaped after its spec
+        has cut and padded it. `Misplaced` is raised if a value stands elsewhere, whatever it is.
+
+        >>> Template('<p title="{name}">{name:.4}</p>').format_escaped("html", name="<Ann>")
+        '<p title="&lt;Ann&gt;">&lt;Ann</p>'
+        >>> Template("<p title={name}>").format_escaped("html", name="Ann")
+        Traceback (most recent call last):
+        interpolator.Misplaced: this value is out of place
+        """
+        if escape not in c.ESCAPES:
+            raise ValueError(f"an escape is one of {', '.join(c.ESCAPES)}, not {escape!r}")
+        fields = self._fields_of(values)
+        before = (c.ESCAPES[escape],)
+        code, answer, text = self._call(_library.interpolator_escaped, fields, before)
+        if code:
+            raise self._fault(answer, text, fields)
+        return text
+
     def check(self, /, **examples: Any) -> None:
         """Raises the first fault that the format has, by itself or with these examples.
 
@@ -237,7 +258,7 @@ class Template:
     def cost(self, *, text: int, items: int) -> Cost:
         """How much the format can write at most, with values whose texts have at most `text`
         characters and whose lists have at most `items` items. A text that Python makes, as of a
-        float, counts as it is made, with its padding.
+        date, counts as it is made, with its padding.
 
         >>> Template("{a:>40}{b}").cost(text=60, items=0)
         Cost(characters=120, pieces=2, buffered=0)
@@ -355,6 +376,8 @@ class Template:
         """The exception for what a call over fields returned."""
         code = Code(answer.code)
         message = message or SENTENCES.get(code, "")
+        if code == Code.MISPLACED:
+            return self._misplaced(answer.place, message)
         if code not in PLACED:
             return fault(code, message, picture=f"{NAME}: {message}")
         index = self._index(answer.place)
@@ -365,6 +388,17 @@ class Template:
         elif code == Code.MISSING_VALUE and failures:
             found.__cause__ = failures.get(self._reading().name_at(answer.place))
         return found
+
+    def _misplaced(self, place: int, message: str) -> FormatError:
+        """The exception for a value that begins at a place, and stands where it may not."""
+        index = self._index(place)
+        before, line = self.text[:index].rpartition("\n")[::2]
+        first = before.count("\n") + (1 if index == len(line) else 2)
+        head = f"{NAME}:{first}:{len(line) + 1}: {message}"
+        margin = " " * len(str(first))
+        shown = line + self.text[index:].partition("\n")[0]
+        lines = (head, f"{margin} |", f"{first} | {shown}", f"{margin} | {' ' * len(line)}^")
+        return fault(Code.MISPLACED, message, place, index, "\n".join(lines))
 
     def _picture(self, answer: c.Answer, message: str, fields: Fields) -> str:
         """The picture of a fault: that of one of the faults over the values as examples, among which
@@ -456,6 +490,15 @@ def format_map(text: str, values: Mapping[str, Any], /) -> str:
     'Ann'
     """
     return _template(text).format_map(values)
+
+
+def format_escaped(escape: str, text: str, /, **values: Any) -> str:
+    """The text of a format with these values, each escaped: see `Template.format_escaped`.
+
+    >>> format_escaped("csv", '"{name}","{city}"', name='Ann "Zoë" Lee', city="Ulm")
+    '"Ann ""Zoë"" Lee","Ulm"'
+    """
+    return _template(text).format_escaped(escape, **values)
 
 
 def check(text: str, /, **examples: Any) -> None:

@@ -258,6 +258,8 @@ def _own(value: Any) -> Optional[c.Field]:
         return c.Field(kind=c.TRUTH, natural=value)
     if kind is int or isinstance(value, int) and _shows_as(kind, int):
         return _number(value, 128)
+    if kind is float or isinstance(value, float) and _shows_as(kind, float):
+        return c.Field(kind=c.DOUBLE, real=value)
     if kind is Integer:
         return _number(value.number, value.bits)
     if kind is Plain:

@@ -2,6 +2,7 @@
 
 from __future__ import annotations
 
+import decimal
 import pickle
 import subprocess
 import sys
@@ -92,8 +93,9 @@ class Checks(unittest.TestCase):
         check(text, l=[1])
 
     def test_a_value_that_python_formats(self) -> None:
-        check("{x:>99999999999999.99999999999}", x=0.5)
-        self.assertRaises(interpolator.ValueFailed, check, "{x:b}", x=0.5)
+        half = decimal.Decimal("0.5")
+        check("{x:>99999999999999.99999999999}", x=half)
+        self.assertRaises(interpolator.ValueFailed, check, "{x:b}", x=half)
 
     def test_a_format_by_itself(self) -> None:
         check_alone("{a} {b:x} {c:i({d:e}{:?})({})} {:>5}")

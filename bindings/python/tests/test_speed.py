@@ -115,7 +115,7 @@ class Speed(unittest.TestCase):
         self.assertRaises(RuntimeError, format, "{x}", x=Broken())
         self.assertRaises(RuntimeError, Template("{x}").rows, {"x": 1}, [(Broken(),)])
         with self.assertRaises(ValueFailed):
-            format("{x:x}", x=0.5)
+            format("{x:x}", x=decimal.Decimal("0.5"))
 
     def test_it_can_be_switched_off(self) -> None:
         self.assertFalse(os.environ.get("INTERPOLATOR_CTYPES"))

@@ -152,7 +152,7 @@ class Tables(unittest.TestCase):
             TypeError, "row 1 has a list", rows, "{a}", {"a": 1}, [(1,), ([],)])
         self.assertRaises(TypeError, rows, "{a}", {"a": []}, [])
         with self.assertRaises(ValueFailed) as raised:
-            rows("{a:b}", {"a": 1}, [(1,), (0.5,)])
+            rows("{a:b}", {"a": 1}, [(1,), (decimal.Decimal("0.5"),)])
         self.assertIsInstance(raised.exception.__cause__, ValueError)
 
     def test_rows_by_names(self) -> None:
@@ -192,7 +192,7 @@ class Tables(unittest.TestCase):
                          (error.row, str(error)))
         self.assertEqual(5000, pickle.loads(pickle.dumps(error)).row)
         with self.assertRaises(ValueFailed) as failed:
-            rows("{a:b}", {"a": 1}, [*good, (0.5,), ("c",)])
+            rows("{a:b}", {"a": 1}, [*good, (decimal.Decimal("0.5"),), ("c",)])
         self.assertEqual(5000, failed.exception.row)
         self.assertIsInstance(failed.exception.__cause__, ValueError)
         with self.assertRaises(MissingTrait) as first:

@@ -7,13 +7,14 @@ import datetime
 import decimal
 import enum
 import fractions
+import random
 import unittest
 import uuid
 from typing import Any, List, NamedTuple
 
 from interpolator import (
     Character, Code, Integer, MissingTrait, Only, Plain, TooDeep, Trait, ValueFailed,
-    format, format_map,
+    format, format_map, rows,
 )
 
 
@@ -199,8 +200,9 @@ class OtherValues(unittest.TestCase):
             ("{x:<08.2}", "00003.14"),
             ("{x:?}", "3.14159"),
             ("{x:.3?}", "3.142"),
-            ("{x:.2e}", "3.14e+00"),
-            ("{x:.1E}", "3.1E+00"),
+            ("{x:.2e}", "3.14e0"),
+            ("{x:.1E}", "3.1E0"),
+            ("{x:e}", "3.14159e0"),
         ):
             with self.subTest(text):
                 self.assertEqual(wanted, format(text, x=3.14159))
@@ -208,7 +210,45 @@ class OtherValues(unittest.TestCase):
     def test_floats_without_a_number(self) -> None:
         infinite = float("inf")
         self.assertEqual(
-            "inf nan   -inf", format("{a} {b} {c:>6}", a=infinite, b=float("nan"), c=-infinite))
+            "inf NaN   -inf", format("{a} {b} {c:>6}", a=infinite, b=float("nan"), c=-infinite))
+
+    def test_floats_as_rust_writes_them(self) -> None:
+        # by rustc 1.95
+        for number, wanted in (
+            (0.0, "0 0.0 0e0"),
+            (-0.0, "-0 -0.0 -0e0"),
+            (1.0, "1 1.0 1e0"),
+            (0.1, "0.1 0.1 1e-1"),
+            (1e21, "1000000000000000000000 1e21 1e21"),
+            (1e-7, "0.0000001 1e-7 1e-7"),
+            (123456789012345680.0, "123456789012345680 1.2345678901234568e17 1.2345678901234568e17"),
+            (5e-324, "0." + "0" * 323 + "5 5e-324 5e-324"),
+        ):
+            with self.subTest(number):
+                self.assertEqual(wanted, format("{x} {x:?} {x:e}", x=number))
+                self.assertEqual(format("{x:e}", x=number), format("{l:i({:e})}", l=[number]))
+                self.assertEqual([format("{x:?}", x=number)], rows("{x:?}", {"x": 0.5}, [(number,)]))
+
+    def test_digits_of_floats_are_those_of_python(self) -> None:
+        numbers = random.Random(7)
+        for _ in range(2000):
+            number = numbers.choice((1.0, 1e3, 1e-9, 1e25)) * numbers.uniform(-1, 1)
+            digits = numbers.randrange(20)
+            self.assertEqual(f"{number:.{digits}f}", format(f"{{x:.{digits}}}", x=number))
+            self.assertEqual(number, float(format("{x}", x=number)))
+            self.assertEqual(number, float(format("{x:e}", x=number)))
+
+    def test_a_type_derived_from_float(self) -> None:
+        class Same(float):
+            pass
+
+        class Metres(float):
+            def __str__(self) -> str:
+                return f"{float(self)} m"
+
+        self.assertEqual("2 2.0", format("{x} {x:?}", x=Same(2.0)))
+        self.assertRaises(MissingTrait, format, "{x:x}", x=Same(2.0))
+        self.assertEqual("2.0 m", format("{x}", x=Metres(2.0)))
 
     def test_decimals_and_fractions(self) -> None:
         price = decimal.Decimal("1234.505")
@@ -295,17 +335,17 @@ class OtherValues(unittest.TestCase):
 
     def test_a_value_that_fails(self) -> None:
         with self.assertRaises(ValueFailed) as raised:
-            format("é {x:x}", x=1.5)
+            format("é {x:x}", x=decimal.Decimal("1.5"))
         error = raised.exception
         self.assertEqual((Code.FMT, 7, 6), (error.code, error.place, error.index))
         self.assertIsInstance(error.__cause__, ValueError)
-        self.assertIn("'x'", str(error.__cause__))
+        self.assertIn("invalid format", str(error.__cause__))
 
     def test_an_item_that_fails(self) -> None:
         with self.assertRaises(ValueFailed) as raised:
-            format("{l:i({:b})}", l=[1, 2, 0.5])
+            format("{l:i({:b})}", l=[1, 2, decimal.Decimal("0.5")])
         self.assertIsInstance(raised.exception.__cause__, ValueError)
-        self.assertEqual("110", format("{l:i..2({:b})}", l=[1, 2, 0.5]))
+        self.assertEqual("110", format("{l:i..2({:b})}", l=[1, 2, decimal.Decimal("0.5")]))
 
     def test_a_plain_item_that_fails(self) -> None:
         class Bad:

@@ -197,25 +197,7 @@ impl<'a> Formattable<'a> {
     /// Whether the library writes all of it by itself.
     #[inline]
     pub(crate) fn is_known(&self) -> bool {
-        self.filled == self.known_slots() && self.filled != 0
-    }
-
-    /// The slots that the library writes by itself.
-    #[inline]
-    fn known_slots(&self) -> u32 {
-        match self.known {
-            Known::Float(_) => 0,
-            _ => self.covered,
-        }
-    }
-
-    /// The float under a slot, if there is one.
-    #[inline]
-    pub(crate) fn float_under(&self, slot: u32) -> Option<f64> {
-        match self.known {
-            Known::Float(bits) if self.covered & mask(slot) != 0 => Some(f64::from_bits(bits)),
-            _ => None,
-        }
+        self.filled == self.covered && self.filled != 0
     }
 
     /// Whether it has debug of a text that std escapes more of than the library.
@@ -249,7 +231,7 @@ impl<'a> Formattable<'a> {
             true => mask(slot::DEBUG),
             false => 0,
         };
-        match self.known_slots() & !escaped {
+        match self.covered & !escaped {
             0 => Field::NOTHING,
             covered => self.known.field(covered).with_own_slots(),
         }
@@ -261,7 +243,7 @@ impl<'a> Formattable<'a> {
             return true;
         }
         let is_escaped = request.slot == slot::DEBUG && self.is_escaped();
-        self.known_slots() & mask(request.slot) != 0 && !is_escaped
+        self.covered & mask(request.slot) != 0 && !is_escaped
     }
 
     /// Whether the slot is filled.

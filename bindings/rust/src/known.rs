@@ -20,8 +20,9 @@ pub(crate) enum Known<'a> {
     /// By its kind in the library.
     Signed(u32, i64),
     Signed128(&'a i128),
-    /// A float, by its bits as an `f64`: written by this crate, not by the library.
-    Float(u64),
+    /// A float, by its bits, so that one NaN is equal to another of the same bits.
+    Double(u64),
+    Float(u32),
 }
 
 impl<'a> Known<'a> {
@@ -56,8 +57,8 @@ impl<'a> Known<'a> {
             isize: number => signed(kind::SIGNED64, *number as i64),
             u128: number => Known::Unsigned128(number),
             i128: number => Known::Signed128(number),
-            f64: number => Known::Float(number.to_bits()),
-            f32: number => Known::Float(f64::from(*number).to_bits()),
+            f64: number => Known::Double(number.to_bits()),
+            f32: number => Known::Float(number.to_bits()),
             &'static &'static str: text => Known::Text(shorter(text)),
             &'static String: text => Known::Text(text.as_str()),
             Box<str>: text => Known::Text(text),
@@ -67,6 +68,8 @@ impl<'a> Known<'a> {
             &'static u32: number => Known::Unsigned(u64::from(**number)),
             &'static u64: number => Known::Unsigned(**number),
             &'static usize: number => Known::Unsigned(**number as u64),
+            &'static f64: number => Known::Double(number.to_bits()),
+            &'static f32: number => Known::Float(number.to_bits()),
         }
         Known::Nothing
     }
@@ -86,7 +89,7 @@ impl<'a> Known<'a> {
     #[inline]
     pub(crate) fn field(self, slots: u32) -> Field<'a> {
         let field = match self {
-            Known::Nothing | Known::Float(_) => Field::NOTHING,
+            Known::Nothing => Field::NOTHING,
             Known::Text(text) => Field::text(text),
             Known::Truth(truth) => Field::natural(kind::TRUTH, u64::from(truth)),
             Known::Character(character) => Field::natural(kind::CHARACTER, u64::from(character)),
@@ -94,6 +97,8 @@ impl<'a> Known<'a> {
             Known::Unsigned128(number) => Field::unsigned128(*number),
             Known::Signed(kind, number) => Field::signed(kind, number),
             Known::Signed128(number) => Field::signed128(*number),
+            Known::Double(bits) => Field::double(f64::from_bits(bits)),
+            Known::Float(bits) => Field::float(f32::from_bits(bits)),
         };
         field.with_slots(slots)
     }

@@ -23,18 +23,17 @@
 //! and in parentheses what is written between two items. A group that holds a `)` is set between `#(`
 //! and `)#`, with as many `#` as it takes.
 //!
-//! Whole numbers, texts, `bool` and `char` are written by the library. Floats and values of any other
-//! type are written by their own `fmt`, under the spec that the format has; but floats of at most 15
-//! digits behind the point are written by this crate, as by std.
+//! Whole numbers, floats, texts, `bool` and `char` are written by the library, as by std. Values of any
+//! other type are written by their own `fmt`, under the spec that the format has.
 //!
-//! Beside the API of that crate are [`check`], [`explain`], [`cost`] and [`rows`].
+//! Beside the API of that crate are [`check`], [`explain`], [`cost`], [`rows`] and [`format_escaped`].
 use std::borrow::Borrow;
 use std::collections::{BTreeMap, HashMap};
 use std::fmt;
 use std::hash::{BuildHasher, Hash};
 
 mod error;
-mod float;
+mod escaped;
 mod formattable;
 mod known;
 mod laid;
@@ -49,6 +48,7 @@ mod table;
 mod uses;
 
 pub use error::{Error, ParseError, Result, Trait};
+pub use escaped::{format_escaped, Escape, EscapeError, Why};
 pub use formattable::Formattable;
 pub use table::{rows, Rows, RowsError};
 

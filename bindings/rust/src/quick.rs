@@ -296,6 +296,22 @@ mod tests {
     use crate::row::Row;
     use crate::{whole, Result};
     use std::collections::HashMap;
+    use std::fmt::{self, Debug, Display, LowerExp, UpperExp};
+
+    /// A float of a type that the library does not know.
+    struct Other(f64);
+
+    macro_rules! written_as_its_float {
+        ($($by:ident)*) => {$(
+            impl $by for Other {
+                fn fmt(&self, f: &mut fmt::Formatter<'_>) -> fmt::Result {
+                    $by::fmt(&self.0, f)
+                }
+            }
+        )*};
+    }
+
+    written_as_its_float!(Debug Display LowerExp UpperExp);
 
     /// What the short way leads to, if the format is read as another one is.
     fn read_as(other: &str, format: &str, context: &dyn Context) -> Option<Result<String>> {
@@ -321,7 +337,7 @@ mod tests {
             ":#.1", ":e", ":E", ":x?", ":X?",
         ];
         let context = HashMap::from([
-            ("f", Formattable::float(&2.5)),
+            ("f", Formattable::float(&Other(2.5))),
             ("u", Formattable::debug_display(&"e\u{301}\u{200b}")),
         ]);
         for name in ["f", "u"] {

@@ -1,7 +1,6 @@
 //! A value's text under a request, by std's own formatting.
 use std::fmt::{self, Debug, Display, Write};
 
-use crate::float;
 use crate::formattable::{slot, Formattable};
 use crate::sys::{Request, NO_FILL, PRECISION, WIDTH};
 
@@ -55,13 +54,6 @@ pub(crate) fn write_value(
     }
     if !is_taken_by_std(request) {
         return Err(fmt::Error);
-    }
-    if let (Some(number), slot::DISPLAY | slot::DEBUG) =
-        (value.float_under(request.slot), request.slot)
-    {
-        if float::write(out, number, request) {
-            return Ok(());
-        }
     }
     match char::from_u32(request.fill) {
         Some(fill) if request.fill != NO_FILL && fill != ' ' && request.given & WIDTH != 0 => {

@@ -108,6 +108,8 @@ pub(crate) mod kind {
     pub(crate) const SIGNED128: u32 = 10;
     pub(crate) const LIST: u32 = 11;
     pub(crate) const LENT: u32 = 12;
+    pub(crate) const DOUBLE: u32 = 13;
+    pub(crate) const FLOAT: u32 = 14;
     /// None of the header's: a value without slots.
     pub(crate) const NOTHING: u32 = u32::MAX;
 }
@@ -115,8 +117,12 @@ pub(crate) mod kind {
 /// The slots of the kinds.
 mod slots {
     pub(super) const DEBUG_DISPLAY: u32 = 3;
+    pub(super) const FLOAT: u32 = 195;
     pub(super) const ALL: u32 = 255;
 }
+
+/// How many bytes most floats are written with: 17 digits, a point and a sign.
+const FLOAT_BYTES: usize = 19;
 
 /// A value under a name, or an item of a list.
 #[repr(C)]
@@ -133,7 +139,9 @@ pub(crate) struct Field<'a> {
     upper: u64,
     first: usize,
     end: usize,
-    spare: [u64; 2],
+    real: f64,
+    single: f32,
+    spare: u32,
     borrows: PhantomData<&'a [Lent<'a>]>,
 }
 
@@ -154,7 +162,9 @@ impl<'a> Field<'a> {
             upper: 0,
             first: 0,
             end: 0,
-            spare: [0; 2],
+            real: 0.0,
+            single: 0.0,
+            spare: 0,
             borrows: PhantomData,
         }
     }
@@ -194,6 +204,20 @@ impl<'a> Field<'a> {
             number: (number >> 64) as i64,
             natural: number as u64,
             ..Field::of(kind::SIGNED128)
+        }
+    }
+
+    pub(crate) const fn double(real: f64) -> Self {
+        Field {
+            real,
+            ..Field::of(kind::DOUBLE)
+        }
+    }
+
+    pub(crate) const fn float(single: f32) -> Self {
+        Field {
+            single,
+            ..Field::of(kind::FLOAT)
         }
     }
 
@@ -242,10 +266,13 @@ impl<'a> Field<'a> {
         self.text.length
     }
 
-    /// How many bytes it is written with, about, if it is a text, or a number of at most 64 bits in base
-    /// ten: each ten bits make at most four digits.
+    /// How many bytes it is written with, about, if it is a text, a float, or a number of at most 64
+    /// bits in base ten: each ten bits make at most four digits.
     #[inline]
     pub(crate) const fn bytes(&self) -> usize {
+        if matches!(self.kind, kind::DOUBLE | kind::FLOAT) {
+            return FLOAT_BYTES;
+        }
         let number = self.natural | self.number.unsigned_abs();
         let bits = u64::BITS - number.leading_zeros();
         self.text.length + 2 + bits as usize * 4 / 10
@@ -257,6 +284,7 @@ impl<'a> Field<'a> {
     pub(crate) const fn with_own_slots(self) -> Self {
         let own = match self.kind {
             kind::TEXT..=kind::CHARACTER => slots::DEBUG_DISPLAY,
+            kind::DOUBLE | kind::FLOAT => slots::FLOAT,
             _ => slots::ALL,
         };
         if self.slots == own {
@@ -290,6 +318,7 @@ pub(crate) mod code {
     pub(crate) const UNSUPPORTED: u32 = 5;
     pub(crate) const NO_MEMORY: u32 = 6;
     pub(crate) const FULL: u32 = 9;
+    pub(crate) const MISPLACED: u32 = 11;
 }
 
 /// How a format is broken: the lower four bits of a fault's detail. Above them is what is wrong with a
@@ -382,6 +411,18 @@ mod library {
 
     extern "C" {
         pub(super) fn interpolator_format(
+            format: *const u8,
+            format_length: usize,
+            fields: *const Field<'_>,
+            field_count: usize,
+            items: *const Field<'_>,
+            item_count: usize,
+            room: *mut u8,
+            room_length: usize,
+        ) -> Answer;
+
+        pub(super) fn interpolator_escaped(
+            escape: u32,
             format: *const u8,
             format_length: usize,
             fields: *const Field<'_>,
@@ -524,6 +565,34 @@ pub(crate) fn format(
     };
     // SAFETY: by `Told` in `FormatAnswers`, of every code: OK has a text of `length` bytes, which
     // lies in the room if it fits; any other a sentence of `message` bytes, likewise ("Answers").
+    unsafe { settle(room, written(&answer)) };
+    answer
+}
+
+/// The text of a format, each value escaped, or the sentence of what is wrong, in the room if its
+/// capacity is enough.
+pub(crate) fn escaped(
+    escape: u32,
+    format: &str,
+    fields: &[Field<'_>],
+    items: &[Field<'_>],
+    room: &mut String,
+) -> Answer {
+    // SAFETY: as in `format`.
+    let answer = unsafe {
+        library::interpolator_escaped(
+            escape,
+            format.as_ptr(),
+            format.len(),
+            fields.as_ptr(),
+            fields.len(),
+            items.as_ptr(),
+            items.len(),
+            room.as_mut_ptr(),
+            room.capacity(),
+        )
+    };
+    // SAFETY: by `Told` in `FormatAnswers`, `EscapedBy` and `ToldCode`, of every code: as in `format`.
     unsafe { settle(room, written(&answer)) };
     answer
 }
@@ -717,6 +786,8 @@ mod tests {
         field_kind: usize,
         field_number: usize,
         field_first: usize,
+        field_real: usize,
+        field_single: usize,
         answer_place: usize,
         argument_request: usize,
         argument_item: usize,
@@ -743,6 +814,8 @@ mod tests {
             field_kind: offset_of!(Field<'_>, kind),
             field_number: offset_of!(Field<'_>, number),
             field_first: offset_of!(Field<'_>, first),
+            field_real: offset_of!(Field<'_>, real),
+            field_single: offset_of!(Field<'_>, single),
             answer_place: offset_of!(Answer, place),
             argument_request: offset_of!(Argument, request),
             argument_item: offset_of!(Argument, item_first),

@@ -122,25 +122,75 @@ fn compare(format_text: &str, context: &impl interpolator::Context, by_std: Opti
 
 #[test]
 fn the_greatest_widths_and_precisions() {
-    let (double, single, number) = (2.5, 1e-30f32, Own(12));
+    let number = Own(12);
+    let context = map(&[("n", Formattable::integer(&number))]);
+    compare_at_the_border!("n", number in context: "" "?" "b" "o" "x" "X" "e" "E" "x?" "X?");
+}
+
+/// The text of `{name:spec}`.
+fn under(context: &impl interpolator::Context, name: &str, spec: &str) -> String {
+    format(&format!("{{{name}:{spec}}}"), context).unwrap_or_else(|error| panic!("{spec}: {error}"))
+}
+
+/// What the library writes takes any width and precision: a text is that of a smaller one, with more
+/// spaces or zeros.
+#[test]
+fn greater_widths_and_precisions() {
+    let (double, single) = (2.5, 1e-30f32);
     let context = map(&[
         ("d", Formattable::float(&double)),
         ("s", Formattable::float(&single)),
-        ("n", Formattable::integer(&number)),
         ("k", Formattable::integer(&12)),
     ]);
-    compare_at_the_border!("d", double in context: "" "?" "e" "E");
-    compare_at_the_border!("s", single in context: "" "?" "e" "E");
-    compare_at_the_border!("n", number in context: "" "?" "b" "o" "x" "X" "e" "E" "x?" "X?");
-    for letter in ["", "?", "b", "o", "x", "X", "e", "E", "x?", "X?"] {
-        for count in 65_533..=65_537 {
-            let format_text = format!("{{k:{count}{letter}}}");
-            assert_eq!(
-                format(&format_text, &context).map(|text| text.len()),
-                Ok(count)
-            );
-            let format_text = format!("{{k:.{count}{letter}}}");
-            assert!(format(&format_text, &context).is_ok(), "{format_text}");
+    for count in [65_533, 65_535, 65_536, 65_537, 100_000] {
+        for letter in ["", "?", "e", "E"] {
+            for name in ["d", "s", "k"] {
+                let text = under(&context, name, &format!("{count}{letter}"));
+                let short = under(&context, name, letter);
+                assert_eq!(text.len(), count);
+                assert_eq!(text.trim_start(), short);
+            }
+            for name in ["d", "s"] {
+                let text = under(&context, name, &format!(".{count}{letter}"));
+                let less = under(&context, name, &format!(".1000{letter}"));
+                let digits = text.trim_end_matches(|c: char| "e-30E".contains(c));
+                let fewer = less.trim_end_matches(|c: char| "e-30E".contains(c));
+                assert_eq!(text.len() - less.len(), count - 1000);
+                assert_eq!(digits, fewer);
+            }
         }
+    }
+}
+
+/// Each float as std writes it, at each number of digits that it often has, and without.
+#[test]
+fn floats_by_chance() {
+    let mut state = 88172645463325252u64;
+    let mut next = || {
+        state ^= state << 13;
+        state ^= state >> 7;
+        state ^= state << 17;
+        state
+    };
+    for kind in 0..40_000 {
+        let number = match kind % 6 {
+            0 => f64::from_bits(next()),
+            1 => (next() % 100_000_000) as f64 / 1000.0,
+            2 => (next() % 1_000_000) as f64 / 64.0,
+            3 => f64::from_bits(next() >> 12 | (963 + next() % 80) << 52),
+            4 => (next() % 2_000_001) as f64 / -2000.0,
+            _ => f64::from(f32::from_bits(next() as u32)),
+        };
+        let (single, digits) = (number as f32, (next() % 18) as usize);
+        let pairs = [
+            ("d", Formattable::float(&number)),
+            ("s", Formattable::float(&single)),
+        ];
+        let form =
+            format!("{{d}} {{d:?}} {{d:.{digits}}} {{d:.{digits}e}} {{s}} {{s:E}} {{s:.{digits}}}");
+        let by_std = format!(
+            "{number} {number:?} {number:.digits$} {number:.digits$e} {single} {single:E} {single:.digits$}"
+        );
+        assert_eq!(text(&form, &pairs), by_std);
     }
 }

@@ -1,7 +1,7 @@
 //! Values under each trait and spec.
 mod common;
 
-use common::{fault, map, text};
+use common::{fault, map, text, Own};
 use interpolator::{format, Context, Error, Formattable, Trait};
 use std::borrow::Cow;
 use std::collections::{BTreeMap, HashMap};
@@ -331,7 +331,7 @@ impl fmt::Display for Fails {
 fn a_value_that_fails_is_fmt_at_its_place() {
     let fails = map(&[
         ("v", Formattable::display(&Fails)),
-        ("f", Formattable::display(&1.5)),
+        ("f", Formattable::display(&Own(1.5))),
     ]);
     assert_eq!(
         fault("a{v}b", &fails),
@@ -342,7 +342,7 @@ fn a_value_that_fails_is_fmt_at_its_place() {
         ("1.5".to_string(), Error::Fmt(fmt::Error, 11))
     );
     assert_eq!(
-        text("{f:65535}", &[("f", Formattable::display(&1.5))]).len(),
+        text("{f:65535}", &[("f", Formattable::display(&Own(1.5)))]).len(),
         65535
     );
     assert_eq!(

@@ -12,29 +12,29 @@ use Rattle.interpolator_render.specs.Bounds.{BoundedText, bounded, bounded_write
 use Rattle.interpolator_render.specs.Written.{Written, byte_count}
 use Rattle.interpolator_eval.specs.{Meaning.Meanings.Meaning, Slots.Slots}
 use Rattle.interpolator_eval.specs.Meaning.Outcomes.{Finished, Outcome, Refused, WantsMemory}
-use Rattle.interpolator_border.specs.Answers.{FailsBy, FormatAnswers, Means, Put, TellsResult}
+use Rattle.interpolator_border.specs.Answers.{FailsBy, FormatAnswers, Means, Put, Shows, TellsResult}
 use Rattle.interpolator_border.specs.Answers.{TellsWritten, Told, ToldBy, ToldFailure, ToldFault}
 use Rattle.interpolator_border.specs.Answers.{row_means}
 use Rattle.interpolator_border.specs.Measures.{TellsMade, TellsText, TellsWhy}
 use Rattle.interpolator_border.specs.Answers.{WriteAnswers, WritesKnown, WritesRow, Wrote}
 use Rattle.interpolator_border.specs.Answers.{WroteAll, WroteFull, WroteSome, text_answer}
-use Rattle.interpolator_border.specs.Fields.{field_slots, lists_lie}
+use Rattle.interpolator_border.specs.Fields.{field_shows, field_slots, lists_lie}
 use Rattle.interpolator_border.specs.declared.field.Field.{Field}
 use Rattle.interpolator_border.specs.declared.answer.{Answer.Answer as Told_answer, Failure.Failure}
 use Rattle.interpolator_border.specs.declared.answer.Failure.TheVariants as failure
 
-module _ {fields items : List Field} {format : List ℕ} where
+module _ {shows : Shows} {fields items : List Field} {format : List ℕ} where
   -- what holds of the meaning
   pub means_more : {P Q : Meaning → Type 0} → ((m : Meaning) → P m → Q m)
-      → Means fields items format P → Means fields items format Q
+      → Means shows fields items format P → Means shows fields items format Q
   means_more more w = grind arith
 
 -- once all items are known, a row is written as it is by what they stand for
-pub written_known : (lie : Bool) (fields items : List Field) (format : List ℕ) (old new : Written)
-    (trees : List (Slots Field)) (result : Result (Unit {0}) Failure)
-    → trees ≡ map (field_slots trees) items → WritesKnown fields trees format old new result
-    → WritesRow lie fields items format old new result
-written_known lie fields items format old new trees result are wrote = grind (arith, are, wrote)
+pub written_known : (shows : Shows) (lie : Bool) (fields items : List Field) (format : List ℕ)
+    (old new : Written) (trees : List (Slots Field)) (result : Result (Unit {0}) Failure)
+    → trees ≡ map (field_slots trees) items → WritesKnown shows fields trees format old new result
+    → WritesRow shows lie fields items format old new result
+written_known shows lie fields items format old new trees result are wrote = grind (arith, are, wrote)
 
 -- without a fault all is written
 pub appended : (m : Meaning) (old new : Written) → Outcome m old new None
@@ -59,10 +59,11 @@ pub if_fault : (P : Answer → Type 0) (None_holds : Type 0) (found : Option Fau
     → Some a ≡ option_map fault found → P a → MatchOption found None_holds (λ f. P (fault f))
 if_fault P None_holds found a is holds = grind (arith, is, holds)
 
-module _ (fields items : List Field) (format old new : List ℕ) (answer : Told_answer) where
+module _ (shows : Shows) (fields items : List Field) (format old new : List ℕ)
+    (answer : Told_answer) where
   -- why there is no text is told
-  pub format_fails : (why : Failure) → FailsBy fields items format why
-      → ToldFailure why old new answer → FormatAnswers fields items format old new answer
+  pub format_fails : (why : Failure) → FailsBy shows fields items format why
+      → ToldFailure why old new answer → FormatAnswers shows fields items format old new answer
   format_fails failure.NotUtf8 fails told = inr (inr (inl (told, fails)))
   format_fails failure.Lists fails told = inr (inr (inr (told, fails)))
   format_fails failure.Table fails told = absurd fails
@@ -85,51 +86,52 @@ why_not_all m old new a open_yet (inr (inl refused)) = grind (arith, refused.fla
 why_not_all m old new a open_yet (inr (inr wants)) = inl (grind (arith, wants.told))
 
 -- why there is no text, if the writer did not refuse it
-fails_by : (fields items : List Field) (format : List ℕ) (old new : Written) (why : Failure)
+fails_by : (shows : Shows) (fields items : List Field) (format : List ℕ) (old new : Written) (why : Failure)
     → is_utf8 format ≡ true → new.refused ≡ false
-    → WritesRow (lists_lie fields items) fields items format old new (Err why)
-    → FailsBy fields items format why
-fails_by fields items format old new failure.NotUtf8 is_text open_yet wrote = absurd wrote
-fails_by fields items format old new failure.Table is_text open_yet wrote = absurd wrote
-fails_by fields items format old new failure.Lists is_text open_yet wrote = wrote.0
-fails_by fields items format old new (failure.Fault e) is_text open_yet (inl none) = inl none.0
-fails_by fields items format old new (failure.Fault e) is_text open_yet (inr wrote) =
+    → WritesRow shows (lists_lie fields items) fields items format old new (Err why)
+    → FailsBy shows fields items format why
+fails_by shows fields items format old new failure.NotUtf8 is_text open_yet wrote = absurd wrote
+fails_by shows fields items format old new failure.Table is_text open_yet wrote = absurd wrote
+fails_by shows fields items format old new failure.Lists is_text open_yet wrote = wrote.0
+fails_by shows fields items format old new (failure.Fault e) is_text open_yet (inl none) = inl none.0
+fails_by shows fields items format old new (failure.Fault e) is_text open_yet (inr wrote) =
     by_cases (why_not_all _ old new (answer_of e) open_yet wrote.holds)
   where
     by_cases : (answer_of e ≡ no_memory) ⊎ (Some (answer_of e)
-        ≡ option_map fault (row_means fields wrote.trees format).fault)
-        → FailsBy fields items format (failure.Fault e)
+        ≡ option_map fault (row_means shows fields wrote.trees format).fault)
+        → FailsBy shows fields items format (failure.Fault e)
     by_cases (inl none) = inl none
     by_cases (inr is) = inr (is_text, record { trees = wrote.trees; are = wrote.are; holds = is })
 
 -- a text that was taken is told, or that memory was wanted
-text_told : (fields items : List Field) (format text old new : List ℕ) (answer : Told_answer)
+text_told : (shows : Shows) (fields items : List Field) (format text old new : List ℕ)
+    (answer : Told_answer)
     → is_utf8 format ≡ true
-    → Means fields items format (λ m. (m.fault ≡ None) × (text ≡ text_of m.text))
-    → TellsText text old new answer → FormatAnswers fields items format old new answer
-text_told fields items format text old new answer is_text made (inl told) =
+    → Means shows fields items format (λ m. (m.fault ≡ None) × (text ≡ text_of m.text))
+    → TellsText text old new answer → FormatAnswers shows fields items format old new answer
+text_told shows fields items format text old new answer is_text made (inl told) =
     grind (arith, inl, means_more)
-text_told fields items format text old new answer is_text made (inr told) = inr (inl told)
+text_told shows fields items format text old new answer is_text made (inr told) = inr (inl told)
 
 -- what was written is told
-pub formats : (fields items : List Field) (format : List ℕ) (none made : Written)
+pub formats : (shows : Shows) (fields items : List Field) (format : List ℕ) (none made : Written)
     (written : Result (Unit {0}) Failure) (old new : List ℕ) (answer : Told_answer)
     → none.text ≡ [] → is_utf8 format ≡ true
-    → WritesRow (lists_lie fields items) fields items format none made written
-    → TellsMade made written old new answer → FormatAnswers fields items format old new answer
-formats fields items format none made (Ok ok) old new answer empty is_text wrote tells =
-    text_told fields items format made.text old new answer is_text
+    → WritesRow shows (lists_lie fields items) fields items format none made written
+    → TellsMade made written old new answer → FormatAnswers shows fields items format old new answer
+formats shows fields items format none made (Ok ok) old new answer empty is_text wrote tells =
+    text_told shows fields items format made.text old new answer is_text
     (means_more (λ m outcome. let all = appended m none made outcome in
     (all.0, all.1 ∙ ap (λ text. text ++ text_of m.text) empty)) wrote) tells
-formats fields items format none made (Err why) old new answer empty is_text wrote tells =
+formats shows fields items format none made (Err why) old new answer empty is_text wrote tells =
     by_flag made.refused refl tells
   where
     by_flag : (refused : Bool) → made.refused ≡ refused → TellsWhy refused why old new answer
-        → FormatAnswers fields items format old new answer
+        → FormatAnswers shows fields items format old new answer
     by_flag true is told = inr (inl told)
     by_flag false is told =
-        format_fails fields items format old new answer why
-        (fails_by fields items format none made why is_text is wrote) told
+        format_fails shows fields items format old new answer why
+        (fails_by shows fields items format none made why is_text is wrote) told
 
 -- ---- a room that was written
 
@@ -161,18 +163,19 @@ origin_kept m old new told (inr (inl refused)) = refused.same_origin
 origin_kept m old new told (inr (inr wants)) = wants.begun.same_origin
 
 -- so does a row that was written
-pub row_keeps_origin : (lie : Bool) (fields items : List Field) (format : List ℕ) (old new : Written)
-    (result : Result (Unit {0}) Failure) → WritesRow lie fields items format old new result
+pub row_keeps_origin : (shows : Shows) (lie : Bool) (fields items : List Field) (format : List ℕ)
+    (old new : Written) (result : Result (Unit {0}) Failure)
+    → WritesRow shows lie fields items format old new result
     → new.origin ≡ old.origin
-row_keeps_origin lie fields items format old new (Ok _) wrote =
+row_keeps_origin shows lie fields items format old new (Ok _) wrote =
     origin_kept _ old new None wrote.holds
-row_keeps_origin lie fields items format old new (Err failure.NotUtf8) wrote = absurd wrote
-row_keeps_origin lie fields items format old new (Err failure.Table) wrote = absurd wrote
-row_keeps_origin lie fields items format old new (Err failure.Lists) wrote =
+row_keeps_origin shows lie fields items format old new (Err failure.NotUtf8) wrote = absurd wrote
+row_keeps_origin shows lie fields items format old new (Err failure.Table) wrote = absurd wrote
+row_keeps_origin shows lie fields items format old new (Err failure.Lists) wrote =
     ap (λ w. w.origin) wrote.1
-row_keeps_origin lie fields items format old new (Err (failure.Fault e)) (inl none) =
+row_keeps_origin shows lie fields items format old new (Err (failure.Fault e)) (inl none) =
     ap (λ w. w.origin) none.1
-row_keeps_origin lie fields items format old new (Err (failure.Fault e)) (inr wrote) =
+row_keeps_origin shows lie fields items format old new (Err (failure.Fault e)) (inr wrote) =
     origin_kept _ old new (Some (answer_of e)) wrote.holds
 
 -- what is told of all that a format means
@@ -272,7 +275,7 @@ module _ (new : Written) (made old room sentence_old sentence_new : List ℕ) (a
   -- a row that was written into the room is told
   pub writes : (fields items : List Field) (format : List ℕ) (written : Result (Unit {0}) Failure)
       → is_utf8 format ≡ true
-      → WritesRow (lists_lie fields items) fields items format (fresh (length old)) new written
+      → WritesRow field_shows (lists_lie fields items) fields items format (fresh (length old)) new written
       → TellsResult new.refused (length made) written sentence_old sentence_new answer
       → WriteAnswers fields items format old room sentence_old sentence_new answer
   writes fields items format (Ok ok) is_text row tells =

@@ -12,7 +12,10 @@ use Rattle.interpolator_syntax.specs.declared.error.NumberError.{NumberError}
 use Rattle.interpolator_syntax.specs.declared.error.NumberError.TheVariants as numbers
 use Rattle.interpolator_syntax.specs.FaultTexts.{answer_text}
 use Rattle.interpolator_syntax.specs.At.{Placed, outermost, text_of}
+use Rattle.interpolator_render.specs.Views.{Shown}
 use Rattle.interpolator_render.specs.Written.{Written, byte_count}
+use Rattle.interpolator_render.specs.declared.view.Spec.{Spec}
+use Rattle.interpolator_render.specs.declared.view.Trait.{Trait}
 use Rattle.interpolator_eval.specs.Slots.{Slots}
 use Rattle.interpolator_eval.specs.Meaning.Environments.{environment}
 use Rattle.interpolator_eval.specs.Meaning.Meanings.{Meaning, means}
@@ -188,16 +191,21 @@ ToldFailure (failure.Fault e) old new answer = ToldBy (answer_of e) 0 old new an
 
 -- ---- a format over a row
 
+-- what fields show
+abbrev pub Shows : Type 0
+Shows = Field → Trait → Spec → Shown
+
 -- what a format means over a row, both as C passes them, by what the items stand for
-abbrev pub row_means : List Field → List (Slots Field) → List ℕ → Meaning
-row_means fields trees format =
-    means field_shows (environment (found_in fields trees)) (outermost (chars format))
+abbrev pub row_means : Shows → List Field → List (Slots Field) → List ℕ → Meaning
+row_means shows fields trees format =
+    means shows (environment (found_in fields trees)) (outermost (chars format))
 
 -- of what a format means over a row, where each item stands for what its field says
-pub record Means (fields items : List Field) (format : List ℕ) (P : Meaning → Type 0) : Type 0 where
+pub record Means (shows : Shows) (fields items : List Field) (format : List ℕ)
+    (P : Meaning → Type 0) : Type 0 where
   pub trees : List (Slots Field)
   pub are : AreTrees items trees
-  pub holds : P (row_means fields trees format)
+  pub holds : P (row_means shows fields trees format)
 
 -- memory was wanted, the format is not UTF-8, or a list lies where it may not: the sentence is in the
 -- room if it fits there
@@ -218,26 +226,26 @@ CodedAside fields items format answer =
 -- ---- what was written
 
 -- a row whose items stand for these was written up to what was told
-abbrev pub WritesKnown : List Field → List (Slots Field) → List ℕ → (old new : Written)
+abbrev pub WritesKnown : Shows → List Field → List (Slots Field) → List ℕ → (old new : Written)
     → Result (Unit {0}) Failure → Type 0
-WritesKnown fields trees format old new (Ok _) =
-    Outcome (row_means fields trees format) old new None
-WritesKnown fields trees format old new (Err (failure.Fault e)) =
-    Outcome (row_means fields trees format) old new (Some (answer_of e))
-WritesKnown fields trees format old new (Err _) = ⊥
+WritesKnown shows fields trees format old new (Ok _) =
+    Outcome (row_means shows fields trees format) old new None
+WritesKnown shows fields trees format old new (Err (failure.Fault e)) =
+    Outcome (row_means shows fields trees format) old new (Some (answer_of e))
+WritesKnown shows fields trees format old new (Err _) = ⊥
 
 -- a row was written up to what was told; or lists lie where they may not, or memory was wanted for
 -- them, and nothing was written
-abbrev pub WritesRow : (lie : Bool) → (fields items : List Field) → List ℕ → (old new : Written)
-    → Result (Unit {0}) Failure → Type 0
-WritesRow lie fields items format old new (Ok _) =
-    Means fields items format (λ m. Outcome m old new None)
-WritesRow lie fields items format old new (Err failure.NotUtf8) = ⊥
-WritesRow lie fields items format old new (Err failure.Table) = ⊥
-WritesRow lie fields items format old new (Err failure.Lists) = (lie ≡ false) × (new ≡ old)
-WritesRow lie fields items format old new (Err (failure.Fault e)) =
+abbrev pub WritesRow : Shows → (lie : Bool) → (fields items : List Field) → List ℕ
+    → (old new : Written) → Result (Unit {0}) Failure → Type 0
+WritesRow shows lie fields items format old new (Ok _) =
+    Means shows fields items format (λ m. Outcome m old new None)
+WritesRow shows lie fields items format old new (Err failure.NotUtf8) = ⊥
+WritesRow shows lie fields items format old new (Err failure.Table) = ⊥
+WritesRow shows lie fields items format old new (Err failure.Lists) = (lie ≡ false) × (new ≡ old)
+WritesRow shows lie fields items format old new (Err (failure.Fault e)) =
     ((answer_of e ≡ no_memory) × (new ≡ old))
-    ⊎ Means fields items format (λ m. Outcome m old new (Some (answer_of e)))
+    ⊎ Means shows fields items format (λ m. Outcome m old new (Some (answer_of e)))
 
 -- what is told of a fault beside a text of so many bytes that was written: that the room is too small,
 -- and where, if the writer refused; or the fault, with its sentence in the other room
@@ -307,29 +315,29 @@ abbrev pub WriteAnswers : (fields items : List Field) → List ℕ → (old new 
     → (sentence_old sentence_new : List ℕ) → Told_answer → Type 0
 WriteAnswers fields items format old new sentence_old sentence_new answer =
     ((is_utf8 format ≡ true)
-    × Means fields items format (λ m. Wrote m old new sentence_old sentence_new answer))
+    × Means field_shows fields items format (λ m. Wrote m old new sentence_old sentence_new answer))
     ⊎ (ToldAside fields items format sentence_old sentence_new answer × (new ≡ old))
 
 -- ---- a whole text
 
 -- why there is no text of a format over a row
-abbrev pub FailsBy : (fields items : List Field) → List ℕ → Failure → Type 0
-FailsBy fields items format failure.NotUtf8 = is_utf8 format ≡ false
-FailsBy fields items format failure.Table = ⊥
-FailsBy fields items format failure.Lists = lists_lie fields items ≡ false
-FailsBy fields items format (failure.Fault e) =
+abbrev pub FailsBy : Shows → (fields items : List Field) → List ℕ → Failure → Type 0
+FailsBy shows fields items format failure.NotUtf8 = is_utf8 format ≡ false
+FailsBy shows fields items format failure.Table = ⊥
+FailsBy shows fields items format failure.Lists = lists_lie fields items ≡ false
+FailsBy shows fields items format (failure.Fault e) =
     (answer_of e ≡ no_memory) ⊎ ((is_utf8 format ≡ true)
-    × Means fields items format (λ m. Some (answer_of e) ≡ option_map fault m.fault))
+    × Means shows fields items format (λ m. Some (answer_of e) ≡ option_map fault m.fault))
 
 -- a text is told, and in the room if it fits there
 abbrev pub ToldText : List ℕ → (old new : List ℕ) → Told_answer → Type 0
 ToldText text old new answer = (answer ≡ text_answer (length text)) × Told text old new
 
 -- the text of a format over a row, or its fault; or why there is none
-abbrev pub FormatAnswers : (fields items : List Field) → List ℕ → List ℕ → List ℕ
+abbrev pub FormatAnswers : Shows → (fields items : List Field) → List ℕ → (old new : List ℕ)
     → Told_answer → Type 0
-FormatAnswers fields items format old new answer =
+FormatAnswers shows fields items format old new answer =
     ((is_utf8 format ≡ true)
-    × Means fields items format (λ m. MatchOption m.fault
+    × Means shows fields items format (λ m. MatchOption m.fault
     (ToldText (encode_utf8_all (text_of m.text)) old new answer) (ToldAlone old new answer)))
     ⊎ ToldAside fields items format old new answer

@@ -99,7 +99,7 @@ pub record NeverFails (fields items : List Field) (format : List ℕ) : Type 0 w
       → AreTrees row_items row_trees
       → ResemblesOn field_shows field_shows (environment (found_in row row_trees))
       (environment (found_in fields trees)) (asked_names (outermost (chars format)))
-      → (row_means row row_trees format).fault ≡ None
+      → (row_means field_shows row row_trees format).fault ≡ None
 
 -- all faults in numbers, as many as there are places for, and how many they are; or why they are not
 -- known

@@ -1,13 +1,15 @@
 -- What a field that C passes shows, and what it stands for.
-use Rattle.std.specs.Prelude.{◌≡◌, ℕ, ◌+◌, ◌*◌, ℤ, pos, ◌+ℤ◌, ◌*ℤ◌, Bool, ◌==◌, not, ◌&&◌, ◌||◌}
+use Rattle.std.specs.Prelude.{◌≡◌, ℕ, ◌+◌, ◌*◌, ◌^◌, ℤ, pos, ◌+ℤ◌, ◌*ℤ◌, Bool, ◌==◌, not, ◌&&◌, ◌||◌}
 use Rattle.std.specs.Prelude.{zero, suc, true, false, nat_lt, if◌then◌else◌, List, [], ◌∷◌, map, take, drop, reverse, length}
 use Rattle.std.specs.Prelude.{Option, None, Some}
 use Rattle.std.specs.List.{find, list_all}
 use Rattle.std.specs.Option.{option_map}
+use Rattle.std.specs.Float.{binary32, binary64}
 use Rattle.std.specs.Int.Bits.{bit_and}
 use Rattle.std.specs.Str.{chars, is_utf8, bytes_eq, encode_utf8_all}
 use Rattle.interpolator_render.specs.Views.{Shown, signed_number, unsigned_number, truth_value}
 use Rattle.interpolator_render.specs.Views.{one_character, some_text, plain_text, fits_signed}
+use Rattle.interpolator_render.specs.Views.{decimal_number, float_number}
 use Rattle.interpolator_render.specs.Views.{nothing_implemented, failure}
 use Rattle.interpolator_render.specs.declared.view.Bits.{Bits}
 use Rattle.interpolator_render.specs.declared.view.Bits.TheVariants.{B8, B16, B32, B64, B128}
@@ -17,7 +19,7 @@ use Rattle.interpolator_render.specs.declared.view.Trait.TheVariants.{Binary, De
 use Rattle.interpolator_render.specs.declared.view.Trait.TheVariants.{LowerExp, LowerHex, Octal}
 use Rattle.interpolator_render.specs.declared.view.Trait.TheVariants.{UpperExp, UpperHex}
 use Rattle.interpolator_eval.specs.Slots.{Slots, empty_slots, with_debug_display, with_integer}
-use Rattle.interpolator_eval.specs.Slots.{with_iter, with_trait}
+use Rattle.interpolator_eval.specs.Slots.{with_float, with_iter, with_trait}
 use Rattle.interpolator_border.specs.Requests.{is_request, request_of}
 use Rattle.interpolator_border.specs.declared.field.Field.{Field}
 use Rattle.interpolator_border.specs.declared.field.Lent.{Lent}
@@ -50,7 +52,24 @@ abbrev pub lent_shows : List Lent → Trait → Spec → Shown
 lent_shows lents t spec =
     found_shows (find (λ lent. is_request (request_of t spec) lent.request) lents)
 
--- a number shows itself; what is of no kind shows nothing
+-- a decimal shows itself, and fails if its scale is no number of 32 bits
+abbrev pub decimal_shows : ℤ → ℕ → Shown
+decimal_shows units scale = if nat_lt scale (2 ^ 32) then decimal_number units scale else failure
+
+-- a signed number of 128 bits, by its halves
+abbrev pub signed_halves : ℤ → ℕ → ℤ
+signed_halves upper lower = upper *ℤ pos 0x1_0000_0000_0000_0000 +ℤ pos lower
+
+-- a float and a decimal show themselves; what is of no kind shows nothing
+abbrev pub real_shows : Field → Shown
+real_shows field =
+    if field.kind == 13 then float_number binary64 field.real
+    else if field.kind == 14 then float_number binary32 field.single
+    else if field.kind == 15
+    then decimal_shows (signed_halves field.number field.natural) field.upper
+    else nothing_implemented
+
+-- a number shows itself
 abbrev pub number_shows : Field → Shown
 number_shows field =
     if field.kind == 4 then unsigned_number field.natural
@@ -61,8 +80,8 @@ number_shows field =
     else if field.kind == 8 then signed_shows field.number B32
     else if field.kind == 9 then signed_shows field.number B64
     else if field.kind == 10
-    then signed_shows (field.number *ℤ pos 0x1_0000_0000_0000_0000 +ℤ pos field.natural) B128
-    else nothing_implemented
+    then signed_shows (signed_halves field.number field.natural) B128
+    else real_shows field
 
 -- what a field shows under a trait and a spec
 abbrev pub field_shows : Field → Trait → Spec → Shown
@@ -93,12 +112,13 @@ masked_slots mask field =
     let tree = when mask 64 (with_trait LowerExp) tree field in
     when mask 128 (with_trait UpperExp) tree field
 
--- the slots of a kind: a text, a truth value and a character have those of debug and display, all
--- else each
+-- the slots of a kind: a text, a truth value and a character have those of debug and display, whole
+-- numbers and what is lent each, and floats and decimals those of a float
 abbrev pub kind_slots : Field → Slots Field
 kind_slots field =
     if nat_lt field.kind 4 then with_debug_display empty_slots field
-    else with_integer empty_slots field
+    else if nat_lt field.kind 13 then with_integer empty_slots field
+    else with_float empty_slots field
 
 -- the slots of a value
 abbrev pub value_slots : Field → Slots Field

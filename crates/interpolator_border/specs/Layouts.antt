@@ -23,7 +23,7 @@ abbrev pub layout_of_c : Sizes
 layout_of_c = record {
   request = request_size;
   lent = request_size + slice;
-  field = 3 * slice + 2 * half + 7 * word;
+  field = 3 * slice + 2 * half + 6 * word + 2 * half;
   answer = 2 * half + 4 * word;
   argument = 6 * word + request_size;
   cost_answer = 2 * half + 3 * word;
@@ -34,6 +34,8 @@ layout_of_c = record {
   field_kind = 3 * slice;
   field_number = 3 * slice + 2 * half;
   field_first = 3 * slice + 2 * half + 3 * word;
+  field_real = 3 * slice + 2 * half + 5 * word;
+  field_single = 3 * slice + 2 * half + 6 * word;
   answer_place = 2 * half;
   argument_request = 2 * word;
   argument_item = 2 * word + request_size;

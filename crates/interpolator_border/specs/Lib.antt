@@ -3,6 +3,7 @@ pub mod Answers
 pub mod Arguments
 pub mod Checks
 pub mod Costs
+pub mod Escaped
 pub mod Fields
 pub mod Layouts
 pub mod Measures

@@ -95,7 +95,7 @@ pub(crate) fn bare(code: u32) -> Answer
 }
 
 /// A code, with its sentence.
-fn coded(code: u32, sentence: &str, room: &mut [u8]) -> Answer
+pub(crate) fn coded(code: u32, sentence: &str, room: &mut [u8]) -> Answer
     ensures { ToldCode code sentence.now room.old room.new result }
 {
     put(room, sentence.as_bytes());
@@ -140,7 +140,10 @@ pub(crate) fn told_fault(alloc: Global, error: &Error, length: usize, room: &mut
     }
 }
 
-/// Why a call has no text, with its sentence.
+/// Why a call has no text, with its sentence. It is not inlined, so that a call without a failure does
+/// not pay for it.
+#[cold]
+#[inline(never)]
 pub(crate) fn told_failure(alloc: Global, failure: &Failure, room: &mut [u8]) -> Answer
     ensures failure { ToldFailure failure.now room.old room.new result }
     ensures some { 0 < result.code }

@@ -1,5 +1,5 @@
 //! A value as C passes it.
-ghost use Rattle.std.specs.Prelude.{◌≡◌, ◌+ℤ◌, ◌*ℤ◌, ◌+◌, ◌*◌, pos, ℤ};
+ghost use Rattle.std.specs.Prelude.{◌≡◌, ◌+◌, ◌*◌};
 ghost use Rattle.std.specs.Option.{option_copied};
 ghost use Rattle.std.specs.List.{find};
 ghost use Rattle.std.specs.Str.{IsAscii};
@@ -7,6 +7,7 @@ ghost use Rattle.interpolator_render.specs.Views.{IsInRange, shown_by, some_text
 ghost use Rattle.interpolator_render.specs.Views.{plain_text};
 ghost use Rattle.interpolator_border.specs.Requests.{is_request, request_of};
 ghost use Rattle.interpolator_border.specs.Fields.{character_shows, field_shows, lent_shows};
+ghost use Rattle.interpolator_border.specs.Fields.{decimal_shows, real_shows, signed_halves};
 ghost use Rattle.interpolator_border.specs.Fields.{number_shows, signed_shows, text_shows};
 
 use crate::bytes::{ascii_text, is_ascii, text_of};
@@ -52,6 +53,15 @@ pub(crate) const LIST: u32 = 11;
 /// A value whose texts are lent.
 pub(crate) const LENT: u32 = 12;
 
+/// A float of 64 bits.
+pub(crate) const DOUBLE: u32 = 13;
+
+/// A float of 32 bits.
+pub(crate) const FLOAT: u32 = 14;
+
+/// A decimal.
+pub(crate) const DECIMAL: u32 = 15;
+
 /// A text that the caller made of a value, for one request.
 #[repr(C)]
 #[derive(Clone, Copy)]
@@ -78,19 +88,24 @@ pub struct Field<'a> {
     pub kind: u32,
     /// The slots that it fills; 0 for those of its kind.
     pub slots: u32,
-    /// A signed number, or the upper half of one of 128 bits.
+    /// A signed number, or the upper half of one of 128 bits, as the units of a decimal are.
     pub number: i64,
     /// An unsigned number, a truth value (0 is false), the code of a character, or the lower half of
     /// a number of 128 bits.
     pub natural: u64,
-    /// The upper half of an unsigned number of 128 bits.
+    /// The upper half of an unsigned number of 128 bits, or how many digits of a decimal are after its
+    /// point.
     pub upper: u64,
     /// Of a list: the first of its items.
     pub first: usize,
     /// Of a list: the item after its last.
     pub end: usize,
+    /// A float of 64 bits.
+    pub real: f64,
+    /// A float of 32 bits.
+    pub single: f32,
     /// Not read.
-    pub spare: [u64; 2],
+    pub spare: u32,
 }
 
 /// The view of an ASCII text.
@@ -156,7 +171,7 @@ fn unsigned_halves(upper: u64, lower: u64) -> u128
 
 /// The two halves of a signed number.
 fn signed_halves(upper: i64, lower: u64) -> i128
-    ensures { result ≡ upper *ℤ pos 0x1_0000_0000_0000_0000 +ℤ pos lower }
+    ensures { result ≡ signed_halves upper lower }
 {
     i128::from(upper) * 0x1_0000_0000_0000_0000 + i128::from(lower)
 }
@@ -179,6 +194,29 @@ fn lent_view<'s>(lent: &'s [Lent<'s>], t: Trait, spec: &Spec) -> View<'s>
     }
 }
 
+/// The view of a decimal.
+fn decimal_view(units: i128, scale: u64) -> View<'static>
+    ensures { shown_by result ≡ decimal_shows units scale }
+{
+    match u32::try_from(scale) {
+        Ok(scale) => View::Decimal { units, scale },
+        Err(_) => View::Failed,
+    }
+}
+
+/// The view of a number with digits after its point.
+fn real_view<'s>(field: &'s Field<'s>) -> View<'s>
+    ensures shown { shown_by result ≡ real_shows field.now }
+    ensures in_range { IsInRange (shown_by result) }
+{
+    match field.kind {
+        DOUBLE => View::Float(field.real),
+        FLOAT => View::Float32(field.single),
+        DECIMAL => decimal_view(signed_halves(field.number, field.natural), field.upper),
+        _ => View::NotImplemented,
+    }
+}
+
 /// The view of a number.
 fn number_view<'s>(field: &'s Field<'s>) -> View<'s>
     ensures shown { shown_by result ≡ number_shows field.now }
@@ -192,7 +230,7 @@ fn number_view<'s>(field: &'s Field<'s>) -> View<'s>
         SIGNED32 => signed_view(i128::from(field.number), Bits::B32),
         SIGNED64 => signed_view(i128::from(field.number), Bits::B64),
         SIGNED128 => signed_view(signed_halves(field.number, field.natural), Bits::B128),
-        _ => View::NotImplemented,
+        _ => real_view(field),
     }
 }
 
@@ -216,11 +254,14 @@ fn field_view<'s>(field: &'s Field<'s>, t: Trait, spec: &Spec) -> View<'s>
 impl<'a> Value for Field<'a> {
     ghost shows = { λ field t spec. field_shows field t spec };
 
-    /// Most fields are ASCII texts, so that these are tested where a value is written.
+    /// Most fields are ASCII texts or small numbers, so that these are tested where a value is
+    /// written.
     #[inline(always)]
     fn view(&self, t: Trait, spec: &Spec) -> View<'_> {
         if self.kind == TEXT && is_ascii(self.text) {
             ascii_view(self.text)
+        } else if self.kind == UNSIGNED {
+            View::Unsigned(u128::from(self.natural))
         } else {
             field_view(self, t, spec)
         }

@@ -1,7 +1,10 @@
 //! The whole text of a row.
 ghost use Rattle.std.specs.Prelude.{IfOk, IsUtf8};
-ghost use Rattle.interpolator_border.specs.Answers.{FormatAnswers};
+ghost use Rattle.interpolator_border.specs.Answers.{FormatAnswers, ToldBy, ToldNotUtf8};
+ghost use Rattle.interpolator_border.specs.Fields.{field_shows};
 ghost use Rattle.interpolator_border.specs.Measures.{TellsText, TellsWhy, measured};
+ghost use Rattle.interpolator_eval.specs.Escaping.{shows_by};
+ghost use Rattle.interpolator_syntax.specs.Faults.{no_memory};
 
 use crate::answer::{Answer, Failure, put, told_failure, well};
 use crate::bytes::text_of;
@@ -9,6 +12,7 @@ use crate::measured::Measured;
 use crate::row::FieldRow;
 use crate::writing::write_row;
 use interpolator::{Error, TextWrite};
+use interpolator_eval::{Escaper, Unescaped};
 use std::alloc::{AllocError, Global};
 
 /// The most bytes, beyond those of the format, for which a new buffer has room at first.
@@ -21,6 +25,24 @@ fn zeros(alloc: Global, count: usize) -> Result<Vec<u8>, AllocError>
     let mut zeros = Vec::with_capacity(alloc, count)?;
     zeros.resize(count, 0u8)?;
     Ok(zeros)
+}
+
+/// Says that memory was refused.
+#[cold]
+#[inline(never)]
+pub(crate) fn told_no_memory(alloc: Global, room: &mut [u8]) -> Answer
+    ensures { ToldBy no_memory 0 room.old room.new result }
+{
+    told_failure(alloc, &Failure::Fault(Error::NoMemory), room)
+}
+
+/// Says that a format is not UTF-8.
+#[cold]
+#[inline(never)]
+pub(crate) fn told_not_utf8(alloc: Global, room: &mut [u8]) -> Answer
+    ensures { ToldNotUtf8 room.old room.new result }
+{
+    told_failure(alloc, &Failure::NotUtf8, room)
 }
 
 /// The answer for a text, which comes to the front of the room if it fits.
@@ -36,11 +58,13 @@ fn told_text(alloc: Global, made: &Measured, room: &mut [u8]) -> Answer
             put(room, text.as_bytes());
             well(length)
         }
-        None => told_failure(alloc, &Failure::Fault(Error::NoMemory), room),
+        None => told_no_memory(alloc, room),
     }
 }
 
 /// The answer for a text that is not whole. A writer that refused lacked memory.
+#[cold]
+#[inline(never)]
 fn told_why(alloc: Global, failure: &Failure, refused: bool, room: &mut [u8]) -> Answer
     ensures { TellsWhy refused failure.now room.old room.new result }
 {
@@ -50,23 +74,37 @@ fn told_why(alloc: Global, failure: &Failure, refused: bool, room: &mut [u8]) ->
     told_failure(alloc, failure, room)
 }
 
-/// The text of a format with a row, or the fault's sentence, at the front of the room, if it fits. A
-/// text that does not fit is not made, but for the beginning that does. At first there is memory for
-/// the format and, up to a bound, as many bytes again.
-pub fn format<'a>(alloc: Global, format: &[u8], row: FieldRow<'a>, room: &mut [u8]) -> Answer
-    ensures { FormatAnswers row.entry.fields.now row.entry.items.now format.now room.old room.new
-        result }
+/// The text of a format with a row, its values by the escaper, or the fault's sentence, at the front of
+/// the room, if it fits. A text that does not fit is not made, but for the beginning that does. At
+/// first there is memory for the format and, up to a bound, as many bytes again.
+#[inline(always)]
+pub(crate) fn format_text<'a, E: Escaper>(
+    alloc: Global,
+    text: &str,
+    row: FieldRow<'a>,
+    room: &mut [u8],
+) -> Answer
+    ensures { FormatAnswers (shows_by E.shown field_shows) row.entry.fields.now row.entry.items.now
+        text.now room.old room.new result }
 {
-    let Some(text) = text_of(format) else {
-        return told_failure(alloc, &Failure::NotUtf8, room);
-    };
     let first = text.len().saturating_add(text.len().min(MOST_MORE));
     let Ok(places) = zeros(alloc, first.min(room.len())) else {
-        return told_failure(alloc, &Failure::Fault(Error::NoMemory), room);
+        return told_no_memory(alloc, room);
     };
     let mut out = Measured::new(places, room.len());
-    match write_row(alloc, &mut out, text, row) {
+    match write_row::<Measured, E>(alloc, &mut out, text, row) {
         Ok(()) => told_text(alloc, &out, room),
         Err(failure) => told_why(alloc, &failure, out.refused(), room),
+    }
+}
+
+/// The text of a format with a row, or the fault's sentence, at the front of the room, if it fits.
+pub fn format<'a>(alloc: Global, format: &[u8], row: FieldRow<'a>, room: &mut [u8]) -> Answer
+    ensures { FormatAnswers field_shows row.entry.fields.now row.entry.items.now format.now room.old
+        room.new result }
+{
+    match text_of(format) {
+        Some(text) => format_text::<Unescaped>(alloc, text, row, room),
+        None => told_not_utf8(alloc, room),
     }
 }

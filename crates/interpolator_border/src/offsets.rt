@@ -16,6 +16,10 @@ pub const VERSION: u32 = 1;
 /// The size of a slice, as C passes it: a pointer and a length.
 const BYTES: usize = size_of::<&'static [u8]>();
 
+/// The size of what stands in a field before the items of a list: three slices, its kind and slots,
+/// and three numbers.
+const BEFORE_LISTS: usize = 3 * BYTES + 2 * size_of::<u32>() + 3 * size_of::<u64>();
+
 /// The sizes of the structs, and the offsets of some of their members, in bytes.
 #[repr(C)]
 #[derive(Clone, Copy)]
@@ -46,6 +50,10 @@ pub struct Sizes {
     pub field_number: usize,
     /// The offset of a list's first item.
     pub field_first: usize,
+    /// The offset of a float of 64 bits.
+    pub field_real: usize,
+    /// The offset of a float of 32 bits.
+    pub field_single: usize,
     /// The offset of an answer's place.
     pub answer_place: usize,
     /// The offset of an argument's request.
@@ -71,7 +79,9 @@ pub fn layout() -> Sizes
         lent_text: size_of::<Request>(),
         field_kind: 3 * BYTES,
         field_number: 3 * BYTES + 2 * size_of::<u32>(),
-        field_first: 3 * BYTES + 2 * size_of::<u32>() + 3 * size_of::<u64>(),
+        field_first: BEFORE_LISTS,
+        field_real: BEFORE_LISTS + 2 * size_of::<usize>(),
+        field_single: BEFORE_LISTS + 2 * size_of::<usize>() + size_of::<f64>(),
         answer_place: 2 * size_of::<u32>(),
         argument_request: 2 * size_of::<usize>(),
         argument_item: 2 * size_of::<usize>() + size_of::<Request>(),

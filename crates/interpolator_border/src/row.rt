@@ -24,8 +24,9 @@ pub(crate) struct Row<'a> {
     pub(crate) items: &'a [Formattable<'a, Field<'a>>],
 }
 
-/// The last field of that name.
-#[inline(never)]
+/// The last field of that name. It is inlined, since a call takes longer than the search of a short
+/// row.
+#[inline(always)]
 fn last_field<'s, 'a>(fields: &'s [Field<'a>], name: &str) -> Option<&'s Field<'a>>
     ensures { option_copied result ≡ last_named fields.now name.now }
 {

@@ -4,7 +4,7 @@ ghost use Rattle.interpolator_eval.specs.Slots.{slots_of, with_iter, with_trait}
 ghost use Rattle.interpolator_border.specs.Fields.{field_slots, kind_slots, masked_slots};
 ghost use Rattle.interpolator_border.specs.Fields.{value_slots, when};
 
-use crate::field::{CHARACTER, Field, LIST};
+use crate::field::{CHARACTER, DOUBLE, Field, LIST};
 use interpolator::{Formattable, Trait};
 
 /// The slots of a kind.
@@ -14,8 +14,10 @@ fn kind_slots<'a>(field: &'a Field<'a>) -> Formattable<'a, Field<'a>>
 {
     if field.kind <= CHARACTER {
         Formattable::debug_display(field)
-    } else {
+    } else if field.kind < DOUBLE {
         Formattable::integer(field)
+    } else {
+        Formattable::float(field)
     }
 }
 

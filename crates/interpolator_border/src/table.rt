@@ -1,6 +1,6 @@
 //! A table: one format, read and prepared once, over each of its rows.
 ghost use Rattle.std.specs.Prelude.{◌≡◌, ◌≤◌, ◌↔◌, ◌+◌, ◌*◌, [], false, length, take, drop, map};
-ghost use Rattle.std.specs.Prelude.{IsTrue};
+ghost use Rattle.std.specs.Prelude.{IsTrue, MatchResult, Ok, Err};
 ghost use Rattle.interpolator_eval.specs.Slots.{slots_of};
 ghost use Rattle.interpolator_border.specs.Fields.{field_slots};
 ghost use Rattle.interpolator_border.specs.Tables.{Appended, MadeRows, PairsMade, Prepares};
@@ -83,8 +83,22 @@ fn put_row<'a>(
     if out.refused() {
         return Err(Error::NoMemory);
     }
+    let end = out.as_str().len();
+    // The answer is moved only if there is a fault.
+    if written.is_ok() {
+        return Ok(end);
+    }
+    ending(written, end)
+}
+
+/// What was written, with where it ends.
+#[cold]
+#[inline(never)]
+fn ending(written: Result<(), Error>, end: usize) -> Result<usize, Error>
+    ensures { MatchResult written (λ _. result ≡ Ok end) (λ e. result ≡ Err e) }
+{
     match written {
-        Ok(()) => Ok(out.as_str().len()),
+        Ok(()) => Ok(end),
         Err(error) => Err(error),
     }
 }

@@ -1,11 +1,13 @@
 //! A row written into a room.
 ghost use Rattle.std.specs.Prelude.{◌≡◌, drop, map, MatchResult, Ok, Err};
 ghost use Rattle.interpolator_border.specs.declared.answer.Failure.TheVariants.{Fault};
+ghost use Rattle.interpolator_eval.specs.Escaping.{shows_by};
 ghost use Rattle.interpolator_eval.specs.Slots.{slots_of};
 ghost use Rattle.interpolator_border.specs.Answers.{TellsFault, TellsResult, WriteAnswers};
 ghost use Rattle.interpolator_border.specs.Answers.{WritesKnown, WritesRow};
 ghost use Rattle.interpolator_syntax.specs.Faults.{answer_of};
-ghost use Rattle.interpolator_border.specs.Fields.{field_slots, lie_in_levels, lists_lie};
+ghost use Rattle.interpolator_border.specs.Fields.{field_shows, field_slots, lie_in_levels};
+ghost use Rattle.interpolator_border.specs.Fields.{lists_lie};
 
 use crate::answer::{Answer, Failure, put, told_failure, told_fault, told_full, well};
 use crate::bytes::text_of;
@@ -13,11 +15,13 @@ use crate::field::Field;
 use crate::levels::{Known, LEVELS, all_lie_within, next_level, settled};
 use crate::row::{FieldRow, Row};
 use interpolator::{Bounded, Error, Formattable, TextWrite};
+use interpolator_eval::{Escaper, Unescaped};
+use interpolator_pieces::write_by;
 use std::alloc::Global;
 
 /// Writes a format with a row of whose items this much is known.
 #[tactic(auto, using(crate::proofs::LevelLemmas::next_known))]
-pub(crate) fn write_levels<'a, W: TextWrite>(
+pub(crate) fn write_levels<'a, W: TextWrite, E: Escaper>(
     alloc: Global,
     out: &mut W,
     format: &str,
@@ -26,7 +30,8 @@ pub(crate) fn write_levels<'a, W: TextWrite>(
 ) -> Result<(), Failure>
     requires known { let trees = map slots_of known.slots.now in
         drop known.left trees ≡ drop known.left (map (field_slots trees) row.items.now) }
-    ensures { WritesRow (lie_in_levels known.entry.levels row.entry.items.now known.entry.left)
+    ensures { WritesRow (shows_by E.shown field_shows)
+        (lie_in_levels known.entry.levels row.entry.items.now known.entry.left)
         row.entry.fields.now row.entry.items.now format.now (W.written out.old) (W.written out.new)
         result }
 {
@@ -36,7 +41,7 @@ pub(crate) fn write_levels<'a, W: TextWrite>(
         levels,
     } = known;
     if left == 0 {
-        return write_known(alloc, out, format, row.fields, slots);
+        return write_known::<W, E>(alloc, out, format, row.fields, slots);
     }
     if levels == 0 {
         return Err(Failure::Lists);
@@ -52,7 +57,7 @@ pub(crate) fn write_levels<'a, W: TextWrite>(
                 fields: &*row.fields,
                 items: &*row.items,
             };
-            write_levels(alloc, out, format, row, deeper)
+            write_levels::<W, E>(alloc, out, format, row, deeper)
         }
         Err(_) => Err(Failure::Fault(Error::NoMemory)),
     }
@@ -60,24 +65,31 @@ pub(crate) fn write_levels<'a, W: TextWrite>(
 
 /// Writes a format with a row whose items stand for these.
 #[inline(always)]
-fn write_known<'a, W: TextWrite>(
+fn write_known<'a, W: TextWrite, E: Escaper>(
     alloc: Global,
     out: &mut W,
     format: &str,
     fields: &'a [Field<'a>],
     known: &'a [Formattable<'a, Field<'a>>],
 ) -> Result<(), Failure>
-    ensures { WritesKnown fields.now (map slots_of known.now) format.now (W.written out.old)
-        (W.written out.new) result }
+    ensures { WritesKnown (shows_by E.shown field_shows) fields.now (map slots_of known.now)
+        format.now (W.written out.old) (W.written out.new) result }
 {
     let row = Row {
         fields,
         items: known,
     };
-    failing(interpolator::write(alloc, out, format, &row))
+    let written = write_by::<W, Row<'a>, E>(alloc, out, format, &row);
+    // The answer is moved only if there is a fault.
+    if written.is_ok() {
+        return Ok(());
+    }
+    failing(written)
 }
 
 /// A fault as why there is no text.
+#[cold]
+#[inline(never)]
 pub(crate) fn failing(written: Result<(), Error>) -> Result<(), Failure>
     ensures { MatchResult written (λ ok. result ≡ Ok ok) (λ e. result ≡ Err (Fault e)) }
 {
@@ -87,29 +99,30 @@ pub(crate) fn failing(written: Result<(), Error>) -> Result<(), Failure>
     }
 }
 
-/// Writes a format with a row, unless a list lies where it may not.
+/// Writes a format with a row, its values by the escaper, unless a list lies where it may not.
 #[tactic(auto, using(crate::proofs::LevelLemmas::nothing_known))]
-pub(crate) fn write_row<'a, W: TextWrite>(
+pub(crate) fn write_row<'a, W: TextWrite, E: Escaper>(
     alloc: Global,
     out: &mut W,
     format: &str,
     row: FieldRow<'a>,
 ) -> Result<(), Failure>
-    ensures { WritesRow (lists_lie row.entry.fields.now row.entry.items.now) row.entry.fields.now
+    ensures { WritesRow (shows_by E.shown field_shows)
+        (lists_lie row.entry.fields.now row.entry.items.now) row.entry.fields.now
         row.entry.items.now format.now (W.written out.old) (W.written out.new) result }
 {
     if !all_lie_within(row.fields, row.items) {
         return Err(Failure::Lists);
     }
     if row.items.is_empty() {
-        return write_known(alloc, out, format, row.fields, &[]);
+        return write_known::<W, E>(alloc, out, format, row.fields, &[]);
     }
     let none = Known {
         slots: &[],
         left: row.items.len(),
         levels: LEVELS,
     };
-    write_levels(alloc, out, format, row, none)
+    write_levels::<W, E>(alloc, out, format, row, none)
 }
 
 /// The answer for a fault after the bytes of the text that were written.
@@ -159,7 +172,7 @@ fn write_text<'a>(
     let Ok(mut out) = Bounded::with_room(alloc, room.len()) else {
         return told_failure(alloc, &Failure::Fault(Error::NoMemory), sentence);
     };
-    let written = write_row(alloc, &mut out, text, row);
+    let written = write_row::<Bounded, Unescaped>(alloc, &mut out, text, row);
     let made = out.as_str();
     put(room, made.as_bytes());
     told_written(alloc, &written, out.refused(), made.len(), sentence)

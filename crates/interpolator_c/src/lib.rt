@@ -1,12 +1,14 @@
 //! What C calls: `interpolator_border`, under the names of `bindings/c/interpolator.h`.
 #![tactic(auto)]
 
-ghost use Rattle.std.specs.Prelude.{◌≡◌};
-ghost use Rattle.interpolator_border.specs.Answers.{FormatAnswers, WriteAnswers};
+ghost use Rattle.std.specs.Prelude.{◌≡◌, ◌<◌, IfSome};
+ghost use Rattle.interpolator_border.specs.Answers.{FormatAnswers, ToldCode, WriteAnswers};
 ghost use Rattle.interpolator_border.specs.Arguments.{ArgumentAnswers};
 ghost use Rattle.interpolator_border.specs.Checks.{AloneAnswers, CheckAnswers, ExplainAnswers};
 ghost use Rattle.interpolator_border.specs.Checks.{FaultsAnswers, NeverFails};
 ghost use Rattle.interpolator_border.specs.Costs.{CostAnswers};
+ghost use Rattle.interpolator_border.specs.Escaped.{EscapedBy, escape_numbered, no_escape_sentence};
+ghost use Rattle.interpolator_border.specs.Fields.{field_shows};
 ghost use Rattle.interpolator_border.specs.Layouts.{layout_of_c};
 ghost use Rattle.interpolator_border.specs.Tables.{RowsAnswers};
 
@@ -24,9 +26,28 @@ pub extern "C" fn interpolator_format<'a>(
     items: &'a [Field<'a>],
     room: &mut [u8],
 ) -> Answer
-    ensures { FormatAnswers fields.now items.now format.now room.old room.new result }
+    ensures { FormatAnswers field_shows fields.now items.now format.now room.old room.new result }
 {
     interpolator_border::format(alloc, format, FieldRow { fields, items }, room)
+}
+
+/// The whole text of a format with a row, each value escaped, if all of them stand in places.
+#[unsafe(no_mangle)]
+pub extern "C" fn interpolator_escaped<'a>(
+    alloc: Global,
+    escape: u32,
+    format: &[u8],
+    fields: &'a [Field<'a>],
+    items: &'a [Field<'a>],
+    room: &mut [u8],
+) -> Answer
+    ensures plain { escape ≡ 0
+        → FormatAnswers field_shows fields.now items.now format.now room.old room.new result }
+    ensures escaped { IfSome (escape_numbered escape) (λ e. EscapedBy e fields.now items.now
+        format.now room.old room.new result) }
+    ensures unknown { 5 < escape → ToldCode 12 no_escape_sentence room.old room.new result }
+{
+    interpolator_border::escaped(alloc, escape, format, FieldRow { fields, items }, room)
 }
 
 /// The text of a format with a row, up to its first fault.

@@ -3,7 +3,8 @@ use std::collections::BTreeMap;
 use std::fmt;
 
 use interpolator::{
-    check, check_alone, cost, explain_in, faults, format, rows, write, Formattable, Limits, Source,
+    check, check_alone, cost, explain_in, faults, format, format_escaped, rows, write, Escape,
+    Formattable, Limits, Source,
 };
 
 use crate::Log;
@@ -98,9 +99,12 @@ fn brief(text: impl AsRef<str>) -> String {
 /// What a call of the crate returns, in words.
 type Call = fn(&str, &Values<'_>) -> String;
 
-const CALLS: [(&str, Call); 7] = [
+const CALLS: [(&str, Call); 8] = [
     ("format", |text, values| {
         told(format(text, values).map(brief))
+    }),
+    ("format_escaped", |text, values| {
+        told(format_escaped(Escape::Html, text, values).map(brief))
     }),
     ("write", written),
     ("check", |text, values| told(check(text, values))),

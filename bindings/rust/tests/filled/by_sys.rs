@@ -8,13 +8,18 @@ use crate::Log;
 const NOT_UTF8: u32 = 7;
 const LISTS: u32 = 8;
 const TABLE: u32 = 10;
+const NO_ESCAPE: u32 = 12;
 
 /// The codes that each function has to return at some time: all that the header has for it, but
 /// NOT_UTF8 only for the name or the text of a source, since what else is lent is a `str`.
 /// `arguments` hands on no code: arguments are noted as OK here, and none as NO_MEMORY.
 pub fn codes() -> BTreeSet<(&'static str, u32)> {
-    const CODES: [(&str, &[u32]); 9] = [
+    const CODES: [(&str, &[u32]); 10] = [
         ("format", &[0, 1, 2, 3, 4, 5, 6, LISTS]),
+        (
+            "escaped",
+            &[0, 1, 2, 3, 4, 5, 6, LISTS, code::MISPLACED, NO_ESCAPE],
+        ),
         ("write", &[0, 1, 2, 3, 4, 5, 6, LISTS, code::FULL]),
         ("check", &[0, 1, 2, 3, 4, 5, 6, LISTS]),
         ("check_alone", &[0, 3, 5, 6]),
@@ -57,8 +62,9 @@ const FORMATS: [&str; 20] = [
 type Function = fn(&mut Log, &Values, &str, usize);
 
 /// The functions, with rooms for nothing, for little and for all.
-const FUNCTIONS: [(&str, Function, &[usize]); 9] = [
+const FUNCTIONS: [(&str, Function, &[usize]); 10] = [
     ("format", format, &[0, 21, 500]),
+    ("escaped", escaped, &[0, 21, 500]),
     ("write", write, &[0, 21, 500]),
     ("check", check, &[0]),
     ("check_alone", check_alone, &[0]),
@@ -161,12 +167,15 @@ impl Log {
     /// Notes the fields of an answer that say something by its code in each call.
     fn answer(&mut self, call: &'static str, answer: &Answer) {
         self.code(call, answer.code);
-        if matches!(answer.code, code::MISSING_TRAIT | code::PARSE) {
+        if matches!(
+            answer.code,
+            code::MISSING_TRAIT | code::PARSE | code::MISPLACED
+        ) {
             self.number("detail", answer.detail as usize);
         }
         if matches!(
             answer.code,
-            code::MISSING_TRAIT..=code::UNSUPPORTED | code::FULL
+            code::MISSING_TRAIT..=code::UNSUPPORTED | code::FULL | code::MISPLACED
         ) {
             self.number("place", answer.place);
         }
@@ -192,6 +201,21 @@ fn format(log: &mut Log, values: &Values, format: &str, room: usize) {
         }
         log.room(room);
     });
+}
+
+/// For a page, in its text and in a tag without quotes; and by a number that is no escape's.
+fn escaped(log: &mut Log, values: &Values, format: &str, room: usize) {
+    let in_tag = format!("<p id={format}>");
+    for (escape, format) in [(2, format), (2, &in_tag), (6, format)] {
+        twice(room, |_, room| {
+            let answer = sys::escaped(escape, format, &values.fields, &values.items, room);
+            log.answer("escaped", &answer);
+            if answer.code == code::OK {
+                log.number("length", answer.length);
+            }
+            log.room(room);
+        });
+    }
 }
 
 fn write(log: &mut Log, values: &Values, format: &str, room: usize) {

@@ -43,6 +43,10 @@ void plain_interpolator_format(
     interpolator_answer *answer, const char *format, size_t format_length,
     const interpolator_field *fields, size_t field_count, const interpolator_field *items,
     size_t item_count, char *room, size_t room_length);
+void plain_interpolator_escaped(
+    interpolator_answer *answer, uint32_t escape, const char *format, size_t format_length,
+    const interpolator_field *fields, size_t field_count, const interpolator_field *items,
+    size_t item_count, char *room, size_t room_length);
 void plain_interpolator_write(
     interpolator_answer *answer, const char *format, size_t format_length,
     const interpolator_field *fields, size_t field_count, const interpolator_field *items,
@@ -165,12 +169,14 @@ enum {
   NOT_UTF8 = 1 << INTERPOLATOR_NOT_UTF8,
   LISTS = 1 << INTERPOLATOR_LISTS,
   FULL = 1 << INTERPOLATOR_FULL,
-  TABLE = 1 << INTERPOLATOR_TABLE
+  TABLE = 1 << INTERPOLATOR_TABLE,
+  MISPLACED = 1 << INTERPOLATOR_MISPLACED,
+  NO_ESCAPE = 1 << INTERPOLATOR_NO_ESCAPE
 };
 
 /* Ends the program unless the header has the code for the call. */
 static void is_one_of(uint32_t code, int codes) {
-  if (code > INTERPOLATOR_TABLE || !(codes >> code & 1)) broken("the call has no such code");
+  if (code > INTERPOLATOR_NO_ESCAPE || !(codes >> code & 1)) broken("the call has no such code");
 }
 
 enum { DETAIL = 1, PLACE = 2, LENGTH = 4, MESSAGE = 8, ROW = 16 };
@@ -181,7 +187,8 @@ static int said_by(uint32_t code) {
   switch (code) {
     case INTERPOLATOR_OK: return LENGTH;
     case INTERPOLATOR_MISSING_TRAIT:
-    case INTERPOLATOR_PARSE: return DETAIL | PLACE | MESSAGE;
+    case INTERPOLATOR_PARSE:
+    case INTERPOLATOR_MISPLACED: return DETAIL | PLACE | MESSAGE;
     case INTERPOLATOR_FMT:
     case INTERPOLATOR_MISSING_VALUE:
     case INTERPOLATOR_UNSUPPORTED:
@@ -219,6 +226,27 @@ interpolator_answer interpolator_format(
   plain_interpolator_format(&answer, format, format_length, fields, field_count, items, item_count,
                             own, room_length);
   is_one_of(answer.code, WELL | FAULT | NO_MEMORY | NOT_UTF8 | LISTS);
+  put = answer.code == INTERPOLATOR_OK ? answer.length : answer.message;
+  hand_on(room, own, if_it_fits(put, room_length), room_length);
+  return handed(answer, said_by(answer.code));
+}
+
+/* The same, with the sentence of what is out of place (`ToldMisplaced`), or that there is no such
+ * escape. */
+interpolator_answer interpolator_escaped(
+    uint32_t escape,
+    const char *format, size_t format_length,
+    const interpolator_field *fields, size_t field_count,
+    const interpolator_field *items, size_t item_count,
+    char *room, size_t room_length) {
+  interpolator_answer answer;
+  char *own = room_like(room, room_length);
+  size_t put;
+  reads_row(format, format_length, fields, field_count, items, item_count);
+  forget(&answer, sizeof answer);
+  plain_interpolator_escaped(&answer, escape, format, format_length, fields, field_count, items,
+                             item_count, own, room_length);
+  is_one_of(answer.code, WELL | FAULT | NO_MEMORY | NOT_UTF8 | LISTS | MISPLACED | NO_ESCAPE);
   put = answer.code == INTERPOLATOR_OK ? answer.length : answer.message;
   hand_on(room, own, if_it_fits(put, room_length), room_length);
   return handed(answer, said_by(answer.code));

@@ -10,7 +10,7 @@ returns c =
     let row = rw (is_fresh c.in-Ok.out _ _ c.in-Ok.ensures.written c.in-Ok.ensures.most bound)
     at c.write_row-written.ensures in
     let kept = bound_kept c.write_row-written.new.out (length c.args.room.now)
-    (row_keeps_origin _ _ _ _ _ _ _ row) in
+    (row_keeps_origin _ _ _ _ _ _ _ _ row) in
     let fits : length c.as_str-made.result.now ≤ length c.args.room.now =
     subst (λ bytes. length c.as_str-made.result.now ≤ bytes) kept c.as_str-made.ensures.within in
     writes (bounded_writer c.write_row-written.new.out) c.as_str-made.result.now c.args.room.now
