@@ -1,12 +1,15 @@
 #!/usr/bin/env bash
 # Runs the built program on templates and tables, and compares what it writes to both streams and its
 # status with what docs/DEFINITIONS.md says of each letter, and RFC 4180 of each field, worked out by
-# hand. Then it runs the line of docs/USING.md.
+# hand; values are escaped as HTML, RFC 4180 and RFC 8259 read them back. Then it runs the line of crates/README.md.
 #
 # usage: run-cases.sh [PROGRAM..]
 set -u
 
-usage='usage: merge [--separator , | ; | tab] [--latin1] [--partial] [--if-empty NAME=TEMPLATE] [--] TEMPLATE TABLE'
+usage='usage: merge [--separator , | ; | tab] [--latin1] [--partial] [--html | --csv | --json] '
+usage+='[--if-empty NAME=TEMPLATE] [--] TEMPLATE TABLE'
+out_of_place='this value is out of place; a value may stand'
+html_places='in text, or between the quotes of an attribute that is a text'
 stray='a stray quote: write the field in quotes, and double those in it'
 unclosed='a quote that is never closed'
 after_quote='text after a closing quote: double the quotes in a field'
@@ -15,7 +18,7 @@ wanted_number='wants a number, such as -7 or 12.50'
 greatest=170141183460469231731687303715884105727
 here=$(cd "$(dirname "$0")" && pwd)
 name=merge
-wanted=107
+wanted=132
 . "$here/../../.ci/cases.sh"
 
 # files TEMPLATE TABLE: what stands in the files `t` and `r`.
@@ -108,6 +111,23 @@ number_cases() {
         '  | ~^~~~~' '  = did you mean `price`? names: `price`')" '{prce}' $'price:\n1\n'
 }
 
+float_cases() {
+    letters '<1000000000000000000000|0.1|-0>' '<{a}|{b}|{c}>' $'a:~,b:~,c:~\n1e21,0.1,-0\n'
+    letters '1e-1 1E21 1e21 0.1 1500.0 ' '{a:e} {b:E} {b:?} {a:?} {c:?} ' \
+        $'a:~,b:~,c:~\n0.1,1e21,1.5e3\n'
+    letters '[NaN][     NaN][NaN][NaN][NaN];[-inf][    -inf][-inf][-inf][-inf];' \
+        '[{x}][{x:>8.2}][{x:?}][{x:e}][{x:+}];' $'x:~\nnan\n-infinity\n'
+    letters '[ 1500.00][+1500][4.9e-324][inf]' '[{x:>8.2}][{x:+}][{y:.1e}][{z}]' \
+        $' x :~ ,"y:~",z:~\n 1.5e3 ,5e-324,1e400\n'
+    letters '0.50 5.00 1.0' '{a:.2} {b:.2} {c:.1}' $'a:~,b:~,c:\n.5,5.,+1\n'
+    fault "r:2: column 1 $wanted_number"$'\n'"r:3: column 1 $wanted_number"$'\n'"r:4: column 2 $wanted_number" \
+        '{a}' $'a:~,b:\n,1\n1e,1\n1,1e3\n'
+    fault "r:2: column 1 $wanted_number"$'\n'"r:3: column 1 $wanted_number" '{a}' $'a:~\n0x1\n1 2\n'
+    fault 'r:1: column 2 has the name of an earlier column' '{a}' $'a:~,a:\n1,2\n'
+    fault "$(printf '%s\n' 't:1:5: trait `LowerHex` not implemented, used by format argument at 4' \
+        '  |' '1 | {a:x}' '  | ~~~~^')" '{a:x}' $'a:~\n1\n'
+}
+
 template_cases() {
     fault $'t:3:4: specified value not in context `q` at 25\n  |\n3 | é {q}\n  |   ~^~\n  = names: `name`' \
         $'Dear\n  é {name:>8},\né {q}' $'name\nAnn\nZoë\n'
@@ -139,6 +159,55 @@ other_template_cases() {
     files '<{a}>' $'a,b\n1\n,2\n'
     printf '{b}' >o
     case_of file file 1 '' $'r:2: 1 field, but line 1 has 2\n' --if-empty a=o t r
+}
+
+# escaped FLAG WANTED TEMPLATE TABLE: letters with escaped values, with status 0.
+escaped() {
+    files "$3" "$4"
+    case_of file file 0 "$2" '' "$1" t r
+}
+
+# misplaced WANTED TEMPLATE WORD..: a value that is out of place, with status 1; no letter is written,
+# and a record that is wrong is not told.
+misplaced() {
+    files "$2" $'a,b\n,2\n3\n'
+    case_of file file 1 '' "$1"$'\n' "${@:3}" t r
+}
+
+escape_cases() {
+    escaped --html '<p title="x&quot;y">&lt;b&gt;|  &lt;b&gt;&amp;</p>' \
+        '<p title="{a}">{b:.3}|{b:>6}</p>' $'a,b\n"x""y",<b>&\n'
+    escaped --html 'it&#39;s 7.50<br>&#39;é&#39; 0.00<br>' '{a} {n:.2}<br>' $'a,n:\nit\'s,7.5\n\'é\',0\n'
+    escaped --csv $'"5"" nails","""x\\""y"""\n' $'"{a}","{b:?}"\n' $'a,b\n"5"" nails","x""y"\n'
+    escaped --json '{"a":"x\"\\\n\u003c","n":"2.5"}' '{{"a":"{a}","n":"{n:.1}"}}' \
+        $'a,n:\n"x""\\\n<",2.5\n'
+    files '<b>{a}</b>' $'a,b\n,<1>\n<2>,\n'
+    printf '%s' '<i>{b}</i>' >o
+    case_of file file 0 '<i>&lt;1&gt;</i><b>&lt;2&gt;</b>' '' --html --if-empty a=o t r
+    case_of file file 2 '' "$usage"$'\n' --html --csv t r
+    case_of file file 2 '' "$usage"$'\n' --json --partial --json t r
+    case_of file file 2 '' "$usage"$'\n' --xml t r
+    files '<b>{a}</b>' $'a\n<é>\n'
+    refusals_of 0 '<b>&lt;é&gt;</b>' '' --html t r
+}
+
+place_cases() {
+    misplaced "$(printf '%s\n' "t:1:10: $out_of_place $html_places" '  |' '1 | <p title={a}>' \
+        '  |          ^')" '<p title={a}>' --html
+    misplaced "$(printf '%s\n' "t:2:8: $out_of_place $html_places" '  |' '2 | {a} <i {b}>' \
+        '  |        ^')" $'<p>\n{a} <i {b}>' --html --partial
+    misplaced "$(printf '%s\n' "t:1:7: $out_of_place between double quotes" '  |' '1 | "{a}",{b}' \
+        '  |       ^')" '"{a}",{b}' --csv
+    misplaced "$(printf '%s\n' "t:1:7: $out_of_place in a string" '  |' '1 | {{"n":{b}}}' \
+        '  |       ^')" '{{"n":{b}}}' --json
+    printf '%s' '<p id={b}>' >o
+    misplaced "$(printf '%s\n' "o:1:7: $out_of_place $html_places" '  |' '1 | <p id={b}>' \
+        '  |       ^')" '{a}' --html --if-empty a=o
+    misplaced "$(printf '%s\n' 't:1:7: specified value not in context `q` at 6' '  |' '1 | <a b={q}>' \
+        '  |      ~^~' '  = did you mean `a`? names: `a`, `b`')" '<a b={q}>' --html
+    files '{a}' $'a\n1\n'
+    refusals_of 1 '' "$(printf '%s\n' "t:1:1: $out_of_place between double quotes" '  |' '1 | {a}' \
+        '  | ^')"$'\n' --csv t r
 }
 
 # The letters of the records before the first that is wrong.
@@ -250,8 +319,11 @@ all_cases() {
     letter_cases
     record_cases
     number_cases
+    float_cases
     template_cases
     other_template_cases
+    escape_cases
+    place_cases
     partial_cases
     large_cases
     table_cases

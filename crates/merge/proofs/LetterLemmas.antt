@@ -1,11 +1,13 @@
 -- A row of the views of fields resembles the sample.
 use Rattle.std.proofs.Common.{◌≡◌, refl, ℕ, ℤ, pos, List, [], ◌∷◌, map}
 use Rattle.std.specs.Borrow.{Bor}
+use Rattle.std.specs.Float.{binary64}
+use Rattle.std.specs.Float.Ieee.{Float}
 use Rattle.std.specs.Str.{chars}
 use Rattle.interpolator.specs.Meaning.Resembling.{HasText, Resembles, ResemblesSlot}
 use Rattle.interpolator.specs.Slots.{slot_at, slots_of, values_of}
 use Rattle.interpolator.specs.Texts.{view_text}
-use Rattle.interpolator.specs.Views.{Shown, decimal_number, one_character, some_text}
+use Rattle.interpolator.specs.Views.{Shown, decimal_number, float_number, one_character, some_text}
 use Rattle.interpolator.specs.declared.Spec.{Spec}
 use Rattle.interpolator.specs.declared.Trait.{Trait}
 use Rattle.interpolator.specs.declared.Trait.TheVariants.{Binary, Debug, Display, Iter}
@@ -47,11 +49,24 @@ number_alike alike units scale Iter = tt
 number_alike alike units scale t =
     λ spec h. alike (decimal_number (pos 0) 0) (decimal_number units scale) t spec refl refl h
 
+-- so does each slot of a float
+float_alike : ByKind → (value : Float) (t : Trait) → ResemblesSlot view_shows view_shows t
+    (slot_at t (values_of (as_value (forms.Float value))))
+    (slot_at t (values_of (as_value (forms.Decimal (pos 0) 0))))
+float_alike alike value Binary = tt
+float_alike alike value LowerHex = tt
+float_alike alike value Octal = tt
+float_alike alike value UpperHex = tt
+float_alike alike value Iter = tt
+float_alike alike value t =
+    λ spec h. alike (decimal_number (pos 0) 0) (float_number binary64 value) t spec refl refl h
+
 -- so the view of a field resembles the example of its column
 view_alike : ByKind → (kind : Kind) (field : List ℕ) (view : View) → Shows kind field view
     → Resembles view_shows view_shows (as_value view) (example_slots kind)
 view_alike alike kinds.Text field view h = rw (h.1) (text_alike alike h.0)
 view_alike alike kinds.Number field view h = rw (h.2) (number_alike alike h.0.units h.0.scale)
+view_alike alike kinds.Float field view h = rw (h.2) (float_alike alike h.0)
 
 -- and the views of the fields of a line resemble the sample
 pub rows_alike : ByKind → (row : Row) (sample : Sample) (ks : List Kind) (fs : List (List ℕ))

@@ -192,3 +192,7 @@ settled separator letters names kinds partial from rows old mid new once are cle
     (Err (why.Other errors)) h = absurd h
 settled separator letters names kinds partial from rows old mid new once are clean same
     (Err why.NoColumn) h = absurd h
+settled separator letters names kinds partial from rows old mid new once are clean same
+    (Err (why.Misplaced found)) h = absurd h
+settled separator letters names kinds partial from rows old mid new once are clean same
+    (Err (why.OtherMisplaced found)) h = absurd h

@@ -16,6 +16,7 @@ use Rattle.records.specs.declared.field.Field.{Field}
 shown_fits : (kind : Kind) (field : List ℕ) (view : View) → Shows kind field view → Fits kind field
 shown_fits kinds.Text field view h = tt
 shown_fits kinds.Number field view h = (h.0, h.1)
+shown_fits kinds.Float field view h = (h.0, h.1)
 
 -- if there are all views, no field is a misfit
 pub none_misfits : (number : ℕ) (ks : List Kind) (fs : List (List ℕ)) (vs : List View)

@@ -1,4 +1,5 @@
--- The columns of a table, which its first line names: of texts, or of numbers. Texts are bytes.
+-- The columns of a table, which its first line names: of texts, of numbers or of floats. Texts are
+-- bytes.
 use Rattle.std.specs.Prelude.{ℕ, Bool, ◌-◌, List, codes, eqb, length, map, take, if◌then◌else◌}
 use Rattle.std.specs.Prelude.{Option, None, Some}
 use Rattle.std.specs.List.{ends_with, position}
@@ -32,11 +33,14 @@ abbrev pub without : (ending text : List ℕ) → Option (List ℕ)
 without ending text =
     if ends_with eqb text ending then Some (take (length text - length ending) text) else None
 
--- a column by what is before the `:` at the end of a text
-abbrev pub column_by : List ℕ → Option (List ℕ) → List ℕ × Kind
-column_by text None = (text, kinds.Text)
-column_by text (Some name) = (trim name, kinds.Number)
+-- a column by what is before `:` and before `:~` at the end of a text
+abbrev pub column_by : List ℕ → (number float : Option (List ℕ)) → List ℕ × Kind
+column_by text (Some name) float = (trim name, kinds.Number)
+column_by text None (Some name) = (trim name, kinds.Float)
+column_by text None None = (text, kinds.Text)
 
--- the column that a field of the first line names: `name:` one of numbers, else `name` one of texts
+-- the column that a field of the first line names: `name:` one of numbers, `name:~` one of floats,
+-- else `name` one of texts
 abbrev pub column_of : List ℕ → List ℕ × Kind
-column_of field = column_by (trim field) (without (codes ":") (trim field))
+column_of field =
+    column_by (trim field) (without (codes ":") (trim field)) (without (codes ":~") (trim field))

@@ -13,6 +13,11 @@ use Rattle.interpolator.specs.Prepared.Rows.{PreparedFormat, found_by_row, pair_
 use Rattle.interpolator.specs.Slots.{slots_of}
 use Rattle.interpolator.specs.Template.NodeSamples.{faults_over}
 use Rattle.interpolator.specs.Views.{Shown, shown_as_value}
+use Rattle.interpolator_escapes.specs.Escapes.{escape_of}
+use Rattle.interpolator_escapes.specs.Formats.{escaped_shows}
+use Rattle.interpolator_escapes.specs.Placing.{FailsFor, StandsFor}
+use Rattle.interpolator_escapes.specs.declared.escape.Escape.{Escape}
+use Rattle.interpolator_escapes.specs.declared.misplaced.Misplaced.{Misplaced}
 use Rattle.interpolator.specs.declared.Error.{Error}
 use Rattle.interpolator.specs.declared.Formattable.{Formattable}
 use Rattle.interpolator.specs.declared.Spec.{Spec}
@@ -47,6 +52,11 @@ Sample = List (Bor (List ℕ) × Formattable View)
 abbrev pub view_shows : View → Trait → Spec → Shown
 view_shows view _ _ = shown_as_value view
 
+-- the same in a letter: escaped, if that is asked for
+abbrev pub letter_shows : Option Escape → View → Trait → Spec → Shown
+letter_shows None = view_shows
+letter_shows (Some escape) = escaped_shows (escape_of escape) view_shows
+
 -- a sample has these names, and under each an example of its column
 pub record HasNames (names : List (List ℕ)) (kinds : List Kind) (sample : Sample) : Type 0 where
   pub same_names : pair_names sample ≡ names
@@ -70,29 +80,31 @@ form_in letters (Some column) fields = form_by letters (is_empty_at column field
 abbrev pub form_for : Letters → (fields : List (List ℕ)) → PreparedFormat
 form_for letters fields = form_in letters letters.column fields
 
--- what a template means with a row of values
-abbrev pub letter_means : PreparedFormat → Row → Meaning
-letter_means form row = means view_shows (environment (found_by_row form.names (row_at row)))
-    (outermost (chars form.text))
+-- what a template means with a row of values, by the escape
+abbrev pub letter_means : Option Escape → PreparedFormat → Row → Meaning
+letter_means escape form row = means (letter_shows escape)
+    (environment (found_by_row form.names (row_at row))) (outermost (chars form.text))
 
 -- a text is the letter of some views: what the template means with them, without fault
-pub record IsLetterWith (form : PreparedFormat) (views : List View) (letter : List ℕ) : Type 0 where
+pub record IsLetterWith (escape : Option Escape) (form : PreparedFormat) (views : List View)
+    (letter : List ℕ) : Type 0 where
   pub row : Row
   pub same_values : map slots_of row ≡ map as_value views
-  pub sound : (letter_means form row).fault ≡ None
-  pub said : letter ≡ text_of (letter_means form row).text
+  pub sound : (letter_means escape form row).fault ≡ None
+  pub said : letter ≡ text_of (letter_means escape form row).text
 
 -- a text is the letter of the fields of some columns
-pub record IsLetterOf (form : PreparedFormat) (kinds : List Kind) (fields : List (List ℕ))
-    (letter : List ℕ) : Type 0 where
+pub record IsLetterOf (escape : Option Escape) (form : PreparedFormat) (kinds : List Kind)
+    (fields : List (List ℕ)) (letter : List ℕ) : Type 0 where
   pub views : List View
   pub shown : AreShown kinds fields views
-  pub is : IsLetterWith form views letter
+  pub is : IsLetterWith escape form views letter
 
 -- a text is the letter of a record, with which nothing is wrong
 abbrev pub IsLetter : Letters → List Kind → Entry → (letter : List ℕ) → Type 0
 IsLetter letters kinds (Ok (line, fields)) letter =
-    HasTrouble kinds fields None × IsLetterOf (form_for letters fields) kinds fields letter
+    HasTrouble kinds fields None
+    × IsLetterOf letters.escape (form_for letters fields) kinds fields letter
 IsLetter letters kinds (Err fault) letter = ⊥
 
 -- a text is the letters of some records, one after the other
@@ -137,15 +149,39 @@ LooksUp names name (Ok column) = IsChosen names name column
 LooksUp names name (Err fault) = (wanted : Bor (List ℕ)) × (name ≡ Some wanted)
     × (column_named names wanted.now ≡ None) × (fault ≡ why.NoColumn)
 
+-- the values of a template are in places of the escape, if one is asked for
+abbrev pub IsPlaced : Option Escape → (template : List ℕ) → Type 0
+IsPlaced None template = ⊤
+IsPlaced (Some escape) template = StandsFor escape (outermost (chars template))
+
+-- this is the first that is not
+abbrev pub IsMisplaced : Option Escape → (template : List ℕ) → Misplaced → Type 0
+IsMisplaced None template found = ⊥
+IsMisplaced (Some escape) template found = FailsFor escape (outermost (chars template)) found
+
+-- those of both templates are, or one is not, or memory ran out
+abbrev pub ArePlaced : Option Escape → Templates → Result (Unit {0}) Fault → Type 0
+ArePlaced escape templates (Ok _) =
+    IsPlaced escape templates.letter.now × IsPlaced escape templates.other.now
+ArePlaced escape templates (Err (why.Misplaced found)) =
+    IsMisplaced escape templates.letter.now found
+ArePlaced escape templates (Err (why.OtherMisplaced found)) =
+    IsMisplaced escape templates.other.now found
+ArePlaced escape templates (Err why.Stopped) = ⊤
+ArePlaced escape templates (Err _) = ⊥
+
 -- templates are prepared for columns of these names
 pub record ArePrepared (templates : Templates) (names : List (List ℕ)) (letters : Letters) : Type 0
   where
     pub same_letter : letters.letter ≡ form_of templates.letter.now names
     pub same_other : letters.other ≡ form_of templates.other.now names
     pub chosen : IsChosen names templates.column letters.column
+    pub same_escape : letters.escape ≡ templates.escape
+    pub letter_placed : IsPlaced templates.escape templates.letter.now
+    pub other_placed : IsPlaced templates.escape templates.other.now
 
--- why templates are not: no column has the name that is asked for, a template has these faults, or
--- memory ran out
+-- why templates are not: no column has the name that is asked for, a template has these faults, a
+-- value of it is in no place of the escape, or memory ran out
 abbrev pub Spoils : Templates → (names : List (List ℕ)) → List Kind → Fault → Type 0
 Spoils templates names kinds why.NoColumn = (name : Bor (List ℕ))
     × (templates.column ≡ Some name) × (column_named names name.now ≡ None)
@@ -153,6 +189,10 @@ Spoils templates names kinds (why.Template errors) =
     HasFaults (form_of templates.letter.now names) kinds errors.items
 Spoils templates names kinds (why.Other errors) =
     HasFaults (form_of templates.other.now names) kinds errors.items
+Spoils templates names kinds (why.Misplaced found) =
+    IsMisplaced templates.escape templates.letter.now found
+Spoils templates names kinds (why.OtherMisplaced found) =
+    IsMisplaced templates.escape templates.other.now found
 Spoils templates names kinds (why.Table told) = ⊥
 Spoils templates names kinds why.Stopped = ⊤
 
@@ -166,9 +206,10 @@ Prepares templates names kinds sample (Err fault) = Spoils templates names kinds
 -- ---- what is written
 
 -- a letter is appended to a text
-abbrev pub PutsLetter : PreparedFormat → (views : List View) → (old new : List ℕ) → Type 0
-PutsLetter form views old new =
-    (letter : List ℕ) × IsLetterWith form views letter × (new ≡ old ++ letter)
+abbrev pub PutsLetter : Option Escape → PreparedFormat → (views : List View)
+    → (old new : List ℕ) → Type 0
+PutsLetter escape form views old new =
+    (letter : List ℕ) × IsLetterWith escape form views letter × (new ≡ old ++ letter)
 
 -- the letter of fields is appended to a text, if it is asked for and nothing is wrong with them
 abbrev pub PutsIf : Letters → List Kind → (writes : Bool) → (fields : List (List ℕ))
@@ -176,7 +217,8 @@ abbrev pub PutsIf : Letters → List Kind → (writes : Bool) → (fields : List
 PutsIf letters kinds writes fields old new (Some trouble) = new ≡ old
 PutsIf letters kinds false fields old new None = new ≡ old
 PutsIf letters kinds true fields old new None = (letter : List ℕ)
-    × IsLetterOf (form_for letters fields) kinds fields letter × (new ≡ old ++ letter)
+    × IsLetterOf letters.escape (form_for letters fields) kinds fields letter
+    × (new ≡ old ++ letter)
 
 -- what is told of a record is appended to what was found; and, if that is asked for and nothing was
 -- found, its letter to a text

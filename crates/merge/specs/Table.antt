@@ -33,8 +33,8 @@ kinds_of header = map (λ column. column.1) (columns_of header)
 abbrev pub count_trouble : (count names : ℕ) → Option Trouble
 count_trouble count names = cond (count == names) None (Some (troubles.Fields count))
 
--- what is wrong with the number of fields, or else with the fields: the first that is no number
--- where one is wanted
+-- what is wrong with the number of fields, or else with the fields: the first that is no number or
+-- float where one is wanted
 abbrev pub IsTrouble : List Kind → (fields : List (List ℕ)) → (shape found : Option Trouble)
     → Type 0
 IsTrouble kinds fields (Some trouble) found = found ≡ Some trouble

@@ -1,21 +1,29 @@
 //! The columns of a table: their names, and what their fields are.
 
 ghost use Rattle.std.specs.Prelude.{◌≡◌, IfOk, map};
+ghost use Rattle.std.specs.Option.{option_map};
+ghost use Rattle.std.specs.Str.{trim};
 ghost use Rattle.merge.specs.Columns.{as_column, column_named, column_of, is_named, kinds_in};
-ghost use Rattle.merge.specs.Columns.{names_in};
+ghost use Rattle.merge.specs.Columns.{names_in, without};
 ghost use Rattle.std.specs.List.{position};
 ghost use Rattle.records.specs.Spellings.{text_of};
 
 use records::Field;
 use std::alloc::{AllocError, Global};
 
+const NUMBER_MARK: &str = ":";
+
+const FLOAT_MARK: &str = ":~";
+
 /// What the fields of a column are.
 #[derive(Clone, Copy, Debug, PartialEq, Eq)]
 pub enum Kind {
     /// Texts.
     Text,
-    /// Numbers.
+    /// Whole numbers and decimals.
     Number,
+    /// Floats.
+    Float,
 }
 
 /// A column: its name, and what its fields are.
@@ -26,22 +34,36 @@ pub struct Column<'a> {
 }
 
 /// The column that a field of the first line names: `price:` is a column of numbers with the name
-/// `price`, and any other text is the name of a column of texts. White space around a name does not
-/// count.
-#[tactic(auto, using(std::proofs::lemmas::Slice::Eq::ends_is))]
+/// `price`, `x:~` one of floats with the name `x`, and any other text is the name of a column of
+/// texts. White space around a name does not count.
 fn column_of(field: &str) -> Column<'_>
     ensures { as_column result ≡ column_of field.now }
 {
     let name = field.trim();
-    match name.strip_suffix(":") {
-        Some(name) => Column {
+    if let Some(column) = with_ending(NUMBER_MARK, Kind::Number, name) {
+        return column;
+    }
+    if let Some(column) = with_ending(FLOAT_MARK, Kind::Float, name) {
+        return column;
+    }
+    Column {
+        name,
+        kind: Kind::Text,
+    }
+}
+
+/// The column whose name is before an ending, if a text ends so.
+#[tactic(auto, using(std::proofs::lemmas::Slice::Eq::ends_is))]
+fn with_ending<'a>(ending: &str, kind: Kind, text: &'a str) -> Option<Column<'a>>
+    ensures { option_map as_column result
+        ≡ option_map (λ name. (trim name, kind)) (without ending.now text.now) }
+{
+    match text.strip_suffix(ending) {
+        Some(name) => Some(Column {
             name: name.trim(),
-            kind: Kind::Number,
-        },
-        None => Column {
-            name,
-            kind: Kind::Text,
-        },
+            kind,
+        }),
+        None => None,
     }
 }
 

@@ -2,6 +2,15 @@
 
 ghost use Rattle.std.specs.Prelude.{◌≡◌, ◌<◌, ℕ, List, IfOk, IfErr, OnOk, true};
 ghost use Rattle.std.specs.Prelude.{None, Some, length, map};
+ghost use Rattle.std.specs.Str.{chars};
+ghost use Rattle.interpolator.specs.At.{outermost};
+ghost use Rattle.interpolator.specs.Faults.{result_answer};
+ghost use Rattle.interpolator.specs.Meaning.Environments.{environment};
+ghost use Rattle.interpolator.specs.Meaning.Meanings.{means};
+ghost use Rattle.interpolator.specs.Meaning.Outcomes.{Outcome};
+ghost use Rattle.interpolator.specs.Prepared.Rows.{found_by_row, row_at};
+ghost use Rattle.interpolator_escapes.specs.Escapes.{escape_of};
+ghost use Rattle.interpolator_escapes.specs.Formats.{escaped_shows};
 ghost use Rattle.merge.specs.Columns.{kinds_in, names_in};
 ghost use Rattle.merge.specs.Letters.{AreReady, IsOneFault, IsReady};
 ghost use Rattle.merge.specs.Letters.{LacksHeader, Merges, MergesAfter, MergesFrom};
@@ -17,17 +26,42 @@ use crate::table::{
 };
 use crate::templates::{Fault, Frame, Letters, Templates, prepared_letters, sample_of};
 use crate::values::{row_of, views_of};
-use interpolator::{Error, Pairs, Prepared, Row, TextWrite, View};
+use interpolator::{Error, Escape, Pairs, Prepared, Row, TextWrite, Value, View};
+use interpolator_escapes::{CsvEscaper, HtmlEscaper, JsonEscaper, LineEscaper, ShellEscaper};
 use interpolator_laws::prepared::a_prepared_format_is_written;
 use interpolator_laws::samples::a_view_has_a_text_by_its_kind;
 use records::laws::a_table_is_read_in_one_way;
 use records::{Field, ReadError, Reader, Separator};
 use std::alloc::Global;
 
+/// Writes what a template means with a row, each value escaped.
+fn write_escaped<W: TextWrite, V: Value>(
+    alloc: Global,
+    out: &mut W,
+    escape: Escape,
+    letter: &Prepared,
+    row: &Row<'_, V>,
+) -> Result<(), Error>
+    ensures { Outcome
+        (means (escaped_shows (escape_of escape) V.shows)
+        (environment (found_by_row letter.now.names (row_at row.now.0.now)))
+        (outermost (chars letter.now.text)))
+        (W.written out.old) (W.written out.new) (result_answer result) }
+{
+    match escape {
+        Escape::Line => letter.write_by::<W, Row<'_, V>, LineEscaper>(alloc, out, row),
+        Escape::Html => letter.write_by::<W, Row<'_, V>, HtmlEscaper>(alloc, out, row),
+        Escape::Csv => letter.write_by::<W, Row<'_, V>, CsvEscaper>(alloc, out, row),
+        Escape::Json => letter.write_by::<W, Row<'_, V>, JsonEscaper>(alloc, out, row),
+        Escape::Shell => letter.write_by::<W, Row<'_, V>, ShellEscaper>(alloc, out, row),
+    }
+}
+
 /// Writes the letter of a record with these views, one for each column.
 fn write_letter<W: TextWrite>(
     alloc: Global,
     out: &mut W,
+    escape: Option<Escape>,
     letter: &Prepared,
     frame: Frame<'_>,
     views: &[View<'_>],
@@ -35,17 +69,21 @@ fn write_letter<W: TextWrite>(
     requires ready { IsReady letter.now (kinds_in frame.columns.now) frame.sample.now }
     requires shown { (fields : List (List ℕ)) × AreShown (kinds_in frame.columns.now) fields
         views.now }
-    ensures { OnOk result (PutsLetter letter.now views.now (W.written out.old).text
+    ensures { OnOk result (PutsLetter escape letter.now views.now (W.written out.old).text
         (W.written out.new).text) }
 {
+    let held = row_of(alloc, views)?;
+    let row = Row(held.as_slice());
+    if let Some(escape) = escape {
+        return write_escaped(alloc, out, escape, letter, &row);
+    }
     a_view_has_a_text_by_its_kind();
-    let row = row_of(alloc, views)?;
     let sample = Pairs(frame.sample);
-    a_prepared_format_is_written(alloc, out, letter, &sample, &Row(row.as_slice()))
+    a_prepared_format_is_written(alloc, out, letter, &sample, &row)
 }
 
 /// Writes the letter of a record with these fields, one for each column, if it is asked to, or
-/// returns which of them is no number though its column wants one.
+/// returns which of them is no number or float though its column wants one.
 fn write_fields<W: TextWrite>(
     alloc: Global,
     out: &mut W,
@@ -68,7 +106,7 @@ fn write_fields<W: TextWrite>(
         Ok(views) => {
             if writes {
                 let letter = letters.letter_of(fields);
-                write_letter(alloc, out, letter, frame, views.as_slice())?;
+                write_letter(alloc, out, letters.escape, letter, frame, views.as_slice())?;
                 return Ok(None);
             }
             Ok(None)
@@ -278,7 +316,8 @@ fn merge_rows<W: TextWrite>(
 /// # Errors
 ///
 /// The fault of a first record whose names cannot be read; all faults that a template has with the
-/// names, or that the names lack the one of the column; the faults of all records; `Stopped`.
+/// names, its first value in no place of the escape, or that the names lack the one of the column;
+/// the faults of all records; `Stopped`.
 pub fn merge<W: TextWrite>(
     alloc: Global,
     out: &mut W,

@@ -5,7 +5,8 @@
 //! `:`. Its fields are whole numbers or decimals, as -7 or 12.50, of 128 bits without the point.
 //! White space around them, zeros in front and a `+` are not shown; all digits after the point are.
 //! `{price:>10.2}` shows such a field with two digits after the point, at the right of ten
-//! characters. The fields of other columns are texts.
+//! characters. A name that ends in `:~` is that of a column of floats, as std reads an `f64`: also
+//! `1e21`, `nan` and `inf`. The fields of other columns are texts.
 //!
 //! The other records have a field for each name. Records are spelled as the crate `records` reads
 //! them: fields may stand in quotes, with separators, line ends and doubled quotes in them. The
@@ -18,16 +19,24 @@
 //! With `--if-empty title=PLAIN`, the letter of a record whose field `title` is empty is made by the
 //! template in the file PLAIN.
 //!
-//! Templates are checked with the columns before the first letter, and all faults of the first that
-//! has any are shown in their lines, as a compiler does. All records of the table that have a fault
-//! are reported, by their first line, and all places where the table goes on with no record. In both
-//! cases no letter is written; but with `--partial` those of the records before the first fault are.
-//! So the table is read twice, or once with `--partial`, and each letter is written as it is made.
+//! With `--html`, `--csv` or `--json`, of which one may be given, once, values are written
+//! escaped: as in the text and the attributes of a page, in the quoted fields of a table, or in
+//! the strings of JSON. Each value of a template has to stand in such a place of a letter by
+//! itself.
+//!
+//! Templates are checked with the columns before the first letter, and all faults of the first
+//! that has any are shown in their lines, as a compiler does; else the first value that is out of
+//! place is. All records of the table that have a fault are reported, by their first line, and all
+//! places where the table goes on with no record. In both cases no letter is written; but with
+//! `--partial` those of the records before the first fault are. So the table is read twice, or
+//! once with `--partial`, and each letter is written as it is made.
 //!
 //! A flag that is given again counts as it was given last; `--` ends the flags, and `--help` as the
 //! first word prints help. The status is 0 if the letters are written, 1 after a fault of a template
 //! or of the table, 2 after wrong use, and 3 after a refused write or for a file that cannot be read.
 #![tactic(auto)]
+
+ghost use Rattle.std.specs.Prelude.{◌<◌, IfSome, length};
 
 mod columns;
 mod letters;
@@ -37,7 +46,7 @@ mod templates;
 mod told;
 mod values;
 
-use interpolator::{Error, IoWriter};
+use interpolator::{Error, Escape, IoWriter};
 use letters::merge;
 use output::Output;
 use records::{BadByte, Separator, latin1, text_in};
@@ -50,7 +59,7 @@ use words::program::{
 };
 
 const USAGE: &str = "usage: merge [--separator , | ; | tab] [--latin1] [--partial] \
-    [--if-empty NAME=TEMPLATE] [--] TEMPLATE TABLE";
+    [--html | --csv | --json] [--if-empty NAME=TEMPLATE] [--] TEMPLATE TABLE";
 
 const HELP: &str = "\
 Writes a letter for each record of a table.
@@ -60,10 +69,12 @@ usage: merge [FLAG..] [--] TEMPLATE TABLE
   --separator , | ; | tab    what is between two fields; else that which line 1 alone has, or a comma
   --latin1                   the table is Latin-1, not UTF-8
   --partial                  if a record is wrong, write the letters of those before it
+  --html, --csv or --json    values escaped: in text or quoted attributes, quoted fields, or strings
   --if-empty NAME=TEMPLATE   another template for the records whose field NAME is empty
   --help                     print this
 
-The first line of the table names its columns; `price:` names a column of numbers, `price`.
+The first line of the table names its columns; `price:` names a column of numbers, `price`, and
+`x:~` one of floats, `x`.
 
 example: with `Dear {name}, {item} costs {price:.2}.` in letter.txt, and in people.csv
   name,item,price:
@@ -80,51 +91,87 @@ struct Asked<'a> {
     separator: Option<Separator>,
     is_latin1: bool,
     is_partial: bool,
+    escape: Option<Escape>,
     /// The name of a column, and of the template for its empty fields.
     if_empty: Option<(&'a str, &'a str)>,
 }
 
+/// The escape that a flag asks for.
+fn escape_of(flag: &str) -> Option<Escape> {
+    match flag {
+        "--html" => Some(Escape::Html),
+        "--csv" => Some(Escape::Csv),
+        "--json" => Some(Escape::Json),
+        _ => None,
+    }
+}
+
+/// Takes a flag of one word, if it is one that may stand here.
+fn take_word(asked: &mut Asked<'_>, flag: &str) -> Option<()> {
+    match flag {
+        "--latin1" => asked.is_latin1 = true,
+        "--partial" => asked.is_partial = true,
+        _ => {
+            let escape = escape_of(flag)?;
+            if asked.escape.is_some() {
+                return None;
+            }
+            asked.escape = Some(escape);
+        }
+    }
+    Some(())
+}
+
+/// Takes a flag at the beginning of words, and returns the words after it; none if there is none.
+fn after_flag<'a>(asked: &mut Asked<'a>, words: &'a [String]) -> Option<&'a [String]>
+    ensures { IfSome result (λ rest. length rest.now < length words.now) }
+{
+    match words {
+        [flag, word, more @ ..] if flag.as_str() == "--separator" => {
+            asked.separator = Some(Separator::named(word.as_str())?);
+            Some(more)
+        }
+        [flag, word, more @ ..] if flag.as_str() == "--if-empty" => {
+            asked.if_empty = Some(word.as_str().split_once('=')?);
+            Some(more)
+        }
+        [flag, more @ ..] => {
+            take_word(asked, flag.as_str())?;
+            Some(more)
+        }
+        _ => None,
+    }
+}
+
 /// What the words ask for: flags, and then two files.
 fn asked_by<'a>(words: &'a [String]) -> Option<Asked<'a>> {
-    let mut rest = words;
     let mut asked = Asked {
         template: "",
         table: "",
         separator: None,
         is_latin1: false,
         is_partial: false,
+        escape: None,
         if_empty: None,
     };
-    loop {
-        match rest {
-            [flag, word, more @ ..] if flag.as_str() == "--separator" => {
-                asked.separator = Some(Separator::named(word.as_str())?);
-                rest = more;
-            }
-            [flag, word, more @ ..] if flag.as_str() == "--if-empty" => {
-                asked.if_empty = Some(word.as_str().split_once('=')?);
-                rest = more;
-            }
-            [flag, more @ ..] if flag.as_str() == "--latin1" => {
-                asked.is_latin1 = true;
-                rest = more;
-            }
-            [flag, more @ ..] if flag.as_str() == "--partial" => {
-                asked.is_partial = true;
-                rest = more;
-            }
-            [flag, template, table] if flag.as_str() == "--" => {
-                asked.template = template.as_str();
-                asked.table = table.as_str();
-                return Some(asked);
-            }
-            [template, table] if !is_flag(template.as_str()) && !is_flag(table.as_str()) => {
-                asked.template = template.as_str();
-                asked.table = table.as_str();
-                return Some(asked);
-            }
-            _ => return None,
-        }
+    let mut rest = words;
+    while let Some(next) = after_flag(&mut asked, rest) {
+        rest = next;
+    }
+    match rest {
+        [template, table] if !is_flag(template.as_str()) && !is_flag(table.as_str()) => Some(
+            Asked {
+                template: template.as_str(),
+                table: table.as_str(),
+                ..asked
+            },
+        ),
+        [end, template, table] if end.as_str() == "--" => Some(Asked {
+            template: template.as_str(),
+            table: table.as_str(),
+            ..asked
+        }),
+        _ => None,
     }
 }
 
@@ -149,6 +196,7 @@ fn write_letters(rt: &HostRuntime, files: Files<'_>) -> ExitCode {
         letter: files.template,
         other: files.other,
         column: files.column,
+        escape: files.escape,
     };
     let merged = merge(
         alloc,
@@ -231,6 +279,7 @@ fn merge_texts(
         table,
         separator,
         is_partial: asked.is_partial,
+        escape: asked.escape,
     };
     write_letters(rt, files)
 }

@@ -22,7 +22,7 @@ pub enum Trouble {
     Fields(usize),
     /// It gives the column of this number, from 1, the name of an earlier one.
     Twice(usize),
-    /// Its field in the column of this number, from 1, is no number, which the column wants.
+    /// Its field in the column of this number, from 1, is not the number or float that it wants.
     NotNumber(usize),
 }
 

@@ -1,10 +1,13 @@
 //! The templates of letters, prepared for the columns of a table, and why letters are missing.
 
-ghost use Rattle.std.specs.Prelude.{◌≡◌, IfOk, MatchResult, map};
+ghost use Rattle.std.specs.Prelude.{◌≡◌, IfOk, MatchOption, MatchResult, map};
+ghost use Rattle.std.specs.Str.{chars};
+ghost use Rattle.interpolator.specs.At.{outermost};
 ghost use Rattle.interpolator.specs.Prepared.Rows.{pair_names};
 ghost use Rattle.interpolator.specs.Slots.{slots_of};
+ghost use Rattle.interpolator_escapes.specs.Placing.{FailsFor, StandsFor};
 ghost use Rattle.merge.specs.Columns.{kinds_in, names_in};
-ghost use Rattle.merge.specs.Letters.{HasFaults, HasNames, IsReady, LooksUp, Prepares};
+ghost use Rattle.merge.specs.Letters.{ArePlaced, HasFaults, HasNames, IsReady, LooksUp, Prepares};
 ghost use Rattle.merge.specs.Letters.{form_by, form_for, form_of};
 ghost use Rattle.merge.specs.Values.{example_by, is_empty_at};
 ghost use Rattle.merge.specs.declared.templates.Fault.TheVariants.{Stopped};
@@ -13,7 +16,10 @@ ghost use Rattle.records.specs.Spellings.{text_of};
 use crate::columns::{Column, column_named};
 use crate::table::LineFault;
 use crate::values::{example_of, is_empty_at};
-use interpolator::{Error, Formattable, Interpolate, Pairs, Prepared, Template, View};
+use interpolator::{
+    Error, Escape, Formattable, Interpolate, Misplaced, Pairs, PlaceError, Prepared, Template, View,
+};
+use interpolator_escapes::check_format;
 use records::Field;
 use std::alloc::{AllocError, Global};
 
@@ -24,6 +30,10 @@ pub enum Fault {
     Template(Vec<Error>),
     /// Those of the other template.
     Other(Vec<Error>),
+    /// The first value of the template that is in no place of the escape.
+    Misplaced(Misplaced),
+    /// That of the other template.
+    OtherMisplaced(Misplaced),
     /// No column has the name of the one whose empty fields choose the other template.
     NoColumn,
     /// All lines of the table that have a fault.
@@ -57,6 +67,8 @@ pub struct Templates<'a> {
     pub other: &'a str,
     /// The name of this column; without it, `other` is for no record.
     pub column: Option<&'a str>,
+    /// How values are escaped, if they are.
+    pub escape: Option<Escape>,
 }
 
 /// The templates, prepared for the columns of a table.
@@ -65,6 +77,8 @@ pub struct Letters {
     letter: Prepared,
     other: Prepared,
     column: Option<usize>,
+    /// How values are escaped, if they are.
+    pub escape: Option<Escape>,
 }
 
 /// The columns of a table, and an example value of each under its name.
@@ -128,6 +142,35 @@ fn chosen_column(columns: &[Column<'_>], name: Option<&str>) -> Result<Option<us
     }
 }
 
+/// The first value of a template that is in no place of an escape.
+fn misplaced_in(alloc: Global, escape: Escape, text: &str) -> Result<Option<Misplaced>, Error>
+    ensures { IfOk result (λ found. MatchOption found
+        (StandsFor escape (outermost (chars text.now)))
+        (FailsFor escape (outermost (chars text.now)))) }
+{
+    match check_format(alloc, escape, text) {
+        Ok(()) => Ok(None),
+        Err(PlaceError::Misplaced(misplaced)) => Ok(Some(misplaced)),
+        Err(PlaceError::NoMemory) => Err(Error::NoMemory),
+    }
+}
+
+/// Checks that the values of the templates are in places of the escape, if one is asked for.
+fn check_places(alloc: Global, templates: Templates<'_>) -> Result<(), Fault>
+    ensures { ArePlaced templates.entry.escape templates.entry result }
+{
+    let Some(escape) = templates.escape else {
+        return Ok(());
+    };
+    if let Some(misplaced) = misplaced_in(alloc, escape, templates.letter)? {
+        return Err(Fault::Misplaced(misplaced));
+    }
+    if let Some(misplaced) = misplaced_in(alloc, escape, templates.other)? {
+        return Err(Fault::OtherMisplaced(misplaced));
+    }
+    Ok(())
+}
+
 /// Prepares the templates.
 pub fn prepared_letters(
     alloc: Global,
@@ -144,14 +187,17 @@ pub fn prepared_letters(
         Ok(letter) => letter,
         Err(faults) => return Err(Fault::Template(faults)),
     };
-    match prepared_letter(alloc, templates.other, frame)? {
-        Ok(other) => Ok(Letters {
-            letter,
-            other,
-            column,
-        }),
-        Err(faults) => Err(Fault::Other(faults)),
-    }
+    let other = match prepared_letter(alloc, templates.other, frame)? {
+        Ok(other) => other,
+        Err(faults) => return Err(Fault::Other(faults)),
+    };
+    check_places(alloc, templates)?;
+    Ok(Letters {
+        letter,
+        other,
+        column,
+        escape: templates.escape,
+    })
 }
 
 impl Letters {

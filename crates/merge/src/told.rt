@@ -3,7 +3,9 @@
 use crate::columns::{columns_of, names_of};
 use crate::table::{LineFault, Trouble};
 use crate::templates::Fault;
-use interpolator::{Error, Source, explain_with_names};
+use interpolator::{
+    Error, Escape, Misplaced, Source, explain_place, explain_with_names, places_of,
+};
 use records::{Field, ReadError, Reader, Separator};
 use std::alloc::Global;
 
@@ -20,6 +22,8 @@ pub struct Files<'a> {
     pub table: &'a str,
     pub separator: Separator,
     pub is_partial: bool,
+    /// How values are escaped, if they are.
+    pub escape: Option<Escape>,
 }
 
 /// Fills in the fields of the header; none, if it has a fault.
@@ -72,6 +76,17 @@ fn told_lines(alloc: Global, files: Files<'_>, faults: &[LineFault]) -> Result<S
     Ok(told)
 }
 
+/// A template as the source of its faults.
+fn source_of<'a>(name: &'a str, text: &'a str) -> Source<'a> {
+    Source {
+        name,
+        first_line: 1,
+        text,
+        start: 0,
+        format: text,
+    }
+}
+
 /// The faults of a template, each shown in its line, and the names below it if one is missing.
 fn told_template(
     alloc: Global,
@@ -84,19 +99,32 @@ fn told_template(
     read_header(alloc, files, &mut fields)?;
     let columns = columns_of(alloc, fields.as_slice())?;
     let names = names_of(alloc, columns.as_slice())?;
-    let source = Source {
-        name,
-        first_line: 1,
-        text,
-        start: 0,
-        format: text,
-    };
+    let source = source_of(name, text);
     let mut told = String::new(alloc);
     for fault in faults {
         let picture = explain_with_names(alloc, &source, fault, names.as_slice())?;
         told.push_str(picture.as_str())?;
         told.push('\n')?;
     }
+    Ok(told)
+}
+
+/// The value of a template that is out of place, shown in its line.
+fn told_place(
+    alloc: Global,
+    files: Files<'_>,
+    name: &str,
+    text: &str,
+    misplaced: Misplaced,
+) -> Result<String, Error> {
+    let places = match files.escape {
+        Some(escape) => places_of(escape),
+        None => "",
+    };
+    let why = format!(in alloc; "{}; a value may stand {places}", misplaced.why)?;
+    let source = source_of(name, text);
+    let mut told = explain_place(alloc, &source, misplaced.place, why.as_str())?;
+    told.push('\n')?;
     Ok(told)
 }
 
@@ -107,6 +135,18 @@ pub fn told(alloc: Global, files: Files<'_>, fault: &Fault) -> Result<String, Er
             told_template(alloc, files, files.template_name, files.template, faults)
         }
         Fault::Other(faults) => told_template(alloc, files, files.other_name, files.other, faults),
+        Fault::Misplaced(misplaced) => {
+            told_place(
+                alloc,
+                files,
+                files.template_name,
+                files.template,
+                *misplaced,
+            )
+        }
+        Fault::OtherMisplaced(misplaced) => {
+            told_place(alloc, files, files.other_name, files.other, *misplaced)
+        }
         Fault::Table(faults) => told_lines(alloc, files, faults.as_slice()),
         Fault::NoColumn => {
             let table = files.table_name;

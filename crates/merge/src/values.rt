@@ -6,7 +6,7 @@ ghost use Rattle.merge.specs.Columns.{kinds_in};
 ghost use Rattle.merge.specs.Values.{AreShown, Fits, IsMisfit, Shows, as_value, example_by};
 ghost use Rattle.merge.specs.Values.{is_empty_at};
 ghost use Rattle.records.specs.Spellings.{text_of};
-ghost use Rattle.merge.specs.declared.columns.Kind.TheVariants.{Number};
+ghost use Rattle.merge.specs.declared.columns.Kind.TheVariants.{Float, Number};
 
 use crate::columns::{Column, Kind};
 use interpolator::{Decimal, Formattable, View};
@@ -26,6 +26,16 @@ fn number_in(field: &str) -> Option<View<'_>>
     }
 }
 
+/// The view of the float in a field, if it has one, with white space around it or none.
+fn float_in(field: &str) -> Option<View<'_>>
+    ensures { MatchOption result (¬ Fits Float field.now) (λ view. Shows Float field.now view) }
+{
+    match field.trim().parse::<f64>() {
+        Ok(value) => Some(View::Float(value)),
+        Err(_) => None,
+    }
+}
+
 /// The view of a field in a column, if it is what the column wants.
 fn view_of(kind: Kind, field: &str) -> Option<View<'_>>
     ensures { MatchOption result (¬ Fits kind field.now) (λ view. Shows kind field.now view) }
@@ -33,11 +43,12 @@ fn view_of(kind: Kind, field: &str) -> Option<View<'_>>
     match kind {
         Kind::Text => Some(View::Text(field)),
         Kind::Number => number_in(field),
+        Kind::Float => float_in(field),
     }
 }
 
 /// The views of the fields of a line, one for each column; or the number, from 1, of the first
-/// column of numbers whose field is none.
+/// column of numbers or floats whose field is none.
 pub fn views_of<'a>(
     alloc: Global,
     columns: &[Column<'_>],
@@ -60,13 +71,14 @@ pub fn views_of<'a>(
     Ok(Ok(views))
 }
 
-/// A view as a value: a number fills the slots of debug, display and exponents, and a text those of
-/// debug and display.
+/// A view as a value: a number or a float fills the slots of debug, display and exponents, and a
+/// text those of debug and display.
 fn as_value<'a>(view: &'a View<'a>) -> Formattable<'a, View<'a>>
     ensures { slots_of result ≡ as_value view.now }
 {
     match view {
         View::Decimal { .. } => Formattable::float(view),
+        View::Float(_) => Formattable::float(view),
         _ => Formattable::debug_display(view),
     }
 }
@@ -85,7 +97,8 @@ pub fn row_of<'a>(
     Ok(row)
 }
 
-/// An example of the fields of a column, of an example of a text and one of a number.
+/// An example of the fields of a column, of an example of a text and one of a number. A float can
+/// be formatted under the same traits as a number.
 pub fn example_of<'a>(
     kind: Kind,
     text: &'a View<'a>,
@@ -96,6 +109,7 @@ pub fn example_of<'a>(
     match kind {
         Kind::Text => as_value(text),
         Kind::Number => as_value(number),
+        Kind::Float => as_value(number),
     }
 }
 
