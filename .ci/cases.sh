@@ -161,11 +161,11 @@ refusals_of() {
     passed=$((passed + 1))
 }
 
-# using_case FILE: the line of USING for the program, in the folder that it names, writes what the
+# using_case FILE: the line of crates/README.md for the program, in the folder that it names, writes what the
 # file holds.
 using_case() {
     local line text
-    line=$(grep -o "crates/$name\` (there \`rt run -- [^\`]*" "$here/../../docs/USING.md")
+    line=$(grep -o "\`$name\` (there \`rt run -- [^\`]*" "$here/../README.md")
     text=$(held "$1")
     cd "$here" || exit 1
     eval "case_of file file 0 \"\${text%x}\" '' ${line##*rt run -- }"

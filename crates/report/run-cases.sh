@@ -2,7 +2,7 @@
 # Runs the built program on tables, and compares what it writes to both streams and its status with
 # what is worked out by hand: widths count characters, a total is the sum of all numbers of its
 # column, at the greatest scale of these, and fields are those of RFC 4180. Then it runs the line of
-# docs/USING.md.
+# crates/README.md.
 #
 # usage: run-cases.sh [PROGRAM..]
 set -u
