@@ -5,7 +5,7 @@ ghost use Rattle.interpolator_escapes.specs.Escapes.{line_escape, shell_escape};
 ghost use Rattle.interpolator_escapes.specs.Formats.{escaped_text};
 
 use crate::escape::Escape;
-use crate::views::{put_view, put_view_plainly};
+use crate::views::{put_text_view, put_view};
 use interpolator_eval::Escaper;
 use interpolator_render::{RenderFault, Spec, TextWrite, Trait, View};
 
@@ -38,8 +38,13 @@ impl Escaper for LineEscaper {
     }
 
     #[inline(always)]
+    fn put_text<W: TextWrite>(out: &mut W, text: &str) -> Result<(), RenderFault> {
+        put_text_view(out, Escape::Line, text)
+    }
+
+    #[inline(always)]
     fn put_plainly<W: TextWrite>(out: &mut W, view: View<'_>) -> Result<(), RenderFault> {
-        put_view_plainly(out, Escape::Line, view)
+        put_view(out, Escape::Line, view, Trait::Display, &Spec::default())
     }
 }
 
@@ -57,8 +62,13 @@ impl Escaper for HtmlEscaper {
     }
 
     #[inline(always)]
+    fn put_text<W: TextWrite>(out: &mut W, text: &str) -> Result<(), RenderFault> {
+        put_text_view(out, Escape::Html, text)
+    }
+
+    #[inline(always)]
     fn put_plainly<W: TextWrite>(out: &mut W, view: View<'_>) -> Result<(), RenderFault> {
-        put_view_plainly(out, Escape::Html, view)
+        put_view(out, Escape::Html, view, Trait::Display, &Spec::default())
     }
 }
 
@@ -76,8 +86,13 @@ impl Escaper for CsvEscaper {
     }
 
     #[inline(always)]
+    fn put_text<W: TextWrite>(out: &mut W, text: &str) -> Result<(), RenderFault> {
+        put_text_view(out, Escape::Csv, text)
+    }
+
+    #[inline(always)]
     fn put_plainly<W: TextWrite>(out: &mut W, view: View<'_>) -> Result<(), RenderFault> {
-        put_view_plainly(out, Escape::Csv, view)
+        put_view(out, Escape::Csv, view, Trait::Display, &Spec::default())
     }
 }
 
@@ -95,8 +110,13 @@ impl Escaper for JsonEscaper {
     }
 
     #[inline(always)]
+    fn put_text<W: TextWrite>(out: &mut W, text: &str) -> Result<(), RenderFault> {
+        put_text_view(out, Escape::Json, text)
+    }
+
+    #[inline(always)]
     fn put_plainly<W: TextWrite>(out: &mut W, view: View<'_>) -> Result<(), RenderFault> {
-        put_view_plainly(out, Escape::Json, view)
+        put_view(out, Escape::Json, view, Trait::Display, &Spec::default())
     }
 }
 
@@ -114,7 +134,12 @@ impl Escaper for ShellEscaper {
     }
 
     #[inline(always)]
+    fn put_text<W: TextWrite>(out: &mut W, text: &str) -> Result<(), RenderFault> {
+        put_text_view(out, Escape::Shell, text)
+    }
+
+    #[inline(always)]
     fn put_plainly<W: TextWrite>(out: &mut W, view: View<'_>) -> Result<(), RenderFault> {
-        put_view_plainly(out, Escape::Shell, view)
+        put_view(out, Escape::Shell, view, Trait::Display, &Spec::default())
     }
 }

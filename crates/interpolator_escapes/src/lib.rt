@@ -41,4 +41,4 @@ pub use escapers::{CsvEscaper, HtmlEscaper, JsonEscaper, LineEscaper, ShellEscap
 pub use misplaced::{Misplaced, PlaceError, Why};
 pub use place_text::places_of;
 pub use placing::check_stands;
-pub use views::{put_view, put_view_plainly};
+pub use views::{put_text_view, put_view};

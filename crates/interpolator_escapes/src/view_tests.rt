@@ -3,7 +3,7 @@
 
 use crate::escape::Escape;
 use crate::escapers::{CsvEscaper, HtmlEscaper, JsonEscaper, LineEscaper, ShellEscaper};
-use crate::views::{put_view, put_view_plainly};
+use crate::views::{put_text_view, put_view};
 use interpolator_eval::Escaper;
 use interpolator_render::{
     Alignment, Bits, Bounded, HexDebug, RenderFault, Sign, Spec, TextBuffer, TextWrite, Trait,
@@ -126,7 +126,7 @@ fn a_refused_view_is_a_beginning(rt: HostRuntime) {
 fn takes_only_empty(out: &mut Bounded) -> bool {
     let refused = put_view(out, Escape::Html, View::Text("<"), Trait::Display, &PLAIN);
     let empty = put_view(out, Escape::Html, View::Text(""), Trait::Display, &PLAIN);
-    let plainly = put_view_plainly(out, Escape::Html, View::Text(""));
+    let plainly = put_text_view(out, Escape::Html, "");
     refused == Err(RenderFault::Refused) && empty.is_ok() && plainly.is_ok()
 }
 
@@ -163,21 +163,22 @@ fn what_has_no_text_writes_nothing(rt: HostRuntime) {
 /// Whether an escaper writes this of a text, a number, and a text of which a part is shown.
 fn writes<E: Escaper>(alloc: Global, wanted: &str) -> bool {
     let mut out = TextBuffer::new(alloc);
-    let text = E::put_plainly(&mut out, View::Text("<'\"\n"));
+    let text = E::put_text(&mut out, "<'\"\n");
     let number = E::put_plainly(&mut out, View::Unsigned(7));
     let spec = Spec {
         precision: Some(1),
         ..PLAIN
     };
     let part = E::put(&mut out, View::Text("\"&"), Trait::Display, &spec);
-    text.is_ok() && number.is_ok() && part.is_ok() && out.as_str() == wanted
+    let view = E::put_plainly(&mut out, View::Text("<"));
+    text.is_ok() && number.is_ok() && part.is_ok() && view.is_ok() && out.as_str() == wanted
 }
 
 #[test]
 fn escapers_write_as_their_escapes(rt: HostRuntime) {
-    assert!(rt; writes::<LineEscaper>(rt.alloc(), "<'\"\\n7\""));
-    assert!(rt; writes::<HtmlEscaper>(rt.alloc(), "&lt;&#39;&quot;\n7&quot;"));
-    assert!(rt; writes::<CsvEscaper>(rt.alloc(), "<'\"\"\n7\"\""));
-    assert!(rt; writes::<JsonEscaper>(rt.alloc(), "\\u003c'\\\"\\n7\\\""));
-    assert!(rt; writes::<ShellEscaper>(rt.alloc(), "<'\\''\"\n7\""));
+    assert!(rt; writes::<LineEscaper>(rt.alloc(), "<'\"\\n7\"<"));
+    assert!(rt; writes::<HtmlEscaper>(rt.alloc(), "&lt;&#39;&quot;\n7&quot;&lt;"));
+    assert!(rt; writes::<CsvEscaper>(rt.alloc(), "<'\"\"\n7\"\"<"));
+    assert!(rt; writes::<JsonEscaper>(rt.alloc(), "\\u003c'\\\"\\n7\\\"\\u003c"));
+    assert!(rt; writes::<ShellEscaper>(rt.alloc(), "<'\\''\"\n7\"<"));
 }

@@ -1,11 +1,11 @@
 //! Views, written escaped.
 ghost use Rattle.std.specs.Prelude.{◌≡◌, false};
 ghost use Rattle.std.specs.Str.{chars};
-ghost use Rattle.interpolator_render.specs.Texts.{Renders, has_text, view_text};
-ghost use Rattle.interpolator_render.specs.Views.{IsInRange, shown_by};
+ghost use Rattle.interpolator_render.specs.Texts.{Renders, view_text};
+ghost use Rattle.interpolator_render.specs.Views.{IsInRange, shown_by, some_text};
 ghost use Rattle.interpolator_render.specs.declared.view.Trait.TheVariants.{Display};
 ghost use Rattle.interpolator_syntax.specs.SpecTexts.{plain_spec};
-ghost use Rattle.interpolator_escapes.specs.Escapes.{escape_of, escaped};
+ghost use Rattle.interpolator_escapes.specs.Escapes.{escape_of};
 ghost use Rattle.interpolator_escapes.specs.Formats.{escaped_text};
 
 use crate::escape::Escape;
@@ -69,30 +69,17 @@ fn put_open<W: TextWrite>(
     answer
 }
 
-/// Writes a view displayed plainly, escaped. A text is escaped as it is, which saves making a spec.
+/// Writes a text displayed plainly, escaped. It is escaped as it is, which saves making a spec.
 #[inline(always)]
-pub fn put_view_plainly<W: TextWrite>(
+pub fn put_text_view<W: TextWrite>(
     out: &mut W,
     escape: Escape,
-    view: View<'_>,
+    text: &str,
 ) -> Result<(), RenderFault>
-    requires in_range { IsInRange (shown_by view) }
     ensures { Renders
         (view_text (escaped_text (escape_of escape)
-        (view_text (shown_by view.entry) Display plain_spec)) Display plain_spec)
+        (view_text (some_text (chars text.now)) Display plain_spec)) Display plain_spec)
         (W.written out.old) result (W.written out.new) }
-{
-    match view {
-        View::Text(text) => put_text(out, escape, text),
-        _ => put_view(out, escape, view, Trait::Display, &Spec::default()),
-    }
-}
-
-/// Writes a text escaped.
-#[inline(always)]
-fn put_text<W: TextWrite>(out: &mut W, escape: Escape, text: &str) -> Result<(), RenderFault>
-    ensures { Renders (has_text (escaped escape (chars text.now))) (W.written out.old) result
-        (W.written out.new) }
 {
     match put_escaped(out, escape, text) {
         Ok(()) => Ok(()),

@@ -1,7 +1,7 @@
 //! How the text of a value is written: as it is, or escaped for the place where it stands.
 ghost use Rattle.std.specs.Str.{chars};
-ghost use Rattle.interpolator_render.specs.Texts.{Renders, has_text, view_text};
-ghost use Rattle.interpolator_render.specs.Views.{IsInRange, Shown, shown_by};
+ghost use Rattle.interpolator_render.specs.Texts.{Renders, view_text};
+ghost use Rattle.interpolator_render.specs.Views.{IsInRange, Shown, shown_by, some_text};
 ghost use Rattle.interpolator_render.specs.declared.view.Spec.{Spec};
 ghost use Rattle.interpolator_render.specs.declared.view.Trait.{Trait};
 ghost use Rattle.interpolator_render.specs.declared.view.Trait.TheVariants.{Display};
@@ -26,6 +26,12 @@ pub trait Escaper {
         requires in_range { IsInRange (shown_by view) }
         ensures { Renders
             (view_text (shown (shown_by view.entry) wanted spec.now) wanted spec.now)
+            (W.written out.old) result (W.written out.new) };
+
+    /// Writes a text displayed plainly.
+    fn put_text<W: TextWrite>(out: &mut W, text: &str) -> Result<(), RenderFault>
+        ensures { Renders
+            (view_text (shown (some_text (chars text.now)) Display plain_spec) Display plain_spec)
             (W.written out.old) result (W.written out.new) };
 
     /// Writes a view displayed plainly.
@@ -54,21 +60,15 @@ impl Escaper for Unescaped {
 
     // A text is written as it is, which saves making a spec.
     #[inline(always)]
-    fn put_plainly<W: TextWrite>(out: &mut W, view: View<'_>) -> Result<(), RenderFault> {
-        match view {
-            View::Text(text) => put_text(out, text),
-            _ => render_plainly(out, view),
+    fn put_text<W: TextWrite>(out: &mut W, text: &str) -> Result<(), RenderFault> {
+        match out.write_str(text) {
+            Ok(()) => Ok(()),
+            Err(_) => Err(RenderFault::Refused),
         }
     }
-}
 
-/// Writes a text as it is.
-#[inline(always)]
-fn put_text<W: TextWrite>(out: &mut W, text: &str) -> Result<(), RenderFault>
-    ensures { Renders (has_text (chars text.now)) (W.written out.old) result (W.written out.new) }
-{
-    match out.write_str(text) {
-        Ok(()) => Ok(()),
-        Err(_) => Err(RenderFault::Refused),
+    #[inline(always)]
+    fn put_plainly<W: TextWrite>(out: &mut W, view: View<'_>) -> Result<(), RenderFault> {
+        render_plainly(out, view)
     }
 }

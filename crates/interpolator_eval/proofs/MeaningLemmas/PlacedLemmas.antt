@@ -1,17 +1,13 @@
 -- What a writer leaves of a text whose characters have places.
 use Rattle.interpolator_render.proofs.LayoutLemmas.{appends_none}
-use Rattle.std.proofs.Common.{rules, ◌≡◌, refl, ◌∙◌, ℕ, ◌+◌, ◌<◌, List, [], ◌∷◌, ◌++◌, length, None}
+use Rattle.std.proofs.Common.{◌≡◌, refl, ◌∙◌, ℕ, ◌+◌, ◌<◌, List, [], ◌∷◌, ◌++◌, length, None}
 use Rattle.std.proofs.Common.{Some, inl, inr, arith, Err}
 use Rattle.std.proofs.lemmas.List.{map-append}
 use Rattle.std.specs.Char.{len_utf8}
 use Rattle.interpolator_render.specs.declared.view.Trait.{Trait}
 use Rattle.interpolator_render.specs.declared.view.RenderFault.{RenderFault}
 use Rattle.interpolator_render.specs.declared.view.RenderFault.TheVariants as render_faults
-use Rattle.interpolator_render.specs.Texts.{ViewText, Renders, view_text}
-use Rattle.interpolator_render.specs.Views.{some_text}
-use Rattle.interpolator_render.specs.declared.view.Trait.TheVariants.{Display}
-use Rattle.interpolator_render.proofs.RenderingLemmas.{displayed_as_it_is}
-use Rattle.interpolator_syntax.specs.SpecTexts.{plain_spec}
+use Rattle.interpolator_render.specs.Texts.{ViewText, Renders}
 use Rattle.interpolator_render.specs.Written.{Written, Appends, AppendsBeginning, Refuses}
 use Rattle.interpolator_render.specs.Written.{GoesOver, byte_count, first_size}
 use Rattle.interpolator_syntax.specs.At.{Placed, text_of, placed_at, placed_from, size}
@@ -102,9 +98,3 @@ pub view_failed : (t : Trait) (p : ℕ) (m : ViewText) (old new : Written) (f : 
     → ¬ (f ≡ render_faults.NotImplemented) → Renders m old (Err f) new
     → Outcome (view_means t p m) old new (Some (fault (fmt p)))
 view_failed t p m old new f had h = grind (arith, view_refused, appends_none)
-
--- a text that is displayed plainly means itself
-pub plain_text_means : (p : ℕ) (cs : List ℕ)
-    → view_means Display p (view_text (some_text cs) Display plain_spec) ≡ text_alone (placed_at p cs)
-unfolding view_text
-plain_text_means p cs = search (rules, displayed_as_it_is)

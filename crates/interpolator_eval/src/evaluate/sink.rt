@@ -2,7 +2,7 @@
 ghost use Rattle.std.specs.Prelude.{◌≡◌, ◌≢◌, ◌+◌, ◌^◌, ◌<◌, Err, MatchBool, Some, length, [], ◌∷◌};
 ghost use Rattle.std.specs.Str.{chars};
 ghost use Rattle.std.specs.Option.{option_copied};
-ghost use Rattle.interpolator_render.specs.Views.{IsInRange, shown_by};
+ghost use Rattle.interpolator_render.specs.Views.{IsInRange, shown_by, some_text};
 ghost use Rattle.interpolator_render.specs.declared.view.Trait.TheVariants.{Display};
 ghost use Rattle.interpolator_render.specs.Padding.{padded_text};
 ghost use Rattle.interpolator_render.specs.Texts.{Renders, ViewText, view_text};
@@ -122,9 +122,47 @@ fn write_view<W: TextWrite, E: Escaper>(
     }
 }
 
-/// Writes a view displayed plainly, with all its characters at one place.
+/// Writes a view displayed plainly, with all its characters at one place. A text goes its own way:
+/// no answer of its is joined with that of other views, which saves looking at it again.
 #[inline(always)]
 fn write_plain_view<W: TextWrite, E: Escaper>(
+    out: &mut W,
+    view: View<'_>,
+    place: usize,
+) -> Result<(), WriteFault>
+    requires in_range { IsInRange (shown_by view) }
+    ensures outcome { Outcome
+        (view_means Display place
+        (view_text (E.shown (shown_by view.entry) Display plain_spec) Display plain_spec))
+        (W.written out.old) (W.written out.new) (write_answered result) }
+{
+    match view {
+        View::Text(text) => write_text_at::<W, E>(out, text, place),
+        _ => write_displayed::<W, E>(out, view, place),
+    }
+}
+
+/// Writes a text displayed plainly, with all its characters at one place.
+#[inline(always)]
+fn write_text_at<W: TextWrite, E: Escaper>(
+    out: &mut W,
+    text: &str,
+    place: usize,
+) -> Result<(), WriteFault>
+    ensures outcome { Outcome
+        (view_means Display place
+        (view_text (E.shown (some_text (chars text.now)) Display plain_spec) Display plain_spec))
+        (W.written out.old) (W.written out.new) (write_answered result) }
+{
+    match E::put_text(out, text) {
+        Ok(()) => Ok(()),
+        Err(fault) => Err(fault_at(fault, Trait::Display, place)),
+    }
+}
+
+/// Writes a view displayed plainly, with all its characters at one place.
+#[inline(always)]
+fn write_displayed<W: TextWrite, E: Escaper>(
     out: &mut W,
     view: View<'_>,
     place: usize,

@@ -1,6 +1,4 @@
-use Rattle.std.proofs.Common.{arith}
-use Rattle.interpolator_eval.proofs.MeaningLemmas.PlacedLemmas.{wrote_at}
 use Rattle.interpolator_eval.proofs.evaluate.sink.write_plain_view.Goals as goal
 
-pub returns-in-Ok : goal.returns-in-Ok
-returns-in-Ok g c = grind (arith, wrote_at)
+pub returns-in-Text : goal.returns-in-Text
+returns-in-Text g c = rw (c.in-Text.is) (record { outcome = c.write_text_at.ensures.outcome })
