@@ -7,6 +7,7 @@ ghost use Rattle.interpolator_digits.specs.Exponent.{nearest};
 ghost use Rattle.interpolator_floats.specs.Floats.{float_scale, float_text, float_units};
 
 use crate::parts::odd_parts;
+use crate::powers::power;
 
 /// The digits of `whole`, after a point those of `part`, with zeros before them up to `places`,
 /// and then `zeros` zeros.
@@ -49,7 +50,7 @@ fn part_count(mantissa: u64, down: u32, places: usize) -> u128
     if down > 127 {
         return 0;
     }
-    nearest_shifted(mantissa as u128 * 10u128.pow(places as u32), down)
+    nearest_shifted(mantissa as u128 * power(places), down)
 }
 
 /// How many of the digits after the point are not zeros for certain.
@@ -69,7 +70,7 @@ fn split_count(count: u128, places: usize, zeros: usize) -> FloatDigits
         ≡ units_text (places + zeros) (count * 10 ^ zeros) }
     ensures fits { result.part < 10 ^ result.places }
 {
-    let unit = 10u128.pow(places as u32);
+    let unit = power(places);
     FloatDigits {
         whole: count / unit,
         part: count % unit,
@@ -102,7 +103,7 @@ fn near_digits(mantissa: u64, down: u32, places: usize, zeros: usize) -> FloatDi
         ≡ units_text (places + zeros) (nearest (mantissa * 10 ^ places) (2 ^ down) * 10 ^ zeros) }
     ensures fits { result.part < 10 ^ result.places }
 {
-    let unit = 10u128.pow(places as u32);
+    let unit = power(places);
     let (whole, rest) = cut_at_point(mantissa, down);
     let part = nearest_shifted(rest as u128 * unit, down);
     if part == unit {

@@ -17,6 +17,7 @@ mod exact;
 mod exponent;
 mod parts;
 mod plain;
+mod powers;
 mod shortest;
 #[cfg(test)]
 mod tests;
