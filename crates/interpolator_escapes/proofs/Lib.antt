@@ -10,6 +10,7 @@ mod HandSteps
 mod PassingLemmas
 mod EscapingLemmas
 mod HtmlLemmas
+mod MarkLemmas
 mod PlacingLemmas
 mod RunLemmas
 mod SearchLemmas

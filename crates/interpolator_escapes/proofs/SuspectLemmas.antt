@@ -30,16 +30,19 @@ told true y t h = absurd (cc)
 told false true t h = absurd t
 told false false t h = refl
 
-abbrev json_test : ℕ → Bool
-json_test n = is_suspect Json n || not (may_begin_escaped Json n)
+abbrev told_test : Escape → ℕ → Bool
+told_test escape n = is_suspect escape n || not (may_begin_escaped escape n)
 
 pub suspect : (escape : Escape) (byte : ℕ) → byte < 256 → is_suspect escape byte ≡ false
     → may_begin_escaped escape byte ≡ false
 suspect Line byte low h = grind (arith, nat_tests)
-suspect Html byte low h = h
+suspect Html byte low h =
+    told (is_suspect Html byte) (may_begin_escaped Html byte)
+    (at_below (told_test Html) 256 byte tt low) h
 suspect Csv byte low h = h
 suspect Json byte low h =
-    told (is_suspect Json byte) (may_begin_escaped Json byte) (at_below json_test 256 byte tt low) h
+    told (is_suspect Json byte) (may_begin_escaped Json byte)
+    (at_below (told_test Json) 256 byte tt low) h
 suspect Shell byte low h = h
 
 pub ruleset suspects = suspect

@@ -1,5 +1,7 @@
 -- First bytes, by which the search for characters that are escaped goes.
 use Rattle.std.specs.Prelude.{◌≡◌, ◌<◌, ℕ, Bool, false, List, ◌==◌, ◌||◌, nat_lt, get_or, bit_xor}
+use Rattle.std.specs.Prelude.{bit_or, if◌then◌else◌}
+use Rattle.std.specs.Int.{w64, trailing_zeros}
 use Rattle.interpolator_escapes.specs.declared.escape.Escape.{Escape}
 use Rattle.interpolator_escapes.specs.declared.escape.Escape.TheVariants.{Line, Html, Csv, Json}
 use Rattle.interpolator_escapes.specs.declared.escape.Escape.TheVariants.{Shell}
@@ -15,12 +17,16 @@ may_begin_escaped Csv byte = byte == 34
 may_begin_escaped Json byte = nat_lt byte 32 || (byte == 34) || (byte == 92) || (byte == 60)
 may_begin_escaped Shell byte = byte == 39
 
+-- the place of the lowest mark of so many, each of which is a bit; their count, if there is none
+abbrev pub first_mark : (marks count : ℕ) → ℕ
+first_mark marks count = if marks == 0 then count else trailing_zeros w64 marks
+
 -- one of these bytes, or of a few others, which a test in fewer steps does not tell from them
 abbrev pub is_suspect : Escape → ℕ → Bool
 is_suspect Line byte = nat_lt byte 32 || nat_lt 126 byte || (byte == 92)
-is_suspect Html byte = may_begin_escaped Html byte
+is_suspect Html byte = (bit_or byte 2 == 62) || (bit_or byte 5 == 39)
 is_suspect Csv byte = may_begin_escaped Csv byte
-is_suspect Json byte = nat_lt (bit_xor byte 2) 33 || (byte == 92) || (byte == 60)
+is_suspect Json byte = nat_lt (bit_xor byte 2) 33 || (bit_or byte 96 == 124)
 is_suspect Shell byte = may_begin_escaped Shell byte
 
 -- none does with one of so many bytes in front

@@ -57,6 +57,7 @@ fn put_two_digits<W: TextWrite>(out: &mut W, front: &str, code: u32) -> Result<(
 }
 
 /// Writes a beginning, and the last four digits of a code in base sixteen.
+#[inline(never)]
 fn put_four_digits<W: TextWrite>(out: &mut W, front: &str, code: u32) -> Result<(), Refusal>
     ensures { Writes (W.written out.old) (chars front.now ++ four_digits code) result
         (W.written out.new) }
@@ -79,6 +80,7 @@ pub(crate) fn is_control(c: char) -> bool
 
 /// Writes a character of a line.
 #[tactic(auto, using(interpolator_render::proofs::LayoutLemmas::writes_from_puts))]
+#[inline(always)]
 fn put_line<W: TextWrite>(out: &mut W, c: char) -> Result<(), Refusal>
     ensures { Writes (W.written out.old) (line_escape c) result (W.written out.new) }
 {
@@ -98,6 +100,7 @@ fn put_line<W: TextWrite>(out: &mut W, c: char) -> Result<(), Refusal>
 }
 
 /// Writes a character as `\x1b` or `\u202e`.
+#[inline(never)]
 fn put_control<W: TextWrite>(out: &mut W, c: char) -> Result<(), Refusal>
     ensures { Writes (W.written out.old) (control_escape c) result (W.written out.new) }
 {
@@ -110,6 +113,7 @@ fn put_control<W: TextWrite>(out: &mut W, c: char) -> Result<(), Refusal>
 
 /// Writes a character of text or of an attribute's value.
 #[tactic(auto, using(interpolator_render::proofs::LayoutLemmas::writes_from_puts))]
+#[inline(always)]
 fn put_html<W: TextWrite>(out: &mut W, c: char) -> Result<(), Refusal>
     ensures { Writes (W.written out.old) (html_escape c) result (W.written out.new) }
 {
@@ -130,6 +134,7 @@ fn put_html<W: TextWrite>(out: &mut W, c: char) -> Result<(), Refusal>
 
 /// Writes a character of a quoted field.
 #[tactic(auto, using(interpolator_render::proofs::LayoutLemmas::writes_from_puts))]
+#[inline(always)]
 fn put_csv<W: TextWrite>(out: &mut W, c: char) -> Result<(), Refusal>
     ensures { Writes (W.written out.old) (csv_escape c) result (W.written out.new) }
 {
@@ -142,6 +147,7 @@ fn put_csv<W: TextWrite>(out: &mut W, c: char) -> Result<(), Refusal>
 
 /// Writes a character of a string.
 #[tactic(auto, using(interpolator_render::proofs::LayoutLemmas::writes_from_puts))]
+#[inline(always)]
 fn put_json<W: TextWrite>(out: &mut W, c: char) -> Result<(), Refusal>
     ensures { Writes (W.written out.old) (json_escape c) result (W.written out.new) }
 {
@@ -164,6 +170,7 @@ fn put_json<W: TextWrite>(out: &mut W, c: char) -> Result<(), Refusal>
 
 /// Writes a character of a word.
 #[tactic(auto, using(interpolator_render::proofs::LayoutLemmas::writes_from_puts))]
+#[inline(always)]
 fn put_shell<W: TextWrite>(out: &mut W, c: char) -> Result<(), Refusal>
     ensures { Writes (W.written out.old) (shell_escape c) result (W.written out.new) }
 {
@@ -175,6 +182,7 @@ fn put_shell<W: TextWrite>(out: &mut W, c: char) -> Result<(), Refusal>
 }
 
 /// Writes a character, escaped if it is to be.
+#[inline(always)]
 fn put_one<W: TextWrite>(out: &mut W, escape: Escape, c: char) -> Result<(), Refusal>
     ensures { Writes (W.written out.old) (escape_of escape c) result (W.written out.new) }
 {
@@ -189,12 +197,27 @@ fn put_one<W: TextWrite>(out: &mut W, escape: Escape, c: char) -> Result<(), Ref
 
 /// Writes a run of characters as they are, and the character after it, escaped if it is to be.
 #[tactic(auto, using(interpolator_render::proofs::LayoutLemmas::run_outcomes))]
+#[inline(always)]
 fn put_run<W: TextWrite>(out: &mut W, escape: Escape, run: &str, c: char) -> Result<(), Refusal>
     ensures { Writes (W.written out.old) (chars run.now ++ escape_of escape c) result
         (W.written out.new) }
 {
     put_text(out, run)?;
     put_one(out, escape, c)
+}
+
+/// Writes a text escaped, by [`put_run`]. It is compiled for each escape by itself.
+#[inline(always)]
+fn put_runs<W: TextWrite>(out: &mut W, escape: Escape, text: &str) -> Result<(), Refusal>
+    ensures { Writes (W.written out.old) (escaped escape (chars text.now)) result
+        (W.written out.new) }
+{
+    let mut rest = text;
+    while let Some((run, c, after)) = split_escaped(escape, rest) {
+        put_run(out, escape, run, c)?;
+        rest = after;
+    }
+    put_text(out, rest)
 }
 
 /// Writes a text escaped. A run of characters that are not escaped is written by one call, so a
@@ -211,10 +234,11 @@ pub fn put_escaped<W: TextWrite>(out: &mut W, escape: Escape, text: &str) -> Res
     ensures { Writes (W.written out.old) (escaped escape (chars text.now)) result
         (W.written out.new) }
 {
-    let mut rest = text;
-    while let Some((run, c, after)) = split_escaped(escape, rest) {
-        put_run(out, escape, run, c)?;
-        rest = after;
+    match escape {
+        Escape::Line => put_runs(out, Escape::Line, text),
+        Escape::Html => put_runs(out, Escape::Html, text),
+        Escape::Csv => put_runs(out, Escape::Csv, text),
+        Escape::Json => put_runs(out, Escape::Json, text),
+        Escape::Shell => put_runs(out, Escape::Shell, text),
     }
-    put_text(out, rest)
 }

@@ -1,15 +1,18 @@
 //! The search for the first character that is escaped.
 ghost use Rattle.std.specs.Prelude.{◌≡◌, ◌<◌, ◌≤◌, ◌⊎◌, ◌∷◌, ◌++◌, [], false, true, length};
-ghost use Rattle.std.specs.Prelude.{get_or, MatchOption, IfSome, IsUtf8};
+ghost use Rattle.std.specs.Prelude.{◌+◌, get_or, map, not, take, drop, MatchOption, IfSome, IsUtf8};
+ghost use Rattle.std.specs.List.{prefix_len};
+ghost use Rattle.std.specs.Simd.Lanes.{mask_l};
 ghost use Rattle.std.specs.Str.{chars};
 ghost use Rattle.interpolator_escapes.specs.Escapes.{escaped};
 ghost use Rattle.interpolator_escapes.specs.Search.{ArePlain, may_begin_escaped, is_suspect};
+ghost use Rattle.interpolator_escapes.specs.Search.{first_mark};
+ghost use Rattle.interpolator_escapes.specs.declared.escape.Escape.TheVariants.{Line, Html, Csv, Json};
+ghost use Rattle.interpolator_escapes.specs.declared.escape.Escape.TheVariants.{Shell};
 
 use crate::escape::Escape;
 use interpolator_syntax::split_first;
-
-/// How many bytes are tested one by one before the search by blocks.
-const NEAR: usize = 16;
+use std::simd::prelude::*;
 
 /// How many bytes are tested at once.
 const BLOCK: usize = 16;
@@ -49,29 +52,99 @@ fn is_suspect(escape: Escape, byte: u8) -> bool
 {
     match escape {
         Escape::Line => byte < b' ' || b'~' < byte || byte == b'\\',
-        Escape::Html => {
-            byte == b'&' || byte == b'<' || byte == b'>' || byte == b'"' || byte == b'\''
-        }
+        Escape::Html => byte | 2 == b'>' || byte | 5 == b'\'',
         Escape::Csv => byte == b'"',
-        Escape::Json => byte ^ 2 <= b' ' || byte == b'\\' || byte == b'<',
+        Escape::Json => byte ^ 2 <= b' ' || byte | 0x60 == b'|',
         Escape::Shell => byte == b'\'',
     }
 }
 
-/// Returns whether no byte begins a character that may be escaped. All are tested, so that the
-/// compiler tests them side by side.
+/// Marks the bytes of a block that begin a character that may be escaped, each by a bit, from the
+/// lowest on.
 #[inline(always)]
-fn are_plain(escape: Escape, bytes: &[u8]) -> bool
-    ensures { result ≡ true → ArePlain escape bytes.now (length bytes.now) }
+fn marks_of(escape: Escape, block: u8x16) -> u64
+    ensures { result ≡ mask_l (map (may_begin_escaped escape) block) }
 {
-    let mut found = false;
-    for byte in bytes {
-        found = found | may_begin_escaped(escape, *byte);
+    match escape {
+        Escape::Line => line_marks(block),
+        Escape::Html => html_marks(block),
+        Escape::Csv => csv_marks(block),
+        Escape::Json => json_marks(block),
+        Escape::Shell => shell_marks(block),
     }
-    !found
 }
 
-/// As [`are_plain`], in fewer steps; it may say no of some that are.
+/// As [`marks_of`], for a line. Two of the first bytes past ASCII differ in one bit.
+#[inline(always)]
+fn line_marks(block: u8x16) -> u64
+    ensures { result ≡ mask_l (map (may_begin_escaped Line) block) }
+{
+    let control = block.simd_lt(u8x16::splat(b' ')) | block.simd_eq(u8x16::splat(b'\x7f'));
+    let other = block.simd_eq(u8x16::splat(b'\\')) | block.simd_eq(u8x16::splat(0xd8));
+    let wide = (block & u8x16::splat(0xdf)).simd_eq(u8x16::splat(0xc2));
+    (control | other | wide).to_bitmask()
+}
+
+/// As [`marks_of`], for HTML. `<` and `>` differ in one bit, and so do `"` and `&`.
+#[inline(always)]
+fn html_marks(block: u8x16) -> u64
+    ensures { result ≡ mask_l (map (may_begin_escaped Html) block) }
+{
+    let angle = (block | u8x16::splat(2)).simd_eq(u8x16::splat(b'>'));
+    let other = (block | u8x16::splat(4)).simd_eq(u8x16::splat(b'&'));
+    (angle | other | block.simd_eq(u8x16::splat(b'\''))).to_bitmask()
+}
+
+/// As [`marks_of`], for JSON. With one bit changed, controls and `"` are those up to a space.
+#[inline(always)]
+fn json_marks(block: u8x16) -> u64
+    ensures { result ≡ mask_l (map (may_begin_escaped Json) block) }
+{
+    let low = (block ^ u8x16::splat(2)).simd_le(u8x16::splat(b' '));
+    (low | block.simd_eq(u8x16::splat(b'\\')) | block.simd_eq(u8x16::splat(b'<'))).to_bitmask()
+}
+
+/// As [`marks_of`], for CSV.
+#[inline(always)]
+fn csv_marks(block: u8x16) -> u64
+    ensures { result ≡ mask_l (map (may_begin_escaped Csv) block) }
+{
+    block.simd_eq(u8x16::splat(b'"')).to_bitmask()
+}
+
+/// As [`marks_of`], for a shell.
+#[inline(always)]
+fn shell_marks(block: u8x16) -> u64
+    ensures { result ≡ mask_l (map (may_begin_escaped Shell) block) }
+{
+    block.simd_eq(u8x16::splat(b'\'')).to_bitmask()
+}
+
+/// Returns the place of the lowest mark; `count`, if there is none.
+#[inline(always)]
+fn first_mark(marks: u64, count: usize) -> usize
+    ensures { result ≡ first_mark marks count }
+{
+    if marks == 0 {
+        count
+    } else {
+        marks.trailing_zeros() as usize
+    }
+}
+
+/// Returns how many bytes of the block at this place come before the first that begins a character
+/// that may be escaped.
+#[inline(always)]
+fn front_of_block(escape: Escape, bytes: &[u8], from: usize) -> usize
+    requires { from + BLOCK ≤ length bytes.now }
+    ensures { result ≡ prefix_len (λ byte. not (may_begin_escaped escape byte))
+        (take 16 (drop from bytes.now)) }
+{
+    first_mark(marks_of(escape, u8x16::from_slice(&bytes[from..])), BLOCK)
+}
+
+/// Returns whether no byte begins a character that may be escaped; it may say no of some that are
+/// so. All are tested, so that the compiler tests them side by side.
 #[tactic(auto, using(crate::proofs::SuspectLemmas::suspects))]
 #[inline(always)]
 fn are_surely_plain(escape: Escape, bytes: &[u8]) -> bool
@@ -103,8 +176,8 @@ fn past_wide_blocks(escape: Escape, bytes: &[u8], from: usize) -> usize
     end
 }
 
-/// As [`past_wide_blocks`], after as many blocks as there are of bytes that begin no such
-/// character.
+/// As [`past_wide_blocks`], but the first byte that begins such a character, if it is in a whole
+/// block.
 #[inline(always)]
 fn past_blocks(escape: Escape, bytes: &[u8], from: usize) -> usize
     requires within { from ≤ length bytes.now }
@@ -114,8 +187,9 @@ fn past_blocks(escape: Escape, bytes: &[u8], from: usize) -> usize
 {
     let mut end = from;
     while bytes.len() - end >= BLOCK {
-        if !are_plain(escape, &bytes[end..end + BLOCK]) {
-            return end;
+        let front = front_of_block(escape, bytes, end);
+        if front < BLOCK {
+            return end + front;
         }
         end += BLOCK;
     }
@@ -141,40 +215,58 @@ fn first_between(escape: Escape, bytes: &[u8], from: usize, end: usize) -> usize
     end
 }
 
-/// Returns the place of the first byte that begins a character that may be escaped; the end, if
-/// there is none.
+/// Returns the place of the first byte that begins a character that may be escaped, from a place on
+/// up to which none does; the end, if there is none.
 #[inline(always)]
-fn first_in(escape: Escape, bytes: &[u8]) -> usize
+fn first_from(escape: Escape, bytes: &[u8], from: usize) -> usize
+    requires within { from ≤ length bytes.now }
+    requires plain { ArePlain escape bytes.now from }
     ensures within { result ≤ length bytes.now }
     ensures plain { ArePlain escape bytes.now result }
     ensures begins { result < length bytes.now
         → may_begin_escaped escape (get_or bytes.now result 0) ≡ true }
 {
-    let near = bytes.len().min(NEAR);
-    let index = first_between(escape, bytes, 0, near);
-    if index < near {
-        return index;
-    }
-    let wide = past_wide_blocks(escape, bytes, index);
+    let wide = past_wide_blocks(escape, bytes, from);
     let blocks = past_blocks(escape, bytes, wide);
     first_between(escape, bytes, blocks, bytes.len())
 }
 
-/// As [`first_in`], which is compiled for each escape by itself.
+/// As [`first_from`], which is compiled for each escape by itself.
 #[inline(never)]
-fn plain_front(escape: Escape, bytes: &[u8]) -> usize
+fn far_front(escape: Escape, bytes: &[u8], from: usize) -> usize
+    requires within { from ≤ length bytes.now }
+    requires plain { ArePlain escape bytes.now from }
     ensures within { result ≤ length bytes.now }
     ensures plain { ArePlain escape bytes.now result }
     ensures begins { result < length bytes.now
         → may_begin_escaped escape (get_or bytes.now result 0) ≡ true }
 {
     match escape {
-        Escape::Line => first_in(Escape::Line, bytes),
-        Escape::Html => first_in(Escape::Html, bytes),
-        Escape::Csv => first_in(Escape::Csv, bytes),
-        Escape::Json => first_in(Escape::Json, bytes),
-        Escape::Shell => first_in(Escape::Shell, bytes),
+        Escape::Line => first_from(Escape::Line, bytes, from),
+        Escape::Html => first_from(Escape::Html, bytes, from),
+        Escape::Csv => first_from(Escape::Csv, bytes, from),
+        Escape::Json => first_from(Escape::Json, bytes, from),
+        Escape::Shell => first_from(Escape::Shell, bytes, from),
     }
+}
+
+/// Returns the place of the first byte that begins a character that may be escaped; the end, if
+/// there is none.
+#[inline(always)]
+fn plain_front(escape: Escape, bytes: &[u8]) -> usize
+    ensures within { result ≤ length bytes.now }
+    ensures plain { ArePlain escape bytes.now result }
+    ensures begins { result < length bytes.now
+        → may_begin_escaped escape (get_or bytes.now result 0) ≡ true }
+{
+    if bytes.len() < BLOCK {
+        return first_between(escape, bytes, 0, bytes.len());
+    }
+    let near = front_of_block(escape, bytes, 0);
+    if near < BLOCK {
+        return near;
+    }
+    far_front(escape, bytes, BLOCK)
 }
 
 /// Returns the longest front that has no character that may be escaped, the character after it, and

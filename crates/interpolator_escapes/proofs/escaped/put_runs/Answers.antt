@@ -1,6 +1,6 @@
 use Rattle.std.proofs.lemmas.Result.{err_from_is_err_and}
 use Rattle.interpolator_escapes.proofs.RunLemmas.{writes_more, writes_none}
-use Rattle.interpolator_escapes.proofs.escaped.put_escaped.Goals as goal
+use Rattle.interpolator_escapes.proofs.escaped.put_runs.Goals as goal
 
 pub returns-in_err-put_run : goal.returns-in_err-put_run
 returns-in_err-put_run g c =

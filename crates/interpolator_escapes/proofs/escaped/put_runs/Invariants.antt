@@ -2,7 +2,7 @@ use Rattle.std.proofs.Common.{length}
 use denote.Text.{Utf8}
 use denote.Shadow.{shadow}
 use Rattle.interpolator_escapes.proofs.RunLemmas.{WritesOn}
-use Rattle.interpolator_escapes.proofs.escaped.put_escaped.Given as goal
+use Rattle.interpolator_escapes.proofs.escaped.put_runs.Given as goal
 
 abbrev pub invariant-loop-run : goal.invariant-loop-run
 invariant-loop-run g l =
