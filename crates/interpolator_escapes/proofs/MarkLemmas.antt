@@ -1,7 +1,7 @@
 -- The marks of a block, computed lane by lane, and how far a block is plain.
-use Rattle.std.proofs.Common.{◌≡◌, ℕ, ◌^◌, ◌%◌, ◌≤◌, ◌<◌, ◌+◌, Bool, true, false, not, List, []}
+use Rattle.std.proofs.Common.{◌≡◌, ℕ, ◌^◌, ◌%◌, ◌≤◌, ◌<◌, ◌+◌, Bool, true, not, List, []}
 use Rattle.std.proofs.Common.{◌∷◌, map, length, get_or, replicate, arith, refl, ap, ap₂, ◌∙◌, subst}
-use Rattle.std.proofs.Common.{cond, eqb, ltb, leb, bit_or, bit_xor, bit_and, inl, inr}
+use Rattle.std.proofs.Common.{cond, eqb, ltb, leb, bit_or, inl, inr}
 use Rattle.std.specs.List.{prefix_len}
 use Rattle.std.proofs.lemmas.Bool.{agree_below, agree_below_at, cases_lt}
 use Rattle.std.proofs.lemmas.Simd.{zip2_of_maps, zip2_splat, splat_is_map, mask_l-mod}
