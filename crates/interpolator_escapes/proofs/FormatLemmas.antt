@@ -40,11 +40,11 @@ use Rattle.interpolator_escapes.specs.Formats.{structure_from}
 use Rattle.interpolator_escapes.proofs.ReaderLemmas.{structure-append, state-append, read-append}
 use Rattle.interpolator_escapes.proofs.ReaderLemmas.{value_state, value_read, structure-content}
 
-text_of_placed_at : (q : ℕ) (cs : List ℕ) → text_of (placed_at q cs) ≡ cs
+pub text_of_placed_at : (q : ℕ) (cs : List ℕ) → text_of (placed_at q cs) ≡ cs
 text_of_placed_at q [] = refl
 text_of_placed_at q (c ∷ cs) = ap (λ ds. c ∷ ds) (text_of_placed_at q cs)
 
-text_of_placed_from : (cs : List ℕ) (p : ℕ) → text_of (placed_from p cs) ≡ cs
+pub text_of_placed_from : (cs : List ℕ) (p : ℕ) → text_of (placed_from p cs) ≡ cs
 text_of_placed_from [] p = refl
 text_of_placed_from (c ∷ cs) p = ap (λ ds. c ∷ ds) (text_of_placed_from cs (p + len_utf8 c))
 
@@ -80,7 +80,7 @@ module _ {S : Type 0} (step : S → ℕ → S × List Token) (is_place : S → B
   itself : (s : S) (cs : List ℕ) → SameText s (After s cs) cs cs
   itself s cs = record { first = refl; second = refl; marks = refl }
 
-  copies_stay : (s : S) (c n : ℕ) → Stays step s (c ∷ []) → Stays step s (replicate n c)
+  pub copies_stay : (s : S) (c n : ℕ) → Stays step s (c ∷ []) → Stays step s (replicate n c)
   copies_stay s c zero h = (refl, refl)
   copies_stay s c (suc n) h =
       let rest = copies_stay s c n h in
@@ -163,7 +163,7 @@ module _ {S : Type 0} (step : S → ℕ → S × List Token) (is_place : S → B
             (padded_same s spec (text_of m.text) (text_of k.text) fill same.1),
       )
 
-  fill_stays : (s : S) (spec : Spec) (width : Option ℕ) → FillStays step s spec width
+  pub fill_stays : (s : S) (spec : Spec) (width : Option ℕ) → FillStays step s spec width
       → is_some width ≡ true → Stays step s (fill_of spec ∷ [])
   fill_stays s spec None h e = absurd (cc)
   fill_stays s spec (Some width) h e = h

@@ -2,7 +2,7 @@
 use Rattle.std.proofs.Common.{◌≡◌, ℕ, true, false, List, [], ◌∷◌, refl, arith, ◌<◌}
 use Rattle.std.proofs.Common.{◌/◌, ◌%◌, ◌*◌, ◌+◌, ◌==◌, ◌||◌, nat_lt, if◌then◌else◌, Bool}
 use Rattle.std.specs.Char.{digit_value, digit_char}
-use Rattle.std.proofs.Common.{◌++◌, ap, codes, filter, flat_map, map, ◌∙◌}
+use Rattle.std.proofs.Common.{codes, filter, flat_map, ◌∙◌}
 use Rattle.std.proofs.lemmas.Bool.Decides.{nat_tests}
 use Rattle.std.proofs.lemmas.List.Elements.{filter-append}
 use Rattle.std.proofs.lemmas.Str.{digit_value-digit_char}
@@ -11,12 +11,10 @@ use Rattle.interpolator_escapes.specs.Escapes.{line_escape}
 use Rattle.interpolator_escapes.specs.Escapes.{control_escape}
 use Rattle.interpolator_escapes.specs.Escapes.{html_escape, csv_escape, json_escape, shell_escape}
 use Rattle.interpolator_escapes.specs.Readers.{KeepsPlaces, state_after, read, content}
-use Rattle.interpolator_escapes.specs.Readers.{structure, structure_of}
+use Rattle.interpolator_escapes.specs.Readers.{structure_of}
 use Rattle.interpolator_escapes.specs.Escapes.{escaped}
 use Rattle.interpolator_escapes.specs.Formats.{Stays}
 use Rattle.interpolator_escapes.specs.Lines.{control_step, everywhere}
-use Rattle.interpolator_escapes.specs.declared.escape.Escape.TheVariants.{Csv}
-use Rattle.interpolator_escapes.proofs.ReaderLemmas.{read-append, value_state, value_read}
 use Rattle.interpolator_escapes.specs.Lines.{line_step, is_line_place, in_line}
 use Rattle.interpolator_escapes.specs.Lines.{after_slash, in_code, code_step}
 use Rattle.interpolator_escapes.specs.Html.{html_step, is_html_place, in_base, in_text, in_value}
@@ -223,7 +221,7 @@ line_controls c =
     (λ n. choose NoControl (c == 9) _ _ (λ e. refl)
     (λ n. choose NoControl (is_control c) _ _ (λ e. code_controls c) (λ e. rw e refl)))))
 
-value_controls : (cs : List ℕ) → filter is_control (flat_map line_escape cs) ≡ []
+pub value_controls : (cs : List ℕ) → filter is_control (flat_map line_escape cs) ≡ []
 value_controls [] = refl
 value_controls (c ∷ cs) =
     rw (filter-append is_control (line_escape c) (flat_map line_escape cs), line_controls c)
@@ -233,7 +231,7 @@ control_state : (s : Unit {0}) (cs : List ℕ) → state_after control_step s cs
 control_state s [] = refl
 control_state s (c ∷ cs) = control_state s cs
 
-control_read : (s : Unit {0}) (cs : List ℕ)
+pub control_read : (s : Unit {0}) (cs : List ℕ)
     → structure_of (read control_step s cs) ≡ filter is_control cs
 control_read s [] = refl
 control_read s (c ∷ cs) = grind (arith, control_read s cs)
@@ -244,25 +242,3 @@ controls_quiet s ds h = (
   control_state s (flat_map line_escape ds),
   control_read s (flat_map line_escape ds) ∙ value_controls ds,
 )
-
--- ---- fields
-
-two_fields_read : (a b : List ℕ) → read csv_step quoted (flat_map csv_escape a
-    ++ (codes "\",\"" ++ (flat_map csv_escape b ++ codes "\"\n")))
-    ≡ map content a ++ (structure 44 ∷ structure 34 ∷ (map content b ++ structure 10 ∷ []))
-two_fields_read a b =
-    let tail = codes "\",\"" ++ (flat_map csv_escape b ++ codes "\"\n") in
-    rw (
-      read-append csv_step quoted (flat_map csv_escape a) tail,
-      value_state csv_step is_csv_place csv_escape csv_keeps quoted a refl,
-      value_read csv_step is_csv_place csv_escape csv_keeps quoted a refl,
-      read-append csv_step quoted (flat_map csv_escape b) (codes "\"\n"),
-      value_state csv_step is_csv_place csv_escape csv_keeps quoted b refl,
-      value_read csv_step is_csv_place csv_escape csv_keeps quoted b refl,
-    ) refl
-
-pub two_fields : (a b : List ℕ) → read csv_step field_start (34 ∷ (escaped Csv a
-    ++ (codes "\",\"" ++ (escaped Csv b ++ codes "\"\n"))))
-    ≡ structure 34 ∷ (map content a ++ (structure 44 ∷ structure 34 ∷ (map content b
-    ++ structure 10 ∷ [])))
-two_fields a b = ap (λ ts. structure 34 ∷ ts) (two_fields_read a b)

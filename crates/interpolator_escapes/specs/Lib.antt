@@ -8,6 +8,10 @@ pub mod Json
 pub mod Shell
 pub mod Parts
 pub mod Formats
+pub mod FormatParts
+pub mod Languages
+pub mod Records
+pub mod WorkedParts
 pub mod EscapedFormats
 pub mod Search
 pub mod Passing

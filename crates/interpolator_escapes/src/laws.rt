@@ -1,103 +1,89 @@
 //! Laws of escapes and of their readers, each the contract of a small function.
-ghost use Rattle.std.specs.Prelude.{◌≡◌, ℕ, List, [], ◌∷◌, ◌++◌, map, codes, None, length};
+ghost use Rattle.std.specs.Prelude.{◌≡◌, ℕ, List, [], ◌∷◌, ◌++◌, codes, None, Some, length, map};
 ghost use Rattle.std.specs.Prelude.{◌≤◌, ◌*◌};
-ghost use Rattle.interpolator_syntax.specs.At.{At, outermost};
-ghost use Rattle.interpolator_eval.specs.Meaning.Environments.{Environment};
+ghost use Rattle.std.specs.List.{filter};
+ghost use Rattle.interpolator_syntax.specs.At.{At, outermost, text_of};
+ghost use Rattle.interpolator_eval.specs.Slots.{Slots, items};
+ghost use Rattle.interpolator_eval.specs.Meaning.Environments.{Environment, slots_under};
 ghost use Rattle.interpolator_eval.specs.Meaning.Meanings.{means};
 ghost use Rattle.interpolator_escapes.specs.Escapes.{line_escape, html_escape, csv_escape};
-ghost use Rattle.interpolator_escapes.specs.Escapes.{json_escape, shell_escape, escaped, escape_of};
+ghost use Rattle.interpolator_escapes.specs.Escapes.{escape_of, is_control};
 ghost use Rattle.interpolator_escapes.specs.declared.escape.Escape.{Escape};
 ghost use Rattle.interpolator_escapes.specs.declared.escape.Escape.TheVariants.{Csv};
-ghost use Rattle.interpolator_escapes.specs.Readers.{KeepsPlaces, read, content, structure};
-ghost use Rattle.interpolator_escapes.specs.Lines.{LineState, in_line, line_step, is_line_place};
+ghost use Rattle.interpolator_escapes.specs.Readers.{KeepsPlaces};
+ghost use Rattle.interpolator_escapes.specs.Languages.{language, read_by, read_parts_by, StandsIn};
 ghost use Rattle.interpolator_escapes.specs.Lines.{control_step, everywhere};
 ghost use Rattle.interpolator_escapes.specs.Html.{HtmlState, html_start, html_step, is_html_place};
-ghost use Rattle.interpolator_escapes.specs.Csv.{CsvState, field_start, quote_seen, csv_step};
-ghost use Rattle.interpolator_escapes.specs.Csv.{is_csv_place};
-ghost use Rattle.interpolator_escapes.specs.Json.{JsonState, between, json_step, is_json_place};
-ghost use Rattle.interpolator_escapes.specs.Shell.{ShellState, outside, shell_step};
-ghost use Rattle.interpolator_escapes.specs.Shell.{is_shell_place};
-ghost use Rattle.interpolator_escapes.specs.Parts.{Part, assembled, InPlaces, read_parts};
-ghost use Rattle.interpolator_escapes.specs.Formats.{Stands, escaped_shows, shows_nothing};
-ghost use Rattle.interpolator_escapes.specs.Formats.{structure_from};
+ghost use Rattle.interpolator_escapes.specs.Csv.{field_start, quote_seen, csv_step, is_csv_place};
+ghost use Rattle.interpolator_escapes.specs.Parts.{Part, literal, value, assembled, InPlaces};
+ghost use Rattle.interpolator_escapes.specs.FormatParts.{as_it_is, parts_of};
+ghost use Rattle.interpolator_escapes.specs.Records.{fields_of, quoted_record, row_format};
+ghost use Rattle.interpolator_escapes.specs.Records.{item_text};
+ghost use Rattle.interpolator_escapes.specs.WorkedParts.{shows_itself, echoes};
+ghost use Rattle.interpolator_escapes.specs.Formats.{Stands, escaped_shows};
 
 use interpolator_render::Value;
 
 /// Each escaped character is read as this character alone, and leaves the reader where it was. So
 /// an escaped text, read in its place, is the text.
 pub fn escaped_characters_are_read_back()
-    ensures line { KeepsPlaces line_step is_line_place line_escape }
-    ensures html { KeepsPlaces html_step is_html_place html_escape }
-    ensures csv { KeepsPlaces csv_step is_csv_place csv_escape }
-    ensures json { KeepsPlaces json_step is_json_place json_escape }
-    ensures shell { KeepsPlaces shell_step is_shell_place shell_escape }
+    ensures { (escape : Escape)
+        → KeepsPlaces (language escape).step (language escape).is_place (escape_of escape) }
 {}
 
 /// Where each value stands in a place, which the literals alone decide, what is read is what is
 /// read in the literals, with the characters of each value as content between them.
 pub fn values_come_back()
-    ensures line { (parts : List Part) → InPlaces line_step is_line_place in_line parts
-        → read line_step in_line (assembled line_escape parts)
-        ≡ read_parts line_step in_line parts }
-    ensures html { (parts : List Part) → InPlaces html_step is_html_place html_start parts
-        → read html_step html_start (assembled html_escape parts)
-        ≡ read_parts html_step html_start parts }
-    ensures csv { (parts : List Part) → InPlaces csv_step is_csv_place field_start parts
-        → read csv_step field_start (assembled csv_escape parts)
-        ≡ read_parts csv_step field_start parts }
-    ensures json { (parts : List Part) → InPlaces json_step is_json_place between parts
-        → read json_step between (assembled json_escape parts)
-        ≡ read_parts json_step between parts }
-    ensures shell { (parts : List Part) → InPlaces shell_step is_shell_place outside parts
-        → read shell_step outside (assembled shell_escape parts)
-        ≡ read_parts shell_step outside parts }
+    ensures { (escape : Escape) (parts : List Part)
+        → InPlaces (language escape).step (language escape).is_place (language escape).start parts
+        → read_by escape (assembled (escape_of escape) parts) ≡ read_parts_by escape parts }
 {}
 
-/// A record of two fields between quotes is read as the two texts.
-pub fn two_fields_are_read_back()
-    ensures { (a b : List ℕ) → read csv_step field_start (34 ∷ (escaped Csv a
-        ++ (codes "\",\"" ++ (escaped Csv b ++ codes "\"\n"))))
-        ≡ structure 34 ∷ (map content a ++ (structure 44 ∷ structure 34 ∷ (map content b
-        ++ structure 10 ∷ []))) }
+/// A format without a fault means its parts, literals and values, one after the other; escaped, it
+/// means them with each value escaped. Where each value stands in a place, what is read of this is
+/// what is read in the literals, with the characters of each value, as it shows them under its trait
+/// and spec, cut and padded, as content between them.
+pub fn values_of_formats_come_back<V: Value>()
+    ensures plain { (e : Environment V) (a : At) → (means V.shows e a).fault ≡ None
+        → text_of (means V.shows e a).text ≡ assembled as_it_is (parts_of as_it_is V.shows e a) }
+    ensures escaped { (escape : Escape) (e : Environment V) (a : At)
+        → (means (escaped_shows (escape_of escape) V.shows) e a).fault ≡ None
+        → text_of (means (escaped_shows (escape_of escape) V.shows) e a).text
+        ≡ assembled (escape_of escape) (parts_of (escape_of escape) V.shows e a) }
+    ensures read { (escape : Escape) (e : Environment V) (a : At) → StandsIn escape a
+        → (means (escaped_shows (escape_of escape) V.shows) e a).fault ≡ None
+        → read_by escape (text_of (means (escaped_shows (escape_of escape) V.shows) e a).text)
+        ≡ read_parts_by escape (parts_of (escape_of escape) V.shows e a) }
 {}
 
-/// A format whose values stand in places has the same structure, whatever its values are: that
-/// which it has where every value shows the empty text.
-pub fn no_value_leaves_its_place<V: Value>()
-    ensures line { (e : Environment V) (a : At) (t : LineState)
-        → Stands line_step is_line_place in_line a t
-        → (means (escaped_shows line_escape V.shows) e a).fault ≡ None
-        → structure_from line_step in_line (means (escaped_shows line_escape V.shows) e a)
-        ≡ structure_from line_step in_line (means shows_nothing e a) }
-    ensures html { (e : Environment V) (a : At) (t : HtmlState)
-        → Stands html_step is_html_place html_start a t
-        → (means (escaped_shows html_escape V.shows) e a).fault ≡ None
-        → structure_from html_step html_start (means (escaped_shows html_escape V.shows) e a)
-        ≡ structure_from html_step html_start (means shows_nothing e a) }
-    ensures csv { (e : Environment V) (a : At) (t : CsvState)
-        → Stands csv_step is_csv_place field_start a t
-        → (means (escaped_shows csv_escape V.shows) e a).fault ≡ None
-        → structure_from csv_step field_start (means (escaped_shows csv_escape V.shows) e a)
-        ≡ structure_from csv_step field_start (means shows_nothing e a) }
-    ensures json { (e : Environment V) (a : At) (t : JsonState)
-        → Stands json_step is_json_place between a t
-        → (means (escaped_shows json_escape V.shows) e a).fault ≡ None
-        → structure_from json_step between (means (escaped_shows json_escape V.shows) e a)
-        ≡ structure_from json_step between (means shows_nothing e a) }
-    ensures shell { (e : Environment V) (a : At) (t : ShellState)
-        → Stands shell_step is_shell_place outside a t
-        → (means (escaped_shows shell_escape V.shows) e a).fault ≡ None
-        → structure_from shell_step outside (means (escaped_shows shell_escape V.shows) e a)
-        ≡ structure_from shell_step outside (means shows_nothing e a) }
+/// A record of texts between quotes, each escaped, is read as these texts, one field each, up to the
+/// end of its line or of the text, whatever comes after it.
+pub fn a_record_is_read_back()
+    ensures line { (text : List ℕ) (texts : List (List ℕ)) (rest : List ℕ)
+        → fields_of (read_by Csv (quoted_record (text ∷ texts) ++ 10 ∷ rest)) ≡ text ∷ texts }
+    ensures last { (text : List ℕ) (texts : List (List ℕ))
+        → fields_of (read_by Csv (quoted_record (text ∷ texts))) ≡ text ∷ texts }
 {}
 
-/// A format has the controls of its literals, and no others, wherever its values stand; so it has
-/// as many lines. Only the fill of a list under a width must be no control.
-pub fn no_value_has_a_control<V: Value>()
+/// A list is a record, by the format `{row:i("{}")(,)}` with its values escaped: it is read as a field
+/// for each item, which has the text that the item displays.
+pub fn a_list_is_a_record<V: Value>()
+    ensures { (e : Environment V) (found item : Slots V) (others : List (Slots V))
+        → slots_under e (codes "row") ≡ Some found → items found ≡ Some (item ∷ others)
+        → (means (escaped_shows csv_escape V.shows) e (outermost row_format)).fault ≡ None
+        → fields_of (read_by Csv
+        (text_of (means (escaped_shows csv_escape V.shows) e (outermost row_format)).text))
+        ≡ map (item_text V.shows) (item ∷ others) }
+{}
+
+/// A format without a control, written as a line, has none: no newline, no carriage return, no other
+/// ASCII control, none of U+0080 to U+009F, no U+2028 or U+2029, no mark of direction. So it is one
+/// line, whatever its values are.
+pub fn a_line_stays_a_line<V: Value>()
     ensures { (e : Environment V) (a : At) → Stands control_step everywhere tt a tt
+        → filter is_control a.text ≡ []
         → (means (escaped_shows line_escape V.shows) e a).fault ≡ None
-        → structure_from control_step tt (means (escaped_shows line_escape V.shows) e a)
-        ≡ structure_from control_step tt (means shows_nothing e a) }
+        → filter is_control (text_of (means (escaped_shows line_escape V.shows) e a).text) ≡ [] }
 {}
 
 /// An escape changes no fault. So a format that has none with a sample has none escaped, in any
@@ -113,6 +99,23 @@ pub fn at_most_six_characters_for_one<V: Value>()
     ensures { (escape : Escape) (e : Environment V) (a : At)
         → length (means (escaped_shows (escape_of escape) V.shows) e a).text
         ≤ 6 * length (means V.shows e a).text }
+{}
+
+/// The parts of formats, where each name has itself as its value, and the items `<` and `x`. Under a
+/// width, what pads a list is a literal, as long as what is written lacks.
+pub fn worked_parts()
+    ensures page { parts_of html_escape shows_itself echoes
+        (outermost (codes "<p id=\"{a}\">{{{b:>3}</p>"))
+        ≡ literal (codes "<p id=\"") ∷ value (codes "a") ∷ literal (codes "\">") ∷ literal (codes "{")
+        ∷ value (codes "  b") ∷ literal (codes "</p>") ∷ [] }
+    ensures list { parts_of html_escape shows_itself echoes
+        (outermost (codes "{l:i(<b>{}</b>)(, )}"))
+        ≡ literal (codes "<b>") ∷ value (codes "<") ∷ literal (codes "</b>") ∷ literal (codes ", ")
+        ∷ literal (codes "<b>") ∷ value (codes "x") ∷ literal (codes "</b>") ∷ [] }
+    ensures padded { parts_of html_escape shows_itself echoes (outermost (codes "{l:>8i}"))
+        ≡ literal (codes "   ") ∷ value (codes "<") ∷ value (codes "x") ∷ literal [] ∷ [] }
+    ensures as_they_are { parts_of as_it_is shows_itself echoes (outermost (codes "{l:>8i}"))
+        ≡ literal (codes "      ") ∷ value (codes "<") ∷ value (codes "x") ∷ literal [] ∷ [] }
 {}
 
 /// Formats whose values stand in places, at any depth of lists.

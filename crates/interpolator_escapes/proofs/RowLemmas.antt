@@ -1,0 +1,108 @@
+-- A list, each of whose items is written between quotes, is a record.
+use Rattle.std.proofs.Common.{◌≡◌, ℕ, List, [], ◌∷◌, ◌++◌, refl, ap, ◌∙◌}
+use Rattle.std.proofs.Common.{append-nil, flat_map, map, codes, Option, Some, None, length, take}
+use Rattle.interpolator_render.specs.declared.view.Trait.{Trait}
+use Rattle.interpolator_render.specs.declared.view.Trait.TheVariants.{Display}
+use Rattle.interpolator_render.specs.declared.view.Spec.{Spec}
+use Rattle.interpolator_render.specs.Texts.{ViewText, has_text, has_no_text, has_failed, view_text}
+use Rattle.interpolator_render.specs.Views.{Shown}
+use Rattle.interpolator_syntax.specs.Arguments.{argument_at}
+use Rattle.interpolator_syntax.specs.At.{outermost, text_of}
+use Rattle.interpolator_syntax.specs.Groups.{group_at}
+use Rattle.interpolator_syntax.specs.Lists.{list_at}
+use Rattle.interpolator_syntax.specs.Nodes.{nodes}
+use Rattle.interpolator_syntax.specs.Pieces.{argument_from}
+use Rattle.interpolator_syntax.specs.Ranges.{range_at}
+use Rattle.interpolator_syntax.specs.SpecTexts.{spec_from_sign, spec_after, plain_spec}
+use Rattle.interpolator_syntax.specs.Tokens.{first_token}
+use Rattle.interpolator_eval.specs.Slots.{Slots, values_of, items, slot_at}
+use Rattle.interpolator_eval.specs.Meaning.Choices.{chosen_items}
+use Rattle.interpolator_eval.specs.Meaning.Environments.{Environment, slots_under}
+use Rattle.interpolator_eval.specs.Meaning.Meanings.{means}
+use Rattle.interpolator_escapes.specs.Escapes.{csv_escape}
+use Rattle.interpolator_escapes.specs.Formats.{escaped_shows}
+use Rattle.interpolator_escapes.specs.FormatParts.{view_parts, found_parts, parts_after}
+use Rattle.interpolator_escapes.specs.FormatParts.{items_parts, value_parts, parts_of}
+use Rattle.interpolator_escapes.specs.Languages.{read_by}
+use Rattle.interpolator_escapes.specs.Parts.{Part, literal, assembled}
+use Rattle.interpolator_escapes.specs.Records.{fields_after, fields_of, quoted_field, quoted_record}
+use Rattle.interpolator_escapes.specs.Records.{row_format, text_or_empty, displayed, item_text}
+use Rattle.interpolator_escapes.specs.declared.escape.Escape.TheVariants.{Csv}
+use Rattle.interpolator_escapes.proofs.FormatPartLemmas.{whole-append, escaped_parts}
+use Rattle.interpolator_escapes.proofs.RecordLemmas.{last_read}
+
+take_all : {A : Type 0} (xs : List A) → take (length xs) xs ≡ xs
+take_all [] = refl
+take_all (x ∷ xs) = ap (λ ys. x ∷ ys) (take_all xs)
+
+module _ {X : Type 0} (shows : X → Trait → Spec → Shown) where
+  -- an item between quotes
+  abbrev ItemParts : Slots X → List Part
+  ItemParts item =
+      literal (34 ∷ [])
+      ∷ (value_parts csv_escape shows Display plain_spec (slot_at Display (values_of item))
+      ++ literal (34 ∷ []) ∷ [])
+
+  abbrev RowParts : List (Slots X) → List Part
+  RowParts xs = items_parts (literal (44 ∷ []) ∷ []) ItemParts xs
+
+  row_parts : (e : Environment X) → parts_of csv_escape shows e (outermost row_format)
+      ≡ found_parts (λ found. found_parts (λ xs. RowParts (chosen_items None xs)) (items found))
+      (slots_under e (codes "row")) ++ []
+  unfolding nodes first_token argument_from argument_at spec_after spec_from_sign list_at range_at
+      group_at
+  row_parts e = refl
+
+  found_row : (e : Environment X) (found : Slots X) (xs : List (Slots X))
+      → slots_under e (codes "row") ≡ Some found → items found ≡ Some xs
+      → parts_of csv_escape shows e (outermost row_format) ≡ RowParts xs
+  found_row e found xs h j =
+      rw (row_parts e, h, j, take_all xs, append-nil (RowParts xs)) refl
+
+  -- ---- their text
+
+  abbrev Text : List Part → List ℕ
+  Text ps = assembled csv_escape ps
+
+  view_text_of : (v : ViewText) → Text (view_parts v) ≡ flat_map csv_escape (text_or_empty v)
+  view_text_of (has_text cs) = append-nil (flat_map csv_escape cs)
+  view_text_of has_no_text = refl
+  view_text_of has_failed = refl
+
+  slot_text : (o : Option X) → Text (value_parts csv_escape shows Display plain_spec o)
+      ≡ flat_map csv_escape (displayed shows o)
+  slot_text None = refl
+  slot_text (Some x) = view_text_of (view_text (shows x Display plain_spec) Display plain_spec)
+
+  quoted_item : (item : Slots X) → Text (ItemParts item) ≡ quoted_field (item_text shows item)
+  quoted_item item =
+      let ps = value_parts csv_escape shows Display plain_spec (slot_at Display (values_of item)) in
+      ap (λ cs. 34 ∷ cs) (whole-append csv_escape ps (literal (34 ∷ []) ∷ [])
+      ∙ ap (λ cs. cs ++ 34 ∷ []) (slot_text (slot_at Display (values_of item))))
+
+  after_text : (xs : List (Slots X)) → Text (parts_after (literal (44 ∷ []) ∷ []) ItemParts xs)
+      ≡ fields_after (map (item_text shows) xs)
+  after_text [] = refl
+  after_text (x ∷ xs) =
+      let rest = parts_after (literal (44 ∷ []) ∷ []) ItemParts xs in
+      ap (λ cs. 44 ∷ cs) (whole-append csv_escape (ItemParts x) rest
+      ∙ ap (λ cs. cs ++ Text rest) (quoted_item x)
+      ∙ ap (λ cs. quoted_field (item_text shows x) ++ cs) (after_text xs))
+
+  row_text : (x : Slots X) (xs : List (Slots X))
+      → Text (RowParts (x ∷ xs)) ≡ quoted_record (map (item_text shows) (x ∷ xs))
+  row_text x xs =
+      let rest = parts_after (literal (44 ∷ []) ∷ []) ItemParts xs in
+      whole-append csv_escape (ItemParts x) rest
+      ∙ ap (λ cs. cs ++ Text rest) (quoted_item x)
+      ∙ ap (λ cs. quoted_field (item_text shows x) ++ cs) (after_text xs)
+
+  pub row_read : (e : Environment X) (found x : Slots X) (xs : List (Slots X))
+      → slots_under e (codes "row") ≡ Some found → items found ≡ Some (x ∷ xs)
+      → (means (escaped_shows csv_escape shows) e (outermost row_format)).fault ≡ None
+      → fields_of (read_by Csv (text_of (means (escaped_shows csv_escape shows) e (outermost row_format)).text))
+      ≡ map (item_text shows) (x ∷ xs)
+  row_read e found x xs h j none =
+      ap (λ cs. fields_of (read_by Csv cs)) (escaped_parts csv_escape shows e (outermost row_format) none
+      ∙ ap Text (found_row e found (x ∷ xs) h j) ∙ row_text x xs)
+      ∙ last_read (item_text shows x) (map (item_text shows) xs)
