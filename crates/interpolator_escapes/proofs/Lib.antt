@@ -6,6 +6,7 @@ pub mod FormatPartLemmas
 pub mod GrowthLemmas
 pub mod KeepLemmas
 pub mod LanguageLemmas
+pub mod PartValueLemmas
 pub mod ReaderLemmas
 pub mod RecordLemmas
 pub mod RowLemmas

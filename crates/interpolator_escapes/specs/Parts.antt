@@ -8,6 +8,12 @@ pub data Part : Type 0 where
   literal : List ℕ → Part
   value : List ℕ → Part
 
+-- the texts of the values
+abbrev pub values_in : List Part → List (List ℕ)
+values_in [] = []
+values_in (literal cs ∷ parts) = values_in parts
+values_in (value cs ∷ parts) = cs ∷ values_in parts
+
 module _ (escape : ℕ → List ℕ) where
   -- a literal as it is, a value escaped
   abbrev pub part_text : Part → List ℕ

@@ -15,7 +15,8 @@ ghost use Rattle.interpolator_escapes.specs.Languages.{language, read_by, read_p
 ghost use Rattle.interpolator_escapes.specs.Lines.{control_step, everywhere};
 ghost use Rattle.interpolator_escapes.specs.Html.{HtmlState, html_start, html_step, is_html_place};
 ghost use Rattle.interpolator_escapes.specs.Csv.{field_start, quote_seen, csv_step, is_csv_place};
-ghost use Rattle.interpolator_escapes.specs.Parts.{Part, literal, value, assembled, InPlaces};
+ghost use Rattle.interpolator_escapes.specs.Parts.{Part, literal, value, assembled, values_in};
+ghost use Rattle.interpolator_escapes.specs.Parts.{InPlaces};
 ghost use Rattle.interpolator_escapes.specs.FormatParts.{as_it_is, parts_of};
 ghost use Rattle.interpolator_escapes.specs.Records.{fields_of, quoted_record, row_format};
 ghost use Rattle.interpolator_escapes.specs.Records.{item_text};
@@ -40,7 +41,7 @@ pub fn values_come_back()
 {}
 
 /// A format without a fault means its parts, literals and values, one after the other; escaped, it
-/// means them with each value escaped. Where each value stands in a place, what is read of this is
+/// means its parts, which have the same values, with each value escaped. Where each value stands in a place, what is read of this is
 /// what is read in the literals, with the characters of each value, as it shows them under its trait
 /// and spec, cut and padded, as content between them.
 pub fn values_of_formats_come_back<V: Value>()
@@ -50,6 +51,9 @@ pub fn values_of_formats_come_back<V: Value>()
         → (means (escaped_shows (escape_of escape) V.shows) e a).fault ≡ None
         → text_of (means (escaped_shows (escape_of escape) V.shows) e a).text
         ≡ assembled (escape_of escape) (parts_of (escape_of escape) V.shows e a) }
+    ensures values { (escape : Escape) (e : Environment V) (a : At)
+        → values_in (parts_of (escape_of escape) V.shows e a)
+        ≡ values_in (parts_of as_it_is V.shows e a) }
     ensures read { (escape : Escape) (e : Environment V) (a : At) → StandsIn escape a
         → (means (escaped_shows (escape_of escape) V.shows) e a).fault ≡ None
         → read_by escape (text_of (means (escaped_shows (escape_of escape) V.shows) e a).text)
