@@ -44,9 +44,13 @@ def a_character(r: random.Random) -> str:
             return chr(code)
 
 
+def a_part(r: random.Random) -> str:
+    kind = r.randrange(3)
+    return a_character(r) if kind == 2 else r.choice((EVIL, CHARACTERS)[kind])
+
+
 def a_value(r: random.Random) -> str:
-    makers = (lambda: r.choice(EVIL), lambda: r.choice(CHARACTERS), lambda: a_character(r))
-    return "".join(r.choice(makers)() for _ in range(r.randrange(7)))
+    return "".join(a_part(r) for _ in range(r.randrange(7)))
 
 
 # ---- formats: texts, values by their specs, and lists
