@@ -114,6 +114,14 @@ class CostAnswer(ctypes.Structure):
     ]
 
 
+class Fault(ctypes.Structure):
+    _fields_ = [
+        ("code", ctypes.c_uint32),
+        ("detail", ctypes.c_uint32),
+        ("place", ctypes.c_size_t),
+    ]
+
+
 class Argument(ctypes.Structure):
     _fields_ = [
         ("name_first", ctypes.c_size_t),
@@ -146,6 +154,7 @@ def _layout() -> Dict[str, int]:
         "answer": ctypes.sizeof(Answer),
         "argument": ctypes.sizeof(Argument),
         "cost_answer": ctypes.sizeof(CostAnswer),
+        "fault": ctypes.sizeof(Fault),
         "source": ctypes.sizeof(Source),
         "request_width": Request.width.offset,
         "lent_text": Lent.text.offset,
@@ -188,6 +197,8 @@ def _declare(library: ctypes.CDLL) -> None:
         "interpolator_escaped": (Answer, [ctypes.c_uint32] + text + fields + fields + room),
         "interpolator_check": (Answer, text + fields + fields + room),
         "interpolator_check_alone": (Answer, text + room),
+        "interpolator_faults": (
+            Answer, text + fields + fields + [ctypes.POINTER(Fault), size]),
         "interpolator_explain": (
             Answer, [ctypes.POINTER(Source)] + text + fields + fields + [size] + room),
         "interpolator_rows": (

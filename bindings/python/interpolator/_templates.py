@@ -12,6 +12,7 @@ from typing import (
 
 from . import _library as c
 from ._faults import PLACED, SENTENCES, Code, FormatError, fault
+from ._pieces import Piece, pieces_of
 from ._plans import Plan, plan_of
 from ._reading import Reading
 from ._requests import Request, request_of
@@ -20,6 +21,12 @@ from ._values import UNUSED, Fields, Uses, bytes_of, encoded
 
 # What a format is called in the picture of its fault.
 NAME = "<format>"
+
+# Up to so many faults are shown by their numbers.
+_FEW = 8
+
+# The code, the detail and the place of a fault.
+_Numbers = Tuple[int, int, int]
 
 _library = c.library
 
@@ -204,7 +211,24 @@ class Template:
         self, source: "Source", examples: Optional[Mapping[str, Any]] = None
     ) -> Iterator[FormatError]:
         """The same, with pictures of a text in which the format begins."""
-        fields = self._examples(examples)
+        found, _ = self._found_in({} if examples is None else examples)
+        fields = self._fields_of(found, are_examples=True)
+        faults = self._numbers(fields)
+        yield from self._by_pieces(source, found, faults) or self._by_numbers(source, fields)
+
+    def _numbers(self, fields: Fields) -> List[_Numbers]:
+        """All faults over fields as examples, in order; none if they are not known."""
+        row, items = fields.fields(), fields.items()
+        given = (self._bytes, len(self._bytes), row, len(row), items, len(items))
+        places = (c.Fault * 8)()
+        answer = _library.interpolator_faults(*given, places, len(places))
+        if answer.length > len(places):
+            places = (c.Fault * answer.length)()
+            answer = _library.interpolator_faults(*given, places, len(places))
+        return [(one.code, one.detail, one.place) for one in places[: answer.length]]
+
+    def _by_numbers(self, source: "Source", fields: Fields) -> Iterator[FormatError]:
+        """The faults, each of which the library shows by its number."""
         for which in itertools.count():
             code, answer, picture = self._explained(fields, source, which)
             if not code:
@@ -214,6 +238,31 @@ class Template:
             index = self._index(answer.place)
             message = source.message_of(picture, answer.place)
             yield fault(Code(code), message, answer.place, index, picture, answer.detail)
+
+    def _by_pieces(
+        self, source: "Source", values: Dict[str, Any], faults: List[_Numbers]
+    ) -> Optional[List[FormatError]]:
+        """The faults, each shown by a piece of the format; None if there are few, or if the pieces have
+        other faults than the format."""
+        if len(faults) <= _FEW or not source.has(self._bytes):
+            return None
+        found: List[FormatError] = []
+        for piece in source.pieces(self._bytes, self._reading().structs):
+            end = piece.first + len(piece.format)
+            part = Template(piece.format.decode())
+            fields = part._fields_of(values, are_examples=True)
+            where = Source.of_piece(source.name, piece)
+            for which in itertools.count():
+                wanted = faults[len(found)] if len(found) < len(faults) else None
+                if wanted is None or wanted[2] >= end and end < len(self._bytes):
+                    break
+                code, answer, picture = part._explained(fields, where, which)
+                if (code, answer.detail, piece.first + answer.place) != wanted:
+                    return None
+                index = piece.characters + part._index(answer.place)
+                message, picture = source.told_of(where, piece, picture, answer.place)
+                found.append(fault(Code(code), message, wanted[2], index, picture, answer.detail))
+        return found if len(found) == len(faults) else None
 
     def explain(
         self,
@@ -403,15 +452,12 @@ class Template:
     def _picture(self, answer: c.Answer, message: str, fields: Fields) -> str:
         """The picture of a fault: that of one of the faults over the values as examples, among which
         it is."""
-        source = Source(NAME, self.text)
-        wanted = (answer.code, answer.place, answer.detail)
-        for which in itertools.count():
-            code, explained, picture = self._explained(fields, source, which)
-            if (code, explained.place, explained.detail) == wanted:
-                return picture
-            if code not in PLACED:
-                return f"{NAME}: {message}"
-        raise AssertionError
+        wanted = (answer.code, answer.detail, answer.place)
+        faults = self._numbers(fields)
+        if wanted not in faults:
+            return f"{NAME}: {message}"
+        code, _, picture = self._explained(fields, Source(NAME, self.text), faults.index(wanted))
+        return picture if code else f"{NAME}: {message}"
 
     def _cause(self, answer: c.Answer, fields: Fields) -> Optional[Exception]:
         """What the `__format__` raised of the value that failed at a place."""
@@ -440,13 +486,42 @@ class Source:
         text = c.Bytes(self._text, len(self._text))
         return c.Source(name=name, text=text, first_line=self._first_line, start=self._start)
 
+    @classmethod
+    def of_piece(cls, name: str, piece: Piece) -> "Source":
+        """The text around a piece of a format."""
+        source = cls(name, "", piece.line)
+        source._text, source._start = piece.text, piece.start
+        return source
+
+    def has(self, format: bytes) -> bool:
+        """Whether the format is where this says."""
+        return self._text.startswith(format, self._start)
+
+    def pieces(self, format: bytes, structs: List[c.Argument]) -> Iterator[Piece]:
+        """The pieces of a format that is here."""
+        return pieces_of(format, structs, self._text, self._first_line, self._start)
+
     def message_of(self, picture: str, place: int) -> str:
         """What a picture says of a fault, between the place and the three lines with the marks, and
         without the note that there is if the format does not begin the text."""
         head = picture.rsplit("\n", 3)[0]
         message = head[len(self.name) + 1 :].partition(": ")[2]
-        note = f" (byte {place} of the format)"
-        return message[: -len(note)] if self._start else message
+        return message[: len(message) - len(self._note(place))]
+
+    def _note(self, place: int) -> str:
+        return f" (byte {place} of the format)" if self._start else ""
+
+    def told_of(self, where: "Source", piece: Piece, picture: str, place: int) -> Tuple[str, str]:
+        """What is said of a fault of the whole format, and its picture, by what is said and shown at a
+        place of a piece of it."""
+        marks = picture.rsplit("\n", 3)[1:]
+        line, column = map(int, picture[len(self.name) + 1 :].partition(": ")[0].split(":"))
+        column += piece.left_out if line == piece.line else 0
+        # each sentence says the place once, behind all that it tells of the format
+        before, at, after = where.message_of(picture, place).rpartition(f" at {place}")
+        message = f"{before} at {piece.first + place}{after}"
+        head = f"{self.name}:{line}:{column}: {message}{self._note(piece.first + place)}"
+        return message, "\n".join((head, *marks))
 
 
 def _count(number: int) -> int:

@@ -63,12 +63,13 @@ class Value(NamedTuple):
 
 
 class Listed(NamedTuple):
-    """A list: a format for each item, and a text between two."""
+    """A list: a format for each item, a text between two, and a spec by which it is padded."""
 
     before: str
     item: Value
     after: str
     join: str
+    pad: str = ""
 
 
 Piece = Union[str, Value, Listed]
@@ -97,7 +98,7 @@ def format_of(pieces: List[Piece]) -> str:
             parts.append(argument(f"v{number}", piece.spec))
         else:
             item = braced(piece.before) + argument("", piece.item.spec) + braced(piece.after)
-            parts.append(f"{{v{number}:i##({item})####({braced(piece.join)})##}}")
+            parts.append(f"{{v{number}:{piece.pad}i##({item})####({braced(piece.join)})##}}")
     return "".join(parts)
 
 
@@ -259,8 +260,11 @@ class Page(HTMLParser):
 
 def read_page(text: str) -> List[Tuple[Any, ...]]:
     page = Page()
-    page.feed(text)
-    page.close()
+    try:
+        page.feed(text)
+        page.close()
+    except AssertionError:
+        page.read.append(("broken",))
     return page.read
 
 

@@ -4,6 +4,7 @@ from __future__ import annotations
 
 import decimal
 import pickle
+import random
 import subprocess
 import sys
 import unittest
@@ -14,6 +15,7 @@ from interpolator import (
     BrokenFormat, Code, FormatError, MissingTrait, MissingValue, NotUtf8, Template, Trait,
     UnsupportedOption, check, check_alone, explain, format,
 )
+from interpolator._templates import Source
 
 PACKAGE = Path(interpolator.__file__).resolve().parent.parent
 
@@ -126,6 +128,62 @@ class Checks(unittest.TestCase):
     def test_a_message_of_several_lines(self) -> None:
         (found,) = interpolator.faults("{a\n}")
         self.assertEqual("specified value not in context `a\n` at 1", found.message)
+
+
+# Arguments with and without faults, and what is between.
+WHOLE = [
+    "{nobody}", "{a:x}", "{ a :e}", "{a}", "{l:i({:x}{nobody})(, )}", "{l:i#({:i({})}{a:x})#({nobody})}",
+    "{l:i({})}", "{l}", "{b\n}", "{\u202ec\t:>5}", "{a at 7}", "text", "é" * 40, "\n", "x" * 90, "\r\n",
+]
+
+# What also has arguments that are broken, which can end all later ones.
+PARTS = WHOLE + [
+    "{d é: (byte 1 of the format)}", "{a:q}", "{a:>", "{a:99999999999999999999}", "{l:+i}", "{l:i-}", "{a:p}",
+    "{l:i({:x)}", "{l:i#({a}", "{", "}", "{{", "}}", "{}", "\\n", "(", ")", "\U0010ffff" * 200,
+]
+
+
+class Many(unittest.TestCase):
+    """Many faults are shown by the pieces of their format."""
+
+    def test_pieces_show_what_the_format_does(self) -> None:
+        r = random.Random(76)
+        examples = {"a": "Ann", "l": ["x"]}
+        by_pieces = 0
+        for number in range(200):
+            parts = (r.choice(PARTS if part % 8 == number % 8 else WHOLE) for part in range(24))
+            template = Template("".join(parts))
+            fields = template._examples(examples)
+            faults = template._numbers(fields)
+            before = "first: 1 line\nkey é: "
+            for source in (
+                Source("<format>", template.text),
+                # a name that is a sentence, too
+                Source("specified value not in context `nobody` at 1", f"{before}{template.text}\nlast", 3, 21),
+            ):
+                told = template._by_pieces(source, examples, faults)
+                if told is not None:
+                    by_pieces += 1
+                    wanted = [vars(error) for error in template._by_numbers(source, fields)]
+                    self.assertEqual(wanted, [vars(error) for error in told], template.text)
+        self.assertGreater(by_pieces, 200)
+
+    def test_a_text_without_the_format(self) -> None:
+        template = Template("{nobody}" * 20)
+        source = Source("astray", template.text, 1, 8)
+        faults = template._numbers(template._examples({}))
+        self.assertIsNone(template._by_pieces(source, {}, faults))
+        self.assertEqual(20, len(list(template.faults_in(source))))
+
+    def test_2000(self) -> None:
+        for text in ("{nobody} {a}\n{a:x}", "{nobody} {a}{a:x}"):
+            template = Template(text * 1000)
+            found = template.faults({"a": "Ann"})
+            self.assertEqual(2000, len(found))
+            for which in (0, 1, 1998, 1999):
+                _, _, picture = template._explained(
+                    template._examples({"a": "Ann"}), Source("<format>", template.text), which)
+                self.assertEqual(picture, found[which].picture)
 
 
 class Pictures(unittest.TestCase):

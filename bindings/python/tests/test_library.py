@@ -30,7 +30,7 @@ def imported_with(library: str) -> "subprocess.CompletedProcess[str]":
 HEADER = Path(__file__).resolve().parent.parent.parent / "c" / "interpolator.h"
 
 STRUCTS = (_library.Bytes, _library.Request, _library.Lent, _library.Field, _library.Answer,
-           _library.Source, _library.CostAnswer, _library.Argument, _library.Sizes)
+           _library.Source, _library.CostAnswer, _library.Fault, _library.Argument, _library.Sizes)
 
 
 def c_name(struct: Any) -> str:

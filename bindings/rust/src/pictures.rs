@@ -158,7 +158,8 @@ fn pieces<'p>(source: &Source<'p>, format: &'p str) -> Option<Vec<Piece<'p>>> {
         number = number.saturating_add(before.matches('\n').count());
         line += before.rfind('\n').map_or(0, |newline| newline + 1);
         let behind = source.text.get(source.start + end..)?;
-        let lines_end = source.start + end + behind.find('\n').unwrap_or(behind.len());
+        // With the newline, before which a carriage return is not shown.
+        let lines_end = source.start + end + behind.find('\n').map_or(behind.len(), |at| at + 1);
         pieces.push(Piece {
             format: &format[*first..end],
             first: *first,
@@ -227,7 +228,7 @@ mod tests {
         "{{",
         "}}",
         "{}",
-        "\\n",
+        "\r\n",
         "é ",
         "(",
         ")",
