@@ -142,7 +142,7 @@ json_other : (c : ℕ) → (c == 92) ≡ false → (c == 34) ≡ false
     → JsonReads (if nat_lt c 32 || (c == 60) then 92 ∷ 117 ∷ four_digits c else c ∷ []) c
 json_other c n q =
     choose (λ cs. JsonReads cs c) (nat_lt c 32 || (c == 60)) _ _
-    (λ e. json_four c (grind (arith, nat_tests))) (λ e. grind arith)
+    (λ e. json_four c (grind (arith, nat_tests))) (λ e. grind (arith, nat_tests))
 
 pub json_keeps : KeepsPlaces json_step is_json_place json_escape
 json_keeps in_string c h =

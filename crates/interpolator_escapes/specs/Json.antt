@@ -1,6 +1,6 @@
 -- Reading JSON: strings, and what is between them.
 use Rattle.std.specs.Prelude.{ℕ, ◌+◌, ◌-◌, ◌*◌, List, [], ◌∷◌, ◌==◌, if◌then◌else◌, Bool, true}
-use Rattle.std.specs.Prelude.{false}
+use Rattle.std.specs.Prelude.{false, nat_lt}
 use Rattle.std.specs.Char.{digit_value}
 use Rattle.interpolator_escapes.specs.Readers.{Token, content, structure}
 
@@ -23,12 +23,13 @@ json_letter c =
 abbrev pub code_step : ℕ → ℕ → JsonState × List Token
 code_step left n = if left == 1 then (in_string, content n ∷ []) else (in_code (left - 1) n, [])
 
--- a character, read
+-- a character, read. A control, which no string of JSON may have, is structure
 abbrev pub json_step : JsonState → ℕ → JsonState × List Token
 json_step between c = if c == 34 then (in_string, structure c ∷ []) else (between, structure c ∷ [])
 json_step in_string c =
     if c == 34 then (between, structure c ∷ []) else
-    (if c == 92 then (after_slash, []) else (in_string, content c ∷ []))
+    (if c == 92 then (after_slash, []) else
+    (in_string, if nat_lt c 32 then structure c ∷ [] else content c ∷ []))
 json_step after_slash c =
     if c == 117 then (in_code 4 0, []) else (in_string, content (json_letter c) ∷ [])
 json_step (in_code left n) c = code_step left (n * 16 + digit_value c)

@@ -40,7 +40,7 @@ const CSV: [Row; 16] = [
     ("\"{l:i({})(\",{m:i}\")}{a}\"", Some((12, Why::Value))),
 ];
 
-const JSON: [Row; 15] = [
+const JSON: [Row; 17] = [
     ("{{\"name\":\"{a}\"}}", None),
     ("[{l:i(\"{}\")(,)}]", None),
     ("\"\\n{a}\"", None),
@@ -56,6 +56,8 @@ const JSON: [Row; 15] = [
     ("[{l:i(,)(\"{}\",{})}]", Some((14, Why::Value))),
     ("\"{l:i({})(\")}\"", Some((1, Why::Join))),
     ("\"{l:\\>9i}\"", Some((1, Why::Fill))),
+    ("\"{l:\n>9i}\"", Some((1, Why::Fill))),
+    ("\"{l:\u{7f}>9i}\"", None),
 ];
 
 const SHELL: [Row; 9] = [

@@ -59,7 +59,7 @@ fn after_in_string(c: char) -> (JsonReader, bool)
     if c == '\\' {
         return (JsonReader::AfterSlash, false);
     }
-    (JsonReader::InString, false)
+    (JsonReader::InString, c < ' ')
 }
 
 /// The state after a character behind a backslash, which is no structure.
