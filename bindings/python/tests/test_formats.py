@@ -26,6 +26,7 @@ from json.decoder import scanstring  # type: ignore[attr-defined]
 from typing import Any, Callable, Dict, List, NamedTuple, Sequence, Tuple
 
 import interpolator
+from interpolator._plans import HAS_SPEED
 
 from .test_escapes import (
     Listed, Piece, Value, a_row, a_spec, a_value, as_lists, format_of, read_json, read_page, with_values,
@@ -117,6 +118,7 @@ def cases(escape: str) -> Sequence[Case]:
                 # a text that ends its group
                 break
             found.append(Case(text, row.values, row.shown, row.marked, written, fill))
+    assert len(found) > STANDING * ROWS, f"{len(found)} texts of {escape}"
     return found
 
 
@@ -254,7 +256,7 @@ def words_of(shell: str, texts: Sequence[str]) -> List[List[str]]:
     lines = ["set -f; unset PWD OLDPWD", "command_not_found_handle() { printf '%s\\0' not-found \"$@\"; }"]
     for text in texts:
         lines.append("command eval " + shlex.quote(f"printf '%s\\0' {text}\n"))
-        lines.append("printf '%s\\0' --next--; unset a")
+        lines.append("wait; printf '%s\\0' --next--; unset a")
     with tempfile.TemporaryDirectory() as folder:
         script, empty = os.path.join(folder, "script"), os.path.join(folder, "empty")
         with open(script, "wb") as file:
@@ -270,23 +272,22 @@ def words_of(shell: str, texts: Sequence[str]) -> List[List[str]]:
 # ---- the comparison
 
 
+@unittest.skipIf(HAS_SPEED, "texts are written escaped by ctypes, with the extension module too")
 class Formats(unittest.TestCase):
     def compare(
         self,
-        escape: str,
+        held: Sequence[Case],
         read: Callable[[Sequence[str]], List[Any]],
         fit: Callable[[Any], Any] = lambda read: read,
+        order: Callable[[Any], Any] = lambda read: read,
     ) -> None:
-        held = cases(escape)
-        self.assertGreater(len(held), STANDING)
-
         def read_twice(cases: Sequence[Case]) -> List[Tuple[Any, Any]]:
             """What is read with the marks replaced by the values, and with the values."""
             marked = read([case.marked for case in cases])
             written = read([case.written for case in cases])
             return [
-                (without(fit(with_values(as_lists(by_marks), case.shown)), case.fill),
-                 without(fit(as_lists(by_values)), case.fill))
+                (order(without(fit(with_values(as_lists(by_marks), case.shown)), case.fill)),
+                 order(without(fit(as_lists(by_values)), case.fill)))
                 for case, by_marks, by_values in zip(cases, marked, written)]
 
         for case, (wanted, found) in zip(held, read_twice(held)):
@@ -295,14 +296,18 @@ class Formats(unittest.TestCase):
                 wanted, found = read_twice([case])[0]
             self.assertEqual(wanted, found, (case.format, case.values))
 
-    def each(self, escape: str, read: Callable[[str], Any]) -> None:
-        self.compare(escape, lambda texts: list(map(read, texts)))
+    def each(self, held: Sequence[Case], read: Callable[[str], Any]) -> None:
+        self.compare(held, lambda texts: list(map(read, texts)))
 
     def test_lines(self) -> None:
-        self.each("line", read_structure)
+        self.each(cases("line"), read_structure)
 
     def test_pages_by_html_parser(self) -> None:
-        self.each("html", read_page)
+        # it ends the name of a tag at a NUL, and reads a tag that the page does not end as text
+        self.each([
+            case for case in cases("html")
+            if "\0" not in case.format and case.marked.count("'") % 2 == case.marked.count('"') % 2 == 0
+        ], read_page)
 
     def test_pages_by_html5lib(self) -> None:
         parser = import_html5lib()
@@ -310,21 +315,24 @@ class Formats(unittest.TestCase):
             self.skipTest("html5lib is not installed (Debian's python3-html5lib)")
         read = reader_of_html5lib(parser)
         self.compare(
-            "html",
+            cases("html"),
             lambda texts: [read(text, index // ROWS % 4) for index, text in enumerate(texts)],
             fit=as_read_by_html)
 
     def test_tables(self) -> None:
-        self.each("csv", read_tables)
+        self.each(cases("csv"), read_tables)
 
     def test_json(self) -> None:
-        self.each("json", read_strings)
+        self.each(cases("json"), read_strings)
 
     def by_shell(self, name: str) -> None:
         shell = shutil.which(name)
         if shell is None:
             self.skipTest(f"{name} is not installed")
-        self.compare("shell", functools.partial(read_by, shell))
+        read = functools.partial(read_by, shell)
+        self.compare([case for case in cases("shell") if "&" not in case.format], read)
+        # of commands that run beside others, the order is not known
+        self.compare([case for case in cases("shell") if "&" in case.format], read, order=sorted)
 
     def test_commands_by_dash(self) -> None:
         self.by_shell("dash")
