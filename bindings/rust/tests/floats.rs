@@ -162,7 +162,14 @@ fn greater_widths_and_precisions() {
     }
 }
 
-/// Each float as std writes it, at each number of digits that it often has, and without.
+/// How many floats are tried by chance, each under ten specs: optimized, a million texts.
+const BY_CHANCE: u32 = if cfg!(debug_assertions) {
+    20_000
+} else {
+    100_000
+};
+
+/// Each float as std writes it, at each number of digits that it often has and to a width, and without.
 #[test]
 fn floats_by_chance() {
     let mut state = 88172645463325252u64;
@@ -172,7 +179,7 @@ fn floats_by_chance() {
         state ^= state << 17;
         state
     };
-    for kind in 0..40_000 {
+    for kind in 0..BY_CHANCE {
         let number = match kind % 6 {
             0 => f64::from_bits(next()),
             1 => (next() % 100_000_000) as f64 / 1000.0,
@@ -182,14 +189,18 @@ fn floats_by_chance() {
             _ => f64::from(f32::from_bits(next() as u32)),
         };
         let (single, digits) = (number as f32, (next() % 18) as usize);
+        let width = 1 + (next() % 40) as usize;
         let pairs = [
             ("d", Formattable::float(&number)),
             ("s", Formattable::float(&single)),
         ];
-        let form =
-            format!("{{d}} {{d:?}} {{d:.{digits}}} {{d:.{digits}e}} {{s}} {{s:E}} {{s:.{digits}}}");
+        let form = format!(
+            "{{d}} {{d:?}} {{d:.{digits}}} {{d:.{digits}e}} {{s}} {{s:E}} {{s:.{digits}}} \
+             {{d:+0{width}}} {{d:>{width}.{digits}}} {{s:*^{width}.{digits}e}}"
+        );
         let by_std = format!(
-            "{number} {number:?} {number:.digits$} {number:.digits$e} {single} {single:E} {single:.digits$}"
+            "{number} {number:?} {number:.digits$} {number:.digits$e} {single} {single:E} {single:.digits$} \
+             {number:+0width$} {number:>width$.digits$} {single:*^width$.digits$e}"
         );
         assert_eq!(text(&form, &pairs), by_std);
     }
