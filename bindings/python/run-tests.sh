@@ -5,7 +5,8 @@
 # The tests, and the examples of the docstrings and of README.md, run over the modules of this
 # folder, which call by ctypes; and over the package as pip installs it, without a network, with its
 # extension module, and with a wheel of the platform. Without the library, pip says what is missing.
-# mypy reads the types, where there is one. No file is left in this folder.
+# mypy reads the types, and html5lib the pages, where they are installed (Debian's mypy and
+# python3-html5lib); else this is told. No file is left in this folder.
 #
 # Without Python 3.9 or the library the run fails, but for CI_SKIP_BINDINGS=1, by which nothing is
 # run. Without pip, a C compiler or Python's headers, the package is not tested as it is installed, or
@@ -40,11 +41,12 @@ leave_out() {
 
 # suite NAME FOLDER: the tests over the package of a folder, which has the tests beside it.
 suite() {
-    if ! (cd "$2" && "$python" -m unittest discover -t . -s tests) >"$log" 2>&1; then
+    if ! (cd "$2" && "$python" -m unittest discover -v -t . -s tests) >"$log" 2>&1; then
         tail -n 60 "$log"
         stop "$1: a test failed"
     fi
-    grep '^rows that ran' "$log" || stop "$1: no rows ran"
+    grep -o 'rows that ran.*' "$log" || stop "$1: no rows ran"
+    sed -n "s/.*\\.\\.\\. skipped ['\"]\\(.*\\)['\"]$/bindings\\/python: skipped: \\1/p" "$log" | sort -u
     echo "bindings/python: $1: passed, $(sed -n 's/^Ran \([0-9]* tests\) .*/\1/p' "$log")"
 }
 
@@ -83,7 +85,7 @@ if command -v mypy >/dev/null; then
     mypy --cache-dir "$scratch/mypy" >"$log" 2>&1 || { tail -n 30 "$log"; stop 'mypy'; }
     echo "bindings/python: types: $(tail -n 1 "$log")"
 else
-    leave_out 'left out: mypy'
+    leave_out 'left out: the types, since mypy is not installed'
 fi
 
 [[ $before == $(find . | sort) ]] || stop 'a test leaves a file in this folder'
