@@ -58,9 +58,6 @@ ALPHABETS: Dict[str, List[str]] = {
     + ["\\'", "$'", "$(", "${", "$a", "{a,", "..", "\\\n", "&&", ">&"],
 }
 
-# What shells run if it is a whole word.
-COMMANDS = frozenset(".:[")
-
 
 class Case(NamedTuple):
     """A format whose values all stand, with a row of them."""
@@ -91,9 +88,8 @@ def some_pieces(r: random.Random, escape: str, pad: str) -> List[Piece]:
 
 
 def a_word(r: random.Random) -> str:
-    """A value for a shell, which runs some texts and makes files."""
-    text = re.sub("[\0/]", "", a_value(r))
-    return text + "_" if text in COMMANDS else text
+    """A value for a shell, which may make a file of that name."""
+    return re.sub("[\0/]", "", a_value(r))
 
 
 @functools.lru_cache(maxsize=None)
@@ -253,7 +249,10 @@ def read_by(shell: str, texts: Sequence[str]) -> List[List[str]]:
 def words_of(shell: str, texts: Sequence[str]) -> List[List[str]]:
     """These words of the texts up to the one that ends the shell, or of all, and no words. The shell
     runs in an empty folder, and finds no other command."""
-    lines = ["set -f; unset PWD OLDPWD", "command_not_found_handle() { printf '%s\\0' not-found \"$@\"; }"]
+    lines = [
+        "set -f; unset PWD OLDPWD; enable -n . : [",
+        "command_not_found_handle() { printf '%s\\0' not-found \"$@\"; }",
+    ]
     for text in texts:
         lines.append("command eval " + shlex.quote(f"printf '%s\\0' {text}\n"))
         lines.append("wait; printf '%s\\0' --next--; unset a")
