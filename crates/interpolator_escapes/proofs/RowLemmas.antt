@@ -1,5 +1,5 @@
--- A list, each of whose items is written between quotes, is a record.
-use Rattle.std.proofs.Common.{◌≡◌, ℕ, List, [], ◌∷◌, ◌++◌, refl, ap, ◌∙◌}
+-- A list between quotes, with a quote, a comma and a quote between two items, is a record.
+use Rattle.std.proofs.Common.{◌≡◌, ℕ, List, [], ◌∷◌, ◌++◌, refl, ap, sym, ◌∙◌, append_assoc}
 use Rattle.std.proofs.Common.{append-nil, flat_map, map, codes, Option, Some, None, length, take}
 use Rattle.interpolator_render.specs.declared.view.Trait.{Trait}
 use Rattle.interpolator_render.specs.declared.view.Trait.TheVariants.{Display}
@@ -25,7 +25,7 @@ use Rattle.interpolator_escapes.specs.FormatParts.{view_parts, found_parts, part
 use Rattle.interpolator_escapes.specs.FormatParts.{items_parts, value_parts, parts_of}
 use Rattle.interpolator_escapes.specs.Languages.{read_by}
 use Rattle.interpolator_escapes.specs.Parts.{Part, literal, assembled}
-use Rattle.interpolator_escapes.specs.Records.{fields_after, fields_of, quoted_field, quoted_record}
+use Rattle.interpolator_escapes.specs.Records.{fields_after, fields_of, quoted_record}
 use Rattle.interpolator_escapes.specs.Records.{row_format, text_or_empty, displayed, item_text}
 use Rattle.interpolator_escapes.specs.declared.escape.Escape.TheVariants.{Csv}
 use Rattle.interpolator_escapes.proofs.FormatPartLemmas.{whole-append, escaped_parts}
@@ -36,28 +36,34 @@ take_all [] = refl
 take_all (x ∷ xs) = ap (λ ys. x ∷ ys) (take_all xs)
 
 module _ {X : Type 0} (shows : X → Trait → Spec → Shown) where
-  -- an item between quotes
+  -- an item
   abbrev ItemParts : Slots X → List Part
   ItemParts item =
-      literal (34 ∷ [])
-      ∷ (value_parts csv_escape shows Display plain_spec (slot_at Display (values_of item))
-      ++ literal (34 ∷ []) ∷ [])
+      value_parts csv_escape shows Display plain_spec (slot_at Display (values_of item)) ++ []
+
+  -- what comes between two
+  abbrev Border : List Part
+  Border = literal (34 ∷ 44 ∷ 34 ∷ []) ∷ []
 
   abbrev RowParts : List (Slots X) → List Part
-  RowParts xs = items_parts (literal (44 ∷ []) ∷ []) ItemParts xs
+  RowParts xs = items_parts Border ItemParts xs
+
+  -- parts between quotes
+  abbrev Quoted : List Part → List Part
+  Quoted ps = literal (34 ∷ []) ∷ (ps ++ literal (34 ∷ []) ∷ [])
 
   row_parts : (e : Environment X) → parts_of csv_escape shows e (outermost row_format)
-      ≡ found_parts (λ found. found_parts (λ xs. RowParts (chosen_items None xs)) (items found))
-      (slots_under e (codes "row")) ++ []
+      ≡ Quoted (found_parts
+      (λ found. found_parts (λ xs. RowParts (chosen_items None xs)) (items found))
+      (slots_under e (codes "row")))
   unfolding nodes first_token argument_from argument_at spec_after spec_from_sign list_at range_at
       group_at
   row_parts e = refl
 
   found_row : (e : Environment X) (found : Slots X) (xs : List (Slots X))
       → slots_under e (codes "row") ≡ Some found → items found ≡ Some xs
-      → parts_of csv_escape shows e (outermost row_format) ≡ RowParts xs
-  found_row e found xs h j =
-      rw (row_parts e, h, j, take_all xs, append-nil (RowParts xs)) refl
+      → parts_of csv_escape shows e (outermost row_format) ≡ Quoted (RowParts xs)
+  found_row e found xs h j = rw (row_parts e, h, j, take_all xs) refl
 
   -- ---- their text
 
@@ -74,28 +80,36 @@ module _ {X : Type 0} (shows : X → Trait → Spec → Shown) where
   slot_text None = refl
   slot_text (Some x) = view_text_of (view_text (shows x Display plain_spec) Display plain_spec)
 
-  quoted_item : (item : Slots X) → Text (ItemParts item) ≡ quoted_field (item_text shows item)
-  quoted_item item =
+  item_whole : (item : Slots X)
+      → Text (ItemParts item) ≡ flat_map csv_escape (item_text shows item)
+  item_whole item =
       let ps = value_parts csv_escape shows Display plain_spec (slot_at Display (values_of item)) in
-      ap (λ cs. 34 ∷ cs) (whole-append csv_escape ps (literal (34 ∷ []) ∷ [])
-      ∙ ap (λ cs. cs ++ 34 ∷ []) (slot_text (slot_at Display (values_of item))))
+      ap Text (append-nil ps) ∙ slot_text (slot_at Display (values_of item))
 
-  after_text : (xs : List (Slots X)) → Text (parts_after (literal (44 ∷ []) ∷ []) ItemParts xs)
-      ≡ fields_after (map (item_text shows) xs)
+  field_text : (item : Slots X) (rest : List Part) (texts : List (List ℕ))
+      → Text rest ++ 34 ∷ [] ≡ 34 ∷ fields_after texts
+      → Text (ItemParts item ++ rest) ++ 34 ∷ []
+      ≡ (flat_map csv_escape (item_text shows item) ++ 34 ∷ []) ++ fields_after texts
+  field_text item rest texts h =
+      let field = flat_map csv_escape (item_text shows item) in
+      ap (λ cs. cs ++ 34 ∷ []) (whole-append csv_escape (ItemParts item) rest
+      ∙ ap (λ cs. cs ++ Text rest) (item_whole item))
+      ∙ append_assoc field (Text rest) (34 ∷ [])
+      ∙ ap (λ cs. field ++ cs) h
+      ∙ sym (append_assoc field (34 ∷ []) (fields_after texts))
+
+  after_text : (xs : List (Slots X)) → Text (parts_after Border ItemParts xs) ++ 34 ∷ []
+      ≡ 34 ∷ fields_after (map (item_text shows) xs)
   after_text [] = refl
   after_text (x ∷ xs) =
-      let rest = parts_after (literal (44 ∷ []) ∷ []) ItemParts xs in
-      ap (λ cs. 44 ∷ cs) (whole-append csv_escape (ItemParts x) rest
-      ∙ ap (λ cs. cs ++ Text rest) (quoted_item x)
-      ∙ ap (λ cs. quoted_field (item_text shows x) ++ cs) (after_text xs))
+      ap (λ cs. 34 ∷ 44 ∷ 34 ∷ cs) (field_text x (parts_after Border ItemParts xs)
+      (map (item_text shows) xs) (after_text xs))
 
   row_text : (x : Slots X) (xs : List (Slots X))
-      → Text (RowParts (x ∷ xs)) ≡ quoted_record (map (item_text shows) (x ∷ xs))
+      → Text (Quoted (RowParts (x ∷ xs))) ≡ quoted_record (map (item_text shows) (x ∷ xs))
   row_text x xs =
-      let rest = parts_after (literal (44 ∷ []) ∷ []) ItemParts xs in
-      whole-append csv_escape (ItemParts x) rest
-      ∙ ap (λ cs. cs ++ Text rest) (quoted_item x)
-      ∙ ap (λ cs. quoted_field (item_text shows x) ++ cs) (after_text xs)
+      ap (λ cs. 34 ∷ cs) (whole-append csv_escape (RowParts (x ∷ xs)) (literal (34 ∷ []) ∷ [])
+      ∙ field_text x (parts_after Border ItemParts xs) (map (item_text shows) xs) (after_text xs))
 
   pub row_read : (e : Environment X) (found x : Slots X) (xs : List (Slots X))
       → slots_under e (codes "row") ≡ Some found → items found ≡ Some (x ∷ xs)

@@ -41,9 +41,9 @@ fields_of (structure c ∷ ts) =
 
 -- ---- a list as a record
 
--- the items of `row`, each between quotes, with a comma between two
+-- the items of `row`, with a quote, a comma and a quote between two, all between quotes
 abbrev pub row_format : List ℕ
-row_format = codes "{row:i(\"{}\")(,)}"
+row_format = codes "\"{row:i({})(\",\")}\""
 
 -- the text of a view, empty if there is none
 abbrev pub text_or_empty : ViewText → List ℕ

@@ -69,8 +69,8 @@ pub fn a_record_is_read_back()
         → fields_of (read_by Csv (quoted_record (text ∷ texts))) ≡ text ∷ texts }
 {}
 
-/// A list is a record, by the format `{row:i("{}")(,)}` with its values escaped: it is read as a field
-/// for each item, which has the text that the item displays.
+/// A list is a record, by the format `"{row:i({})(",")}"` with its values escaped: it is read as a
+/// field for each item, which has the text that the item displays.
 pub fn a_list_is_a_record<V: Value>()
     ensures { (e : Environment V) (found item : Slots V) (others : List (Slots V))
         → slots_under e (codes "row") ≡ Some found → items found ≡ Some (item ∷ others)
@@ -132,6 +132,7 @@ pub fn worked_places()
         (outermost (codes "<title>Fruit</title>{a}")) html_start }
     ensures csv { Stands csv_step is_csv_place field_start
         (outermost (codes "\"{a}\",\"{b:>9}\"")) quote_seen }
+    ensures row { Stands csv_step is_csv_place field_start (outermost row_format) quote_seen }
     ensures lines { Stands control_step everywhere tt
         (outermost (codes "{time} C:\\{a:>9} {l:9i({})(, )}")) tt }
 {}

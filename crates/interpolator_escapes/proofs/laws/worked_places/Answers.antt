@@ -57,6 +57,15 @@ returns c = record {
       ),
     ),
   );
+  row = (
+    quoted,
+    refl,
+    (
+      quoted,
+      ((quoted, (refl, refl), refl), (quoted, refl, refl), tt, refl),
+      (quote_seen, refl, refl),
+    ),
+  );
   lines = (
     tt,
     (refl, refl),
