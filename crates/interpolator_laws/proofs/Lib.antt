@@ -1,6 +1,7 @@
 -- The lemmas of the laws.
 mod CheckLawLemmas
 mod ContiguousLemmas
+mod EscapedLemmas
 mod FaultLemmas
 mod FloatLengthLemmas
 mod InnermostLemmas

@@ -1,12 +1,14 @@
-//! Formats whose values are written escaped: by a page, prepared, and by the law that no value leaves
-//! its place.
+//! Formats whose values are written escaped: by a page, prepared, and by laws.
 
 use crate::report::Report;
 use interpolator::{
     Error, Escape, EscapedTemplate, Formattable, Interpolate, PlaceError, Template, TextBuffer,
     Values, View, Why, items_of, list, values,
 };
-use interpolator_laws::escaped::no_value_leaves_its_place;
+use interpolator_laws::escaped::{
+    a_line_stays_a_line, a_list_is_a_record, an_escape_makes_no_fault, no_value_leaves_its_place,
+    values_come_back,
+};
 use std::alloc::Global;
 
 /// An escape, a format, and what it means with the values below.
@@ -62,7 +64,7 @@ fn page_of(alloc: Global, escape: Escape, format: &str) -> Result<Option<Escaped
     }
 }
 
-/// A page, written, made and prepared, and made by the law.
+/// A page, written, made and prepared, and made by the laws of all pages.
 fn shown(
     report: &mut Report,
     page: &EscapedTemplate,
@@ -77,6 +79,8 @@ fn shown(
     report.text("a page, made", wanted, text.as_str());
     let text = no_value_leaves_its_place(alloc, page, row)?;
     report.text("a page, made by the law", wanted, text.as_str());
+    let text = values_come_back(alloc, page, row)?;
+    report.text("a page, read back", wanted, text.as_str());
     let line = page.prepare_named(alloc, row)?;
     out.clear();
     line.write_named(alloc, &mut out, row)?;
@@ -109,6 +113,55 @@ fn misplaced(report: &mut Report) -> Result<(), Error> {
     Ok(())
 }
 
+/// A line of values with controls, and a list as a record of CSV.
+fn lines_and_records(report: &mut Report, row: &Values<'_>) -> Result<(), Error> {
+    let alloc = report.alloc;
+    match page_of(alloc, Escape::Line, "user {c}: {a}")? {
+        Some(line) => {
+            let text = a_line_stays_a_line(alloc, &line, row)?;
+            report.text("a line", "user \\t\\\\: <&>\"x", text.as_str());
+        }
+        None => report.holds("a line", false),
+    }
+    match page_of(alloc, Escape::Csv, "\"{row:i({})(\",\")}\"")? {
+        Some(record) => {
+            let text = a_list_is_a_record(alloc, &record, row)?;
+            report.text("a record", "\"<\",\"\"\"\"", text.as_str());
+        }
+        None => report.holds("a record", false),
+    }
+    Ok(())
+}
+
+/// Formats that fail, and one that does not, as they are and escaped.
+fn faults(report: &mut Report, row: &Values<'_>) -> Result<(), Error> {
+    let alloc = report.alloc;
+    for (format, fault) in [
+        ("{a}{missing}", "MissingValue(\"missing\", 4)"),
+        ("{b:x}", "MissingTraitImpl(LowerHex, 4)"),
+        ("{l:.1i}", "Parse(Iter(6))"),
+        ("{a:>5y}", "Parse(Expected(\"}\", 5))"),
+    ] {
+        match page_of(alloc, Escape::Html, format)? {
+            Some(page) => {
+                let (plain, escaped) = an_escape_makes_no_fault(alloc, &page, row);
+                report.fault(format, fault, plain);
+                report.fault(format, fault, escaped);
+            }
+            None => report.holds(format, false),
+        }
+    }
+    match page_of(alloc, Escape::Html, "{b}")? {
+        Some(page) => {
+            let (plain, escaped) = an_escape_makes_no_fault(alloc, &page, row);
+            report.made("no fault", ("it's", ""), plain);
+            report.made("no fault, escaped", ("it&#39;s", ""), escaped);
+        }
+        None => report.holds("no fault", false),
+    }
+    Ok(())
+}
+
 /// The checks of escaped formats.
 pub fn run(report: &mut Report) -> Result<(), Error> {
     report.begin("escaped");
@@ -117,8 +170,10 @@ pub fn run(report: &mut Report) -> Result<(), Error> {
     let items = items_of(alloc, &marks)?;
     let row = values!(
         a:debug_display = "<&>\"x", b = "it's", c:debug_display = "\t\\", n:integer = -7i32,
-        l:i = &items
+        l:i = &items, row:i = &items
     );
     pages(report, &row)?;
+    lines_and_records(report, &row)?;
+    faults(report, &row)?;
     misplaced(report)
 }

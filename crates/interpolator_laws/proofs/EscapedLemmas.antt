@@ -1,0 +1,80 @@
+-- What holds of an escaped format's meaning holds of its text.
+use Rattle.std.proofs.Common.{◌≡◌, ◌⊎◌, inl, inr, ap, sym, ◌∙◌, refl, subst, chars}
+use Rattle.std.proofs.Common.{ℕ, List, Some, None, option_map, Result, Ok, Err}
+use Rattle.std.specs.Prelude.{IfOk, string_bytes}
+use Rattle.std.specs.declared.string.String.{String}
+use Rattle.interpolator_render.specs.declared.view.Trait.{Trait}
+use Rattle.interpolator_render.specs.declared.view.Spec.{Spec}
+use Rattle.interpolator_render.specs.Views.{Shown}
+use Rattle.interpolator_syntax.specs.At.{outermost, text_of}
+use Rattle.interpolator_syntax.specs.Faults.{fault, answer_of, no_memory, result_answer}
+use Rattle.interpolator_syntax.specs.declared.error.Error.{Error}
+use Rattle.interpolator_eval.specs.Meaning.Environments.{Environment}
+use Rattle.interpolator_eval.specs.Meaning.Meanings.{Meaning, means}
+use Rattle.interpolator_eval.specs.Meaning.Outcomes.{Formats}
+use Rattle.interpolator_escapes.specs.Escapes.{escape_of}
+use Rattle.interpolator_escapes.specs.Formats.{Stands, escaped_shows}
+use Rattle.interpolator_escapes.specs.Lines.{control_step, everywhere}
+use Rattle.interpolator_escapes.specs.Placing.{StandsFor}
+use Rattle.interpolator_escapes.specs.Records.{row_format}
+use Rattle.interpolator_escapes.specs.declared.escape.Escape.{Escape}
+use Rattle.interpolator_escapes.specs.declared.escape.Escape.TheVariants.{Line, Html, Csv, Json}
+use Rattle.interpolator_escapes.specs.declared.escape.Escape.TheVariants.{Shell}
+
+-- what a meaning's text has if it has no fault
+abbrev pub Meant : (List ℕ → Type 0) → Meaning → Type 0
+Meant P m = m.fault ≡ None → P (text_of m.text)
+
+module _ {Z : Type 0} where
+  pub made_text : (P : List ℕ → Type 0) (m : Meaning) (result : Result (String Z) Error)
+      → Formats m result → Meant P m → IfOk result (λ text. P (chars (string_bytes text)))
+  made_text P m (Ok text) formats meant = subst P (sym formats.1) (meant formats.0)
+  made_text P m (Err error) formats meant = tt
+
+  -- two answers of one fault, unless there was no memory
+  abbrev pub SameAnswer : Result (String Z) Error → Result (String Z) Error → Type 0
+  SameAnswer r s =
+      (result_answer r ≡ Some no_memory) ⊎ (result_answer s ≡ Some no_memory)
+      ⊎ (result_answer r ≡ result_answer s)
+
+  pub same_answer : (m k : Meaning) (r s : Result (String Z) Error) → k.fault ≡ m.fault
+      → Formats m r → Formats k s → SameAnswer r s
+  same_answer m k (Ok text) (Ok other) e h j = inr (inr refl)
+  same_answer m k (Ok text) (Err error) e h (inl out) = inr (inl (ap Some out))
+  same_answer m k (Ok text) (Err error) e h (inr told) =
+      let none : k.fault ≡ None = e ∙ h.0 in
+      let nothing : Some (answer_of error) ≡ None = told ∙ ap (option_map fault) none in
+      absurd (cc)
+  same_answer m k (Err error) s e (inl out) j = inl (ap Some out)
+  same_answer m k (Err error) (Ok text) e (inr told) j =
+      let none : m.fault ≡ None = sym e ∙ j.0 in
+      let nothing : Some (answer_of error) ≡ None = told ∙ ap (option_map fault) none in
+      absurd (cc)
+  same_answer m k (Err error) (Err other) e (inr told) (inl out) = inr (inl (ap Some out))
+  same_answer m k (Err error) (Err other) e (inr told) (inr other_told) =
+      inr (inr (told ∙ sym (other_told ∙ ap (option_map fault) e)))
+
+module _ {X : Type 0} (shows : X → Trait → Spec → Shown) (e : Environment X)
+    (P : List ℕ → Type 0) where
+  abbrev Escaped : Escape → List ℕ → Meaning
+  Escaped escape cs = means (escaped_shows (escape_of escape) shows) e (outermost cs)
+
+  -- of a line
+  pub line_meant : (escape : Escape) (cs : List ℕ) → escape ≡ Line
+      → StandsFor escape (outermost cs)
+      → (Stands control_step everywhere tt (outermost cs) tt → Meant P (Escaped Line cs))
+      → Meant P (Escaped escape cs)
+  line_meant Line cs same stands law = law stands
+  line_meant Html cs same stands law = absurd (cc)
+  line_meant Csv cs same stands law = absurd (cc)
+  line_meant Json cs same stands law = absurd (cc)
+  line_meant Shell cs same stands law = absurd (cc)
+
+  -- of a list as a record
+  pub row_meant : (escape : Escape) (cs : List ℕ) → escape ≡ Csv → cs ≡ row_format
+      → Meant P (Escaped Csv row_format) → Meant P (Escaped escape cs)
+  row_meant Csv cs same text law = subst (λ ds. Meant P (Escaped Csv ds)) (sym text) law
+  row_meant Line cs same text law = absurd (cc)
+  row_meant Html cs same text law = absurd (cc)
+  row_meant Json cs same text law = absurd (cc)
+  row_meant Shell cs same text law = absurd (cc)
