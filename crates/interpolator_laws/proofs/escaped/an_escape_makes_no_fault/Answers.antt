@@ -14,6 +14,6 @@ returns g c =
     let e = environment (g.C.Context.finds c.args.context.now) in
     let a = outermost (chars c.args.page.now.text) in
     same_answer (means shows e a) (means (escaped_shows (escape_of escape) shows) e a)
-    c.format_template.result c.format_escaped.result (c.escapes_make_no_fault.ensures escape e a)
-    (rw c.template.ensures.template at c.format_template.ensures.formats)
-    c.format_escaped.ensures.formats
+    c.format_template-plain.result c.format_escaped-escaped.result (c.escapes_make_no_fault.ensures escape e a)
+    (rw c.template.ensures.template at c.format_template-plain.ensures.formats)
+    c.format_escaped-escaped.ensures.formats
