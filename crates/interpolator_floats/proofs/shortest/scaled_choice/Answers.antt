@@ -9,17 +9,17 @@ use Rattle.interpolator_floats.proofs.shortest.scaled_choice.Goals as goal
 pub first_inside-low-requires : goal.first_inside-low-requires
 first_inside-low-requires c =
     let scale = c.scale_of-scale in
-    omega (arith, c.units_in.ensures.count, count_short (4 * c.args.mantissa - c.args.half) c.args.power c.args.half scale.result.up scale.result.down (omega (arith, c.requires.short)) c.requires.least scale.ensures.scale)
+    omega (arith, c.quick_units-below.ensures.count, count_short (4 * c.args.mantissa - c.args.half) c.args.power c.args.half scale.result.up scale.result.down (omega (arith, c.requires.short)) c.requires.least scale.ensures.scale)
 
 pub last_inside-high-requires : goal.last_inside-high-requires
 last_inside-high-requires c =
     let scale = c.scale_of-scale in
-    omega (arith, c.units_in-2.ensures.count, last_some c.args.mantissa c.args.half (units_down c.args.power scale.result.down) (units_up scale.result.up) c.requires.some c.requires.most scale.ensures.scale.finer (unit_some scale.result.up))
+    omega (arith, c.quick_units-above.ensures.count, last_some c.args.mantissa c.args.half (units_down c.args.power scale.result.down) (units_up scale.result.up) c.requires.some c.requires.most scale.ensures.scale.finer (unit_some scale.result.up))
 
 pub overflow_add-near : goal.overflow_add-near
 overflow_add-near c =
     let scale = c.scale_of-scale in
-    omega (arith, c.units_in-3.ensures.count, count_short (8 * c.args.mantissa) c.args.power c.args.half scale.result.up scale.result.down (omega (arith, c.requires.short)) c.requires.least scale.ensures.scale)
+    omega (arith, c.quick_units-twice.ensures.count, count_short (8 * c.args.mantissa) c.args.power c.args.half scale.result.up scale.result.down (omega (arith, c.requires.short)) c.requires.least scale.ensures.scale)
 
 pub returns-clause-choice : goal.returns-clause-choice
 returns-clause-choice c =
@@ -29,13 +29,13 @@ returns-clause-choice c =
     let d = units_down c.args.power scale.result.down in
     let unit = units_up scale.result.up in
     let U = unit_some scale.result.up in
-    let first = c.first_inside-low.ensures ((4 * m - half) * d) unit U (sym c.units_in.ensures.count) c.units_in.ensures.some c.units_in.ensures.none in
-    let last = c.last_inside-high.ensures ((4 * m + 2) * d) unit U (sym c.units_in-2.ensures.count) c.units_in-2.ensures.some c.units_in-2.ensures.none in
+    let first = c.first_inside-low.ensures ((4 * m - half) * d) unit U (sym c.quick_units-below.ensures.count) c.quick_units-below.ensures.some c.quick_units-below.ensures.none in
+    let last = c.last_inside-high.ensures ((4 * m + 2) * d) unit U (sym c.quick_units-above.ensures.count) c.quick_units-above.ensures.some c.quick_units-above.ensures.none in
     let odd = slack_odd m half c.requires.least c.requires.most c.requires.even in
     let finer = scale.ensures.scale.finer in
     let wide = scale.ensures.scale.least in
-    let q = c.units_in-3.result.count in
-    let twice = sym c.units_in-3.ensures.count in
+    let q = c.quick_units-twice.result.count in
+    let twice = sym c.quick_units-twice.ensures.count in
     let low = c.first_inside-low.result in
     let high = c.last_inside-high.result in
     c.decided.ensures (4 * (m * d)) unit (half * d + slack m) (2 * d + slack m) U
@@ -56,13 +56,13 @@ returns-clause-some c =
     let d = units_down c.args.power scale.result.down in
     let unit = units_up scale.result.up in
     let U = unit_some scale.result.up in
-    let first = c.first_inside-low.ensures ((4 * m - half) * d) unit U (sym c.units_in.ensures.count) c.units_in.ensures.some c.units_in.ensures.none in
-    let last = c.last_inside-high.ensures ((4 * m + 2) * d) unit U (sym c.units_in-2.ensures.count) c.units_in-2.ensures.some c.units_in-2.ensures.none in
+    let first = c.first_inside-low.ensures ((4 * m - half) * d) unit U (sym c.quick_units-below.ensures.count) c.quick_units-below.ensures.some c.quick_units-below.ensures.none in
+    let last = c.last_inside-high.ensures ((4 * m + 2) * d) unit U (sym c.quick_units-above.ensures.count) c.quick_units-above.ensures.some c.quick_units-above.ensures.none in
     let odd = slack_odd m half c.requires.least c.requires.most c.requires.even in
     let finer = scale.ensures.scale.finer in
     let wide = scale.ensures.scale.least in
-    let q = c.units_in-3.result.count in
-    let twice = sym c.units_in-3.ensures.count in
+    let q = c.quick_units-twice.result.count in
+    let twice = sym c.quick_units-twice.ensures.count in
     let low = c.first_inside-low.result in
     let high = c.last_inside-high.result in
     let choice = c.decided.ensures (4 * (m * d)) unit (half * d + slack m) (2 * d + slack m) U
