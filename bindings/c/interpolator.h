@@ -468,10 +468,18 @@ typedef struct {
   void *at;
 } rattle_block;
 
-rattle_block rattle_alloc(size_t size, size_t align);
+/* Define them where this header is included: the shared library then finds them even in a program that
+ * is compiled by -fvisibility=hidden. */
+#ifdef __GNUC__
+#define INTERPOLATOR_SEEN __attribute__((visibility("default")))
+#else
+#define INTERPOLATOR_SEEN
+#endif
+
+INTERPOLATOR_SEEN rattle_block rattle_alloc(size_t size, size_t align);
 /* The first `kept` bytes are kept. If it refuses, the old block stays as it is. */
-rattle_block rattle_realloc(void *at, size_t kept, size_t size, size_t align);
-void rattle_dealloc(void *at);
+INTERPOLATOR_SEEN rattle_block rattle_realloc(void *at, size_t kept, size_t size, size_t align);
+INTERPOLATOR_SEEN void rattle_dealloc(void *at);
 
 /* ---- Making fields */
 

@@ -232,6 +232,7 @@ step 'rows of the conformance suite' "$scratch/rows"
 step 'rows of the conformance suite, under valgrind' "${valgrind_of[@]}" "$scratch/rows"
 step 'bytes by chance, under valgrind' "${valgrind_of[@]}" "$scratch/bytes" 3000
 step 'each allocation refused in turn' "${valgrind_of[@]}" "$scratch/memory"
+step 'the same by the shared library, all else hidden' "$scratch/memory_shared"
 step 'threads' "$scratch/threads"
 step 'threads, under valgrind' "${valgrind_of[@]}" "$scratch/threads"
 step 'the catalogue' catalogue "$scratch/catalogue"
