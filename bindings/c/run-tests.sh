@@ -56,11 +56,11 @@ names_are_known() {
         [[ $(printf '%s\n' $wanted | grep -vxE 'rattle_(alloc|realloc|dealloc)|mem(cpy|move|set|cmp)|bcmp|__u(div|mod)ti3' | wc -l) -eq 0 ]]
 }
 
-# What the example writes of a file with one broken format: to the output the others, to the errors the
-# picture. No message is too long for it.
+# What the example writes of a file with two broken formats: to the output the others, to the errors
+# what is wrong with these. No message is too long for it.
 catalogue() {
     {
-        printf 'Dear {name},\nyou have {count:>3} new {messages}\n{count:x} in hexadecimal\n{name:>5000}\n'
+        printf 'Dear {name},\nyou have {count:>3} new {messages}\n\xff{count:x}\n{count:x} in hexadecimal\n{name:>5000}\n'
         printf '{total:*>8}|{total:.1}|{total:+08.3}|{total:e}|{total:>900}'
     } >"$scratch/messages.txt"
     local status=0
@@ -76,6 +76,7 @@ messages.txt:2:26: specified value not in context `messages` at 25
   |
 2 | you have {count:>3} new {messages}
   |                         ~^~~~~~~~~
+messages.txt:3: not UTF-8
 END
     [[ $status -eq 1 ]]
 }

@@ -66,8 +66,8 @@ static int holds(const interpolator_source *source, const interpolator_field *ex
       enlarge(room, got.message);
       continue;
     }
-    if (got.message == 0)
-      fprintf(stderr, "%s:%lu: not UTF-8", source->name.at, (unsigned long)source->first_line);
+    if (got.code > INTERPOLATOR_UNSUPPORTED) /* a sentence alone */
+      fprintf(stderr, "%s:%lu: ", source->name.at, (unsigned long)source->first_line);
     fwrite(room->at, 1, got.message, stderr);
     putc('\n', stderr);
     return 0;
