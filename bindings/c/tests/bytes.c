@@ -58,7 +58,9 @@ static interpolator_bytes text_of(size_t longest) {
 
 static interpolator_field field_of(const interpolator_lent *lent, size_t lent_count) {
   static const char *const names[] = {"a", "b", "c", "", "\xff"};
-  interpolator_field field = interpolator_of(names[below(5)], (uint32_t)below(15));
+  /* the last is no kind */
+  interpolator_field field = interpolator_of(names[below(5)], (uint32_t)below(17));
+  uint64_t bits = state << below(2);
   field.text = text_of(6);
   field.lent = lent;
   field.lent_count = below(lent_count + 1);
@@ -66,6 +68,10 @@ static interpolator_field field_of(const interpolator_lent *lent, size_t lent_co
   field.number = (int64_t)(state << below(60));
   field.natural = below(2) ? below(0x120000) : state << below(60);
   field.upper = state >> below(60);
+  /* a scale says how many digits are written */
+  if (field.kind == INTERPOLATOR_DECIMAL) field.upper = below(40) + ((uint64_t)!below(8) << 32);
+  memcpy(&field.real, &bits, sizeof field.real);
+  memcpy(&field.single, &bits, sizeof field.single);
   field.first = below(ITEMS + 2);
   field.end = field.first + below(3);
   return field;

@@ -61,6 +61,25 @@ static int finds_faults(const row *of) {
          && interpolator_cost(format, sizeof format - 1, 9, 2).code == INTERPOLATOR_OK;
 }
 
+static int escapes(const row *of, int number) {
+  static const char page[] = "<i>{thread:<}</i>{name}", tag[] = "<i {thread}>";
+  interpolator_field fields[2];
+  interpolator_argument found[2];
+  interpolator_answer got;
+  char room[64], wanted[64];
+  fields[0] = of->fields[0];
+  fields[1] = interpolator_text("name", "<&>");
+  sprintf(wanted, "<i>%d</i>&lt;&amp;&gt;", number);
+  got = interpolator_escaped(INTERPOLATOR_ESCAPE_HTML, page, sizeof page - 1, fields, 2, NULL, 0, room,
+                             sizeof room);
+  if (!is_text(got, room, wanted)) return 0;
+  got = interpolator_escaped(INTERPOLATOR_ESCAPE_HTML, tag, sizeof tag - 1, fields, 2, NULL, 0, room,
+                             sizeof room);
+  if (got.code != INTERPOLATOR_MISPLACED || got.place != 3) return 0;
+  got = interpolator_arguments(page, sizeof page - 1, found, 2);
+  return got.length == 2 && found[1].name_first == 18 && found[0].request.alignment == 1;
+}
+
 static int writes_a_table(int number, int call) {
   interpolator_field columns[1], cells[2];
   char room[64], wanted[64];
@@ -83,7 +102,9 @@ static void *run(void *given) {
     snprintf(wanted, sizeof wanted, "thread %d, call %5d: [%d|%d] %d.5", number, k, number, k,
              number);
     fill(&of, number, k);
-    if (!writes(&of, wanted) || !finds_faults(&of) || !writes_a_table(number, k)) ++*wrong;
+    if (!writes(&of, wanted) || !finds_faults(&of) || !escapes(&of, number)
+        || !writes_a_table(number, k))
+      ++*wrong;
   }
   return wrong;
 }
