@@ -10,6 +10,7 @@
 #ifndef INTERPOLATOR_HPP
 #define INTERPOLATOR_HPP
 #include "interpolator.h"
+#include "interpolator_pictures.h"
 
 #include <algorithm>
 #include <cstddef>
@@ -19,6 +20,7 @@
 #include <initializer_list>
 #include <map>
 #include <memory>
+#include <new>
 #include <optional>
 #include <stdexcept>
 #include <string>
@@ -587,12 +589,29 @@ struct source {
   std::size_t start = 0; // the byte of the text at which the format begins
 };
 
+namespace detail {
+
+inline interpolator_source source_of(const source &where) {
+  return {bytes_of(where.name), bytes_of(where.text), where.first_line, where.start};
+}
+
+// Keeps a picture; without memory for it, it wants no more.
+inline int keep(void *with, const interpolator_fault *, const char *picture, std::size_t length) {
+  try {
+    static_cast<std::vector<std::string> *>(with)->emplace_back(picture, length);
+    return 0;
+  } catch (...) {
+    return 1;
+  }
+}
+
+} // namespace detail
+
 // A fault as a compiler shows it, or nothing if there are no more than `which` faults.
 inline std::optional<std::string> explain(const source &where, std::string_view format,
                                           const fields &examples, std::size_t which = 0) {
   const detail::laid of(format, examples);
-  const interpolator_source from{detail::bytes_of(where.name), detail::bytes_of(where.text),
-                                 where.first_line, where.start};
+  const interpolator_source from = detail::source_of(where);
   result got = detail::answered(
       [&](char *room, std::size_t size) {
         return interpolator_explain(&from, format.data(), format.size(), of.row(), of.count(),
@@ -602,6 +621,19 @@ inline std::optional<std::string> explain(const source &where, std::string_view 
   if (got) return std::nullopt;
   if (got.answer.code > INTERPOLATOR_UNSUPPORTED) throw error(got.answer, got.text);
   return std::move(got.text);
+}
+
+// All faults as a compiler shows them, in time linear in them.
+inline std::vector<std::string> explain_all(const source &where, std::string_view format,
+                                            const fields &examples) {
+  const detail::laid of(format, examples);
+  const interpolator_source from = detail::source_of(where);
+  std::vector<std::string> pictures;
+  const auto got = interpolator_explain_all(&from, format.data(), format.size(), of.row(), of.count(),
+                                            of.items(), of.item_count(), detail::keep, &pictures);
+  if (got.code != INTERPOLATOR_OK) throw error(got, detail::sentence_of(got.code));
+  if (pictures.size() < got.length) throw std::bad_alloc();
+  return pictures;
 }
 
 // The text of a format for each row of a table: the columns have a name and an example each, and

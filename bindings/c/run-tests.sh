@@ -97,6 +97,7 @@ sanitize() {
     cc -std=c99 "${sanitized[@]}" tests/bytes.c build/libinterpolator.a -o "$scratch/bytes_asan" &&
         cc -std=c99 "${sanitized[@]}" tests/calls.c build/libinterpolator.a -o "$scratch/calls_asan" &&
         cc -std=c99 "${sanitized[@]}" tests/numbers.c build/libinterpolator.a -lm -o "$scratch/numbers_asan" &&
+        cc -std=c99 "${sanitized[@]}" tests/pictures.c build/libinterpolator.a -o "$scratch/pictures_asan" &&
         cc -std=c99 -g -O1 -fsanitize=thread -Wall -I. tests/threads.c build/libinterpolator.a -pthread \
             -o "$scratch/threads_tsan" &&
         c++ -std=c++17 "${sanitized[@]}" tests/header.cpp build/libinterpolator.a -o "$scratch/header_asan" &&
@@ -229,6 +230,7 @@ step 'each call, by C++17' "${valgrind_of[@]}" "$scratch/calls_cpp"
 step 'the header for C++17' "${valgrind_of[@]}" "$scratch/header"
 step 'decimals and doubles, by C99' "${valgrind_of[@]}" "$scratch/numbers" 300
 step 'decimals and doubles, by C++17' "$scratch/numbers_cpp" 100000
+step 'pictures of all faults' "$scratch/pictures" 20000
 step 'rows of the conformance suite' "$scratch/rows"
 step 'rows of the conformance suite, under valgrind' "${valgrind_of[@]}" "$scratch/rows"
 step 'bytes by chance, under valgrind' "${valgrind_of[@]}" "$scratch/bytes" 3000
@@ -243,6 +245,7 @@ step 'threads, by these' "$scratch/threads_tsan"
 step 'each call, by these' "$scratch/calls_asan"
 step 'decimals and doubles, by these' "$scratch/numbers_asan" 20000
 step 'bytes by chance, by these' "$scratch/bytes_asan" 50000
+step 'pictures of all faults, by these' "$scratch/pictures_asan" 2000
 step 'the header for C++17, by these' "$scratch/header_asan"
 step 'the catalogue, by these' catalogue "$scratch/catalogue_asan"
 step 'the prices, by these' prices "$scratch/prices_asan"

@@ -207,6 +207,9 @@ static void faults_and_pictures() {
   WANT(picture && picture->substr(0, 11) == "m.txt:3:13:");
   WANT(!explain(line, "{name:x}", {{"name", 1}}));
   WANT(!explain(line, "{name:x}", {{"name", ""}}, 1));
+  const auto pictures = explain_all(line, "{name:x}", {{"name", ""}});
+  WANT(pictures.size() == 1 && pictures[0] == *picture);
+  WANT(explain_all(line, "{name:x}", {{"name", 1}}).empty());
   WANT(cost("{a:>40}{b}", 60, 0).characters == 120);
   WANT(arguments("{a}{l:i({})}").size() == 3);
 }
