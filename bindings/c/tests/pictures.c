@@ -93,9 +93,9 @@ static void compare(void) {
 static int sum(void *with, const interpolator_fault *fault, const char *picture, size_t length) {
   size_t *sums = (size_t *)with;
   (void)picture;
-  sums[0] += 1;
+  sums[0] += fault->place == 8 * sums[0] + 1;
   sums[1] += length;
-  return sums[0] == fault->place; /* never: each argument has eight bytes */
+  return 0;
 }
 
 /* Many faults in one line: by interpolator_explain that would take minutes. */
