@@ -1,5 +1,5 @@
-"""Makes the wheel: the package, the library, and the extension module, if there is a C compiler with
-Python's headers. It needs nothing but Python, so that `pip install .` works without a network, and
+"""Makes the wheel: the package, the library, the extension module, if there is a C compiler with
+Python's headers, and the program `catalogue`, if it was built. It needs nothing but Python, so that `pip install .` works without a network, and
 writes nothing into this folder.
 
 The library is the file that the environment variable `INTERPOLATOR_LIBRARY` names; else the one
@@ -13,6 +13,7 @@ import hashlib
 import os
 import re
 import shlex
+import stat
 import subprocess
 import sys
 import sysconfig
@@ -24,6 +25,7 @@ from typing import Any, Dict, List, Optional
 HERE = Path(__file__).resolve().parent.parent
 PACKAGE = HERE / "interpolator"
 C_BINDING = HERE.parent / "c"
+CATALOGUE = HERE.parent.parent / "crates" / "catalogue" / "out" / "catalogue"
 LICENCES = ("LICENSE-APACHE", "LICENSE-MIT")
 
 # The oldest Python whose stable calls the extension takes.
@@ -75,6 +77,8 @@ def build_wheel(
         files["interpolator/libinterpolator.so"] = library.read_bytes()
         if extension is not None:
             files[f"interpolator/{extension.name}"] = extension.read_bytes()
+    if CATALOGUE.is_file():
+        files["interpolator/catalogue"] = CATALOGUE.read_bytes()
     info = f"interpolator-{version}.dist-info"
     files[f"{info}/METADATA"] = _metadata(version).encode()
     files[f"{info}/WHEEL"] = (
@@ -185,6 +189,7 @@ def _write(path: Path, files: Dict[str, bytes], record: str) -> None:
 
 def _add(wheel: zipfile.ZipFile, name: str, content: bytes) -> None:
     entry = zipfile.ZipInfo(name, (2020, 1, 1, 0, 0, 0))
-    entry.external_attr = (0o755 if name.endswith(".so") else 0o644) << 16
+    is_run = name.endswith((".so", "/catalogue"))
+    entry.external_attr = (stat.S_IFREG | (0o755 if is_run else 0o644)) << 16
     entry.compress_type = zipfile.ZIP_DEFLATED
     wheel.writestr(entry, content)

@@ -1,28 +1,40 @@
-"""`python -m interpolator FILE ..` checks files of messages."""
+"""`python -m interpolator FILE ..` checks files of messages, by the program `catalogue --check`, which is
+proved.
+
+The program is the file that the environment variable `INTERPOLATOR_CATALOGUE` names; without that, the one
+beside the modules, where pip puts it if it was built; else that of `crates/catalogue`.
+"""
 
 from __future__ import annotations
 
 import argparse
 import os
+import subprocess
 import sys
-from typing import Optional, Sequence
+from pathlib import Path
+from typing import List, Optional, Sequence
 
-FAULT = 1
-UNREAD = 3
+NO_PROGRAM = 3
+
+_HERE = Path(__file__).resolve().parent
 
 _DESCRIPTION = """\
-Checks each message of some files. A line is `key = format`, or
-`key(name, n:, price:., items[]) = format`, which declares that the format is given a text `name`, a
-whole number `n`, a decimal `price` and a list of texts `items`. No two lines of a file have the same
-key. A line before all messages may be the rule of the file, as
-`plural: n == 0 ? zero : n == 1 ? one : other`. Blank lines, those that begin with `#`, and a byte
-order mark at the head are skipped. Each fault is shown in its line.
+Checks each message of some files: lines `key = format`, or `key(name, n:, price:., items[]) = format`, which
+declare what the format is given. Each fault is shown in its line, on standard error.
 """
 
 _STATUS = """\
 The exit status is 0 without a fault, 1 with one, 2 if the command line is wrong, and 3 if a file
-cannot be read or is not UTF-8.
+cannot be read or is not UTF-8, or if there is no program `catalogue`.
 """
+
+
+def candidates() -> List[Path]:
+    """Where the program may be."""
+    named = os.environ.get("INTERPOLATOR_CATALOGUE")
+    if named:
+        return [Path(named)]
+    return [_HERE / "catalogue", _HERE.parent.parent.parent / "crates" / "catalogue" / "out" / "catalogue"]
 
 
 def main(words: Optional[Sequence[str]] = None) -> int:
@@ -34,38 +46,17 @@ def main(words: Optional[Sequence[str]] = None) -> int:
         formatter_class=argparse.RawDescriptionHelpFormatter,
     )
     parser.add_argument("files", metavar="FILE", nargs="+", help="a file of messages, in UTF-8")
-    files = parser.parse_args(words).files
-    if hasattr(sys.stdout, "reconfigure"):
-        sys.stdout.reconfigure(errors="backslashreplace")
-    try:
-        status = max(_check(file) for file in files)
-        sys.stdout.flush()
-    except OSError as cause:
-        print(f"standard output: {cause.strerror or cause}", file=sys.stderr)
-        # so that nothing is written to it again when Python ends
-        os.dup2(os.open(os.devnull, os.O_WRONLY), sys.stdout.fileno())
-        return UNREAD
-    return status
-
-
-def _check(file: str) -> int:
-    """Shows the faults of a file, and returns the exit status for it."""
-    from ._messages import faults_in
-
-    try:
-        with open(file, "rb") as opened:
-            text = opened.read().decode("utf-8")
-    except OSError as cause:
-        print(f"{file}: {cause.strerror or cause}", file=sys.stderr)
-        return UNREAD
-    except UnicodeDecodeError as cause:
-        print(f"{file}: not UTF-8 at byte {cause.start}", file=sys.stderr)
-        return UNREAD
-    status = 0
-    for told in faults_in(file, text):
-        print(told)
-        status = FAULT
-    return status
+    files: List[str] = parser.parse_args(words).files
+    for program in candidates():
+        if program.is_file():
+            status = subprocess.run([str(program), "--check", *files]).returncode
+            return status if status >= 0 else 128 - status
+    missing = " and no ".join(map(str, candidates()))
+    print(
+        f"there is no {missing}: build the program by `rt run` in crates/catalogue, or let the environment "
+        "variable INTERPOLATOR_CATALOGUE name it",
+        file=sys.stderr)
+    return NO_PROGRAM
 
 
 if __name__ == "__main__":
