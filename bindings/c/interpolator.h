@@ -358,8 +358,8 @@ typedef struct {
 
 /* One of the faults that interpolator_faults finds, as a compiler shows it: the source's name, line and
  * column, what it is, and the line with its argument marked. `which` is its number; that of the first
- * is 0. Each call reads the whole format anew; interpolator_explain_all of interpolator_pictures.h shows all
- * faults in time linear in them.
+ * is 0. Each call reads the whole format anew; interpolator_explain_all of interpolator_pictures.h
+ * shows all faults in time linear in them.
  *
  * OK: there are no more than `which` faults; `length` is 0, and the room is as it was.
  * 1 to 5: the fault, at `place`. In place of the sentence there is the picture, of `message` bytes,

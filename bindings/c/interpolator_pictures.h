@@ -1,9 +1,10 @@
 /* interpolator_pictures.h: all faults of a format, as a compiler shows them, in time linear in them.
  *
  * interpolator_explain reads the whole format for each fault. This is C over the calls of
- * interpolator.h, tested and not proved: each fault is explained by a piece of the format, an argument
- * with what follows it, and a part of its line. Where that shows another fault, which the tests have not
- * seen, interpolator_explain shows this one. */
+ * interpolator.h, tested and not proved: each fault is explained by a piece of the format, which is an
+ * argument with what follows it, and by a part of its line. Where a piece shows another fault,
+ * interpolator_explain shows this one by the whole format. (The faults of one list count as those of
+ * one argument: each of them reads the whole list.) */
 #ifndef INTERPOLATOR_PICTURES_H
 #define INTERPOLATOR_PICTURES_H
 #include "interpolator.h"
@@ -17,8 +18,8 @@ extern "C" {
 typedef int interpolator_show(
     void *with, const interpolator_fault *fault, const char *picture, size_t length);
 
-/* How many bytes of a line are read on each side of a piece: more than the 120 characters that a picture
- * shows. */
+/* How many bytes of a line are read on each side of a piece: more than the 120 characters that a
+ * picture shows. */
 enum { INTERPOLATOR_AROUND = 512 };
 
 /* ---- What is read, for the functions below */
@@ -39,8 +40,8 @@ typedef struct {
   size_t item_count;
 } interpolator_located;
 
-/* A piece of a format, from `first` up to `end`, which begins at the byte `at` of the text, in the line of
- * this number, which begins at `line`, after `column` characters. */
+/* A piece of a format, from `first` up to `end`, which begins at the byte `at` of the text, in the
+ * line of this number, which begins at `line`, after `column` characters. */
 typedef struct {
   size_t first, end, at, line, number, column;
 } interpolator_piece;
@@ -129,8 +130,8 @@ static inline interpolator_piece interpolator_next_piece(
   return piece;
 }
 
-/* The text around a piece: its line from at most so many bytes before it, and what follows it up to the
- * line's end, or so many bytes. */
+/* The text around a piece: its line from at most so many bytes before it, and what follows it up to
+ * the line's end, or so many bytes. */
 static inline interpolator_source interpolator_around(
     const interpolator_source *whole, const interpolator_piece *piece) {
   interpolator_source part = *whole;
@@ -260,12 +261,12 @@ static inline interpolator_answer interpolator_show_all(
   return got;
 }
 
-/* All faults that interpolator_faults finds, in order, each with the picture of interpolator_explain, as
- * long as `show` returns 0.
+/* All faults that interpolator_faults finds, in order, each with the picture of interpolator_explain,
+ * as long as `show` returns 0.
  *
  * OK: `length` is how many there are.
- * NO_MEMORY, LISTS, and NOT_UTF8 of the format, or the name or text of the source: all other fields are
- * 0; of NO_MEMORY the first faults may have been shown. */
+ * NO_MEMORY, LISTS, and NOT_UTF8 of the format, or the name or text of the source: all other fields
+ * are 0; of NO_MEMORY the first faults may have been shown. */
 static inline interpolator_answer interpolator_explain_all(
     const interpolator_source *source,
     const char *format, size_t format_length,

@@ -1,5 +1,5 @@
-/* interpolator_explain_all shows what interpolator_explain does, fault by fault, of formats put together
- * by chance in texts by chance; and of many faults in one line it does so in time linear in them.
+/* interpolator_explain_all shows what interpolator_explain does, fault by fault, of formats put
+ * together by chance in texts by chance; and many faults of one line in time linear in them.
  *
  *   pictures COUNT */
 #include "interpolator_pictures.h"
