@@ -119,7 +119,7 @@ fn place_and_format<'a>(
         result }
 {
     match check_format(alloc, escape, text) {
-        Ok(()) => format_escaped(alloc, escape, text, row, room),
+        Ok(_) => format_escaped(alloc, escape, text, row, room),
         Err(error) => told_place(alloc, &error, room),
     }
 }

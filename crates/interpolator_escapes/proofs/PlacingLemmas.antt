@@ -312,9 +312,8 @@ module _ (bs : List ℕ) (x : Piece) (held : IsSome (content_of bs x)) where
 
 module _ {S : Type 0} (step : S → ℕ → S × List Token) (is_place : S → Bool) where
   -- what fails does not stand, whatever state it ends in
-  pub refused : (s u : S) (xs : Forest) (answer : Result (Unit {0}) PlaceError)
-      → ForestPlaced step is_place s xs u answer
-      → IfMisplaced answer (λ m. (t : S) → ForestStands step is_place s xs t → ⊥)
-  refused s u xs (Ok a) h = tt
-  refused s u xs (Err (errors.Misplaced m)) h = λ t k. forest_fails step is_place xs s t m h k
-  refused s u xs (Err errors.NoMemory) h = tt
+  pub refused : (s u : S) (xs : Forest) (e : PlaceError)
+      → ForestPlaced step is_place s xs u (Err e)
+      → IfMisplaced {A = Unit {0}} (Err e) (λ m. (t : S) → ForestStands step is_place s xs t → ⊥)
+  refused s u xs (errors.Misplaced m) h = λ t k. forest_fails step is_place xs s t m h k
+  refused s u xs errors.NoMemory h = tt

@@ -1,5 +1,6 @@
--- Which of a format's values is the first that does not stand in a place, and why.
-use Rattle.std.specs.Prelude.{◌≡◌, ◌⊎◌, ℕ, Bool, false, ⊤, List, Result, Ok, Err}
+-- Which of a format's values is the first that does not stand in a place, and why; and where a
+-- format of which all stand ends.
+use Rattle.std.specs.Prelude.{◌≡◌, ◌⊎◌, ℕ, Bool, false, true, ⊤, List, Result, Ok, Err}
 use Rattle.std.specs.Prelude.{Some, None}
 use Rattle.interpolator_render.specs.declared.view.Spec.{Spec}
 use Rattle.interpolator_eval.specs.Meaning.Meanings.{Meaning}
@@ -16,6 +17,9 @@ use Rattle.interpolator_escapes.specs.Html.{HtmlState, html_start, html_step, is
 use Rattle.interpolator_escapes.specs.Json.{JsonState, between, json_step, is_json_place}
 use Rattle.interpolator_escapes.specs.Lines.{control_step, everywhere}
 use Rattle.interpolator_escapes.specs.Shell.{ShellState, outside, shell_step, is_shell_place}
+use Rattle.interpolator_escapes.specs.declared.ending.Ending.{Ending}
+use Rattle.interpolator_escapes.specs.declared.ending.Ending.TheVariants.{Beginning, Place}
+use Rattle.interpolator_escapes.specs.declared.ending.Ending.TheVariants.{Elsewhere}
 use Rattle.interpolator_escapes.specs.declared.escape.Escape.{Escape}
 use Rattle.interpolator_escapes.specs.declared.escape.Escape.TheVariants.{Line, Html, Csv, Json}
 use Rattle.interpolator_escapes.specs.declared.escape.Escape.TheVariants.{Shell}
@@ -90,6 +94,16 @@ module _ {S : Type 0} (step : S → ℕ → S × List Token) (is_place : S → B
   abbrev pub Fails : S → At → Misplaced → Type 0
   Fails s a m = ForestFails s (as_forest (nodes a)) m
 
+  -- where a reader is at t that began at s
+  abbrev pub IsEnding : (s t : S) → Ending → Type 0
+  IsEnding s t Beginning = t ≡ s
+  IsEnding s t Place = (t ≡ s → ⊥) × (is_place t ≡ true)
+  IsEnding s t Elsewhere = (t ≡ s → ⊥) × (is_place t ≡ false)
+
+  -- all values of a text stand, and a reader ends there
+  abbrev pub Ends : S → At → Ending → Type 0
+  Ends s a ending = (t : S) × Stands step is_place s a t × IsEnding s t ending
+
   -- ---- what the code answers of pieces, after which the reader is at t, and of their parts
 
   abbrev pub NodePlaced : S → Node → S → Result (Unit {0}) PlaceError → Type 0
@@ -116,6 +130,14 @@ StandsFor Html a = (t : HtmlState) × Stands html_step is_html_place html_start 
 StandsFor Csv a = (t : CsvState) × Stands csv_step is_csv_place field_start a t
 StandsFor Json a = (t : JsonState) × Stands json_step is_json_place between a t
 StandsFor Shell a = (t : ShellState) × Stands shell_step is_shell_place outside a t
+
+-- they do, and the text ends there
+abbrev pub EndsFor : Escape → At → Ending → Type 0
+EndsFor Line = Ends control_step everywhere tt
+EndsFor Html = Ends html_step is_html_place html_start
+EndsFor Csv = Ends csv_step is_csv_place field_start
+EndsFor Json = Ends json_step is_json_place between
+EndsFor Shell = Ends shell_step is_shell_place outside
 
 -- the first that does not
 abbrev pub FailsFor : Escape → At → Misplaced → Type 0

@@ -4,8 +4,9 @@ ghost use Rattle.std.specs.Str.{chars};
 ghost use Rattle.interpolator_syntax.specs.At.{outermost};
 ghost use Rattle.interpolator_syntax.specs.Nodes.{nodes};
 ghost use Rattle.interpolator_pieces.specs.Stored.{nodes_of};
-ghost use Rattle.interpolator_escapes.specs.Placing.{FailsFor, IfMisplaced, StandsFor};
+ghost use Rattle.interpolator_escapes.specs.Placing.{EndsFor, FailsFor, IfMisplaced, StandsFor};
 
+use crate::ending::Ending;
 use crate::escape::Escape;
 use crate::misplaced::PlaceError;
 use crate::placing::check_stands;
@@ -17,7 +18,7 @@ use std::alloc::Global;
 /// Checks that the values of a format, whose pieces are these, stand in places of an escape: each
 /// value in a place, each item and join of a list ending where it began, and the fill of a padded
 /// list no structure. Of a [line](Escape::Line) only that fill is asked: a value may stand
-/// anywhere.
+/// anywhere. Returns where the format ends.
 ///
 /// Memory is taken for names of elements, attributes and references, of [HTML](Escape::Html) alone.
 ///
@@ -30,16 +31,17 @@ use std::alloc::Global;
 ///
 /// ```text
 /// check_places(alloc, Escape::Html, text, &pieces)?;
-/// // of `<p id="{a}">{b}</p>`: Ok; of `<p id={a}>`: `Misplaced`, why `Value` at place 6
+/// // of `<p id="{a}">{b}</p>`: `Beginning`; of `<p id={a}>`: `Misplaced`, why `Value` at place 6
 /// ```
 pub fn check_places(
     alloc: Global,
     escape: Escape,
     text: &str,
     pieces: &[Piece],
-) -> Result<(), PlaceError>
+) -> Result<Ending, PlaceError>
     requires { nodes_of text.now pieces.now ≡ nodes (outermost (chars text.now)) }
     ensures stands { IfOk result (λ _. StandsFor escape (outermost (chars text.now))) }
+    ensures ends { IfOk result (EndsFor escape (outermost (chars text.now))) }
     ensures refused { IfMisplaced result (λ _. StandsFor escape (outermost (chars text.now)) → ⊥) }
     ensures first { IfMisplaced result (FailsFor escape (outermost (chars text.now))) }
     ensures within { IfMisplaced result (λ m. m.place < length text.now) }
@@ -63,8 +65,9 @@ pub fn check_places(
 /// check_format(alloc, Escape::Csv, "\"{a}\",{b}")    // `Misplaced`, why `Value` at place 6
 /// ```
 #[tactic(auto, using(interpolator_pieces::proofs::RunLemmas::format_stands))]
-pub fn check_format(alloc: Global, escape: Escape, text: &str) -> Result<(), PlaceError>
+pub fn check_format(alloc: Global, escape: Escape, text: &str) -> Result<Ending, PlaceError>
     ensures stands { IfOk result (λ _. StandsFor escape (outermost (chars text.now))) }
+    ensures ends { IfOk result (EndsFor escape (outermost (chars text.now))) }
     ensures refused { IfMisplaced result (λ _. StandsFor escape (outermost (chars text.now)) → ⊥) }
     ensures first { IfMisplaced result (FailsFor escape (outermost (chars text.now))) }
     ensures within { IfMisplaced result (λ m. m.place < length text.now) }

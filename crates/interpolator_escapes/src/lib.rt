@@ -14,6 +14,7 @@
 #![tactic(auto)]
 
 mod checking;
+mod ending;
 mod escape;
 mod escaped;
 mod escapers;
@@ -35,6 +36,7 @@ mod view_tests;
 mod views;
 
 pub use checking::{check_format, check_places};
+pub use ending::Ending;
 pub use escape::Escape;
 pub use escaped::put_escaped;
 pub use escapers::{CsvEscaper, HtmlEscaper, JsonEscaper, LineEscaper, ShellEscaper};

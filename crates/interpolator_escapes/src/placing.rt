@@ -10,12 +10,14 @@ ghost use Rattle.interpolator_pieces.specs.StoredLists.{is_list_form};
 ghost use Rattle.interpolator_pieces.specs.declared.piece.Piece.TheViews.{out-Piece};
 ghost use Rattle.interpolator_escapes.specs.Formats.{FillStays, ForestStands, NodeStands, Stands};
 ghost use Rattle.interpolator_escapes.specs.Formats.{Stays};
-ghost use Rattle.interpolator_escapes.specs.Placing.{EndsElsewhere, Fails, FillFails, FillPlaced};
+ghost use Rattle.interpolator_escapes.specs.Placing.{Ends, EndsElsewhere, Fails, FillFails};
+ghost use Rattle.interpolator_escapes.specs.Placing.{FillPlaced, IsEnding};
 ghost use Rattle.interpolator_escapes.specs.Placing.{ForestFails, ForestPlaced, ItemPlaced};
 ghost use Rattle.interpolator_escapes.specs.Placing.{JoinPlaced, NodeFails, NodePlaced, Placed};
 ghost use Rattle.interpolator_escapes.specs.Placing.{IfMisplaced, ValueFails};
 ghost use Rattle.interpolator_escapes.specs.Readers.{state_after};
 
+use crate::ending::Ending;
 use crate::misplaced::{Misplaced, PlaceError, Why};
 use crate::readers::Reader;
 use interpolator_pieces::{Form, Piece, form_of, spec_of, text_of};
@@ -181,9 +183,22 @@ fn place_join<R: Reader>(reader: &R, text: &str, piece: &Piece) -> Result<(), Pl
     }
 }
 
+/// Where a reader is that began as `start`.
+fn ending_of<R: Reader>(start: &R, reader: &R) -> Ending
+    ensures { IsEnding R.step R.places (R.state start.now) (R.state reader.now) result }
+{
+    if reader.is_at(start) {
+        return Ending::Beginning;
+    }
+    if reader.is_place() {
+        return Ending::Place;
+    }
+    Ending::Elsewhere
+}
+
 /// Requires that the values of a format, whose pieces are these, stand in places of a reader that
 /// begins as `start`: each value in a place, each item and join ending where it began, and the fill
-/// of a padded list no structure.
+/// of a padded list no structure. Returns where the reader is after the format.
 ///
 /// # Errors
 ///
@@ -191,12 +206,19 @@ fn place_join<R: Reader>(reader: &R, text: &str, piece: &Piece) -> Result<(), Pl
 /// - `NoMemory`: the reader had no memory for a name.
 ///
 /// ```text
-/// check_stands(&CsvReader::FieldStart, text, &pieces)?;    // of `"{a}","{b}"`: Ok
+/// check_stands(&CsvReader::FieldStart, text, &pieces)?;
+/// // of `"{a}","{b}"` and a newline: `Beginning`; without the newline: `Elsewhere`
 /// ```
-pub fn check_stands<R: Reader>(start: &R, text: &str, pieces: &[Piece]) -> Result<(), PlaceError>
+pub fn check_stands<R: Reader>(
+    start: &R,
+    text: &str,
+    pieces: &[Piece],
+) -> Result<Ending, PlaceError>
     requires { nodes_of text.now pieces.now ≡ nodes (outermost (chars text.now)) }
     ensures stands { IfOk result (λ _. (t : R.State)
         × Stands R.step R.places (R.state start.now) (outermost (chars text.now)) t) }
+    ensures ends { IfOk result
+        (Ends R.step R.places (R.state start.now) (outermost (chars text.now))) }
     ensures refused { IfMisplaced result (λ m. (t : R.State)
         → Stands R.step R.places (R.state start.now) (outermost (chars text.now)) t → ⊥) }
     ensures first { IfMisplaced result
@@ -204,5 +226,6 @@ pub fn check_stands<R: Reader>(start: &R, text: &str, pieces: &[Piece]) -> Resul
     ensures within { IfMisplaced result (λ m. m.place < length text.now) }
 {
     let mut reader = start.copied()?;
-    place_all(&mut reader, text, pieces)
+    place_all(&mut reader, text, pieces)?;
+    Ok(ending_of(start, &reader))
 }

@@ -2,6 +2,7 @@
 //! the readers.
 
 use crate::checking::check_format;
+use crate::ending::Ending;
 use crate::escape::Escape;
 use crate::misplaced::{Misplaced, PlaceError, Why};
 
@@ -16,7 +17,11 @@ macro_rules! assert_rows {
                 Some((place, why)) => Err(PlaceError::Misplaced(Misplaced { place, why })),
                 None => Ok(()),
             };
-            assert_eq!($rt; check_format($rt.alloc(), $escape, text), wanted, "{text:?}");
+            let found = match check_format($rt.alloc(), $escape, text) {
+                Ok(_) => Ok(()),
+                Err(error) => Err(error),
+            };
+            assert_eq!($rt; found, wanted, "{text:?}");
         }
     };
 }
@@ -132,6 +137,29 @@ const REFUSED_PAGES: [Row; 19] = [
     ("<style></s{l:i(t)}yle>", Some((10, Why::Item))),
 ];
 
+const ENDINGS: [(Escape, &str, Ending); 20] = [
+    (Escape::Csv, "", Ending::Beginning),
+    (Escape::Csv, "\"{a}\"\n", Ending::Beginning),
+    (Escape::Csv, "\"{a}\",", Ending::Beginning),
+    (Escape::Csv, "\"{a}", Ending::Place),
+    (Escape::Csv, "\"{a}\"", Ending::Elsewhere),
+    (Escape::Csv, "\"{a}\",b", Ending::Elsewhere),
+    (Escape::Html, "<p>{a}</p>\n", Ending::Beginning),
+    (Escape::Html, "<p id=\"{a}", Ending::Place),
+    (Escape::Html, "<a href=\"", Ending::Elsewhere),
+    (Escape::Html, "<p>{a}</p", Ending::Elsewhere),
+    (Escape::Html, "{a}<script>", Ending::Elsewhere),
+    (Escape::Html, "{a} &amp", Ending::Elsewhere),
+    (Escape::Json, "{{\"a\":\"{a}\"}}", Ending::Beginning),
+    (Escape::Json, "\"{a}", Ending::Place),
+    (Escape::Json, "\"{a}\\", Ending::Elsewhere),
+    (Escape::Shell, "ls '{a}'\n", Ending::Beginning),
+    (Escape::Shell, "ls '{a}", Ending::Place),
+    (Escape::Shell, "ls '{a}' \\", Ending::Elsewhere),
+    (Escape::Shell, "ls '{a}' #", Ending::Elsewhere),
+    (Escape::Line, "{a}\r", Ending::Beginning),
+];
+
 #[test]
 fn formats_of_csv(rt: HostRuntime) {
     assert_rows!(rt, Escape::Csv, CSV);
@@ -156,6 +184,17 @@ fn formats_of_a_line(rt: HostRuntime) {
 fn formats_of_a_page(rt: HostRuntime) {
     assert_rows!(rt, Escape::Html, PAGES);
     assert_rows!(rt, Escape::Html, REFUSED_PAGES);
+}
+
+#[test]
+fn formats_end(rt: HostRuntime) {
+    for (escape, text, wanted) in ENDINGS {
+        assert_eq!(rt;
+            check_format(rt.alloc(), escape, text),
+            Ok(wanted),
+            "{text:?}"
+        );
+    }
 }
 
 #[test]
