@@ -12,7 +12,7 @@ name=ifmt
 least=-170141183460469231731687303715884105728
 greatest=170141183460469231731687303715884105727
 # the cases of the functions below, the example and the 12 rows of README
-wanted=183
+wanted=208
 . "$here/../../.ci/cases.sh"
 
 # A text, which goes to the output, with status 0.
@@ -236,6 +236,55 @@ long_cases() {
     text "$(times 80200 a)" "$format" "${words[@]}"
 }
 
+# Help and version are asked for by the only word; a format that begins with `--` stands after `--`.
+flag_cases() {
+    text 'ifmt 0.5.0' --version
+    text --version -- --version
+    text --help -- --help
+    text -- --
+    text -- -- 'a=b'
+    text --help --help 'a=b'
+    text --version --version 'a=b'
+    text '--Ann' -- '--{a}' 'a=Ann'
+    wrong 'bad word: b' -- b
+    text --explain --explain
+    case_of closed file 3 '' '' --help
+    case_of full file 3 '' '' --version
+    refusals_of 0 $'ifmt 0.5.0\n' '' --version
+    help_case
+}
+
+# The help begins with what the program does, and names each flag.
+help_case() {
+    if "$program" --help >"$room/out" 2>"$room/err" && [[ ! -s $room/err ]] \
+        && [[ $(head -n 1 "$room/out") == 'Prints a text by a format and named values.' ]] \
+        && [[ $(grep -c -e '^  --' "$room/out") -eq 4 ]]; then
+        passed=$((passed + 1))
+    else
+        fail '--help prints something else'
+    fi
+}
+
+# A fault, shown in its line.
+explained_cases() {
+    text Ann --explain '{a}' 'a=Ann'
+    text '--{' --explain -- '--{{'
+    text a --explain a
+    fault "$(printf '%s\n' 'format:1:8: specified value not in context `nme` at 7' '  |' \
+        '1 | Hello {nme}' '  |       ~^~~~' '  = did you mean `name`? names: `name`, `n`')" \
+        --explain 'Hello {nme}' 'name=Ann' 'n:=7'
+    fault "$(printf '%s\n' 'format:2:5: trait `LowerHex` not implemented, used by format argument at 7' \
+        '  |' '2 | {a:x}' '  | ~~~~^')" --explain $'é\n{a:x}' 'a=1'
+    fault "$(printf '%s\n' 'format:1:2: specified value not in context `q` at 1' '  |' '1 | {q}' \
+        '  | ~^~')" --explain '{q}'
+    wrong 'bad word: b' --explain '{a}' b
+    refusals_of 0 $'Ann\n' '' --explain '{a}' 'a=Ann'
+    refusals_of 1 '' "$(printf '%s\n' 'format:1:2: specified value not in context `q` at 1' '  |' \
+        '1 | {q}' '  | ~^~' '  = did you mean `a`? names: `a`')"$'\n' --explain '{q}' 'a=Ann'
+    case_of file closed 3 '' '' --explain '{q}'
+    case_of file full 3 '' '' --explain '{q}'
+}
+
 # A refused write has status 3, and the stream that is not written to is left alone, whatever it is.
 stream_cases() {
     case_of closed file 3 '' '' 'Hi'
@@ -301,6 +350,8 @@ all_cases() {
     float_cases
     list_cases
     line_cases
+    flag_cases
+    explained_cases
     long_cases
     stream_cases
     refused_calls

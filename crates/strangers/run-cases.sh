@@ -7,7 +7,7 @@ set -u
 
 here=$(cd "$(dirname "$0")" && pwd)
 name=strangers
-wanted=92
+wanted=96
 . "$here/../../.ci/cases.sh"
 
 usage='usage: strangers [FLAG NUMBER..] FORMAT '
@@ -177,6 +177,10 @@ uses() {
     misused "$usage" --items x '{a}' a=1
     misused "$usage" --others 3 '{a}' a=1
     misused "$usage" --
+    misused "$usage" --help x
+    case_of file file 0 "$(sed -n "/^const HELP/,/^\";/p" "$here/src/main.rt" | sed '1d;$d')"$'\n' '' --help
+    prints 'Dear Ann' --text 20 'Dear {name}' name=Ann
+    refuses 'characters: 20000, where 10000 are allowed' '{name:>20000}' name=Ann
     misused 'bad word: a' '{' a
     misused 'bad word: n:=+7' '{n}' n:=+7
     misused 'bad word: n:=' '{n}' b=1 n:= c

@@ -49,6 +49,7 @@ and whole numbers, of which the second has a bar of 100.
   --separator S  between fields; without it, the first line tells it
   --latin1       the file is Latin-1, not UTF-8
   --             what follows are the files
+  --help         print this, if it is the only word
 
 chart chart.svg.txt speed.txt >speed.svg
 ";

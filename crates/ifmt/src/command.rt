@@ -32,8 +32,8 @@ pub fn answer<O: Write, E: Write>(alloc: Global, line: &[String], out: &mut O, e
     }
 }
 
-// The first bad word.
-fn first_bad(words: &[String]) -> Option<&str>
+/// The first bad word.
+pub fn first_bad(words: &[String]) -> Option<&str>
     ensures { MatchOption result (AllGood words.now) (λ bad. IsFirstBad words.now bad.now) }
 {
     for word in words {

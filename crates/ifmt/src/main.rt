@@ -1,13 +1,18 @@
-//! `ifmt FORMAT [NAME=TEXT | NAME:=NUMBER | NAME:.=DECIMAL | NAME[]=ITEM,ITEM..]`: formats on the
-//! command line.
+//! `ifmt [--explain] FORMAT [NAME=TEXT | NAME:=NUMBER | NAME:.=DECIMAL | NAME:~=FLOAT |
+//! NAME[]=ITEM,ITEM..]..`: formats on the command line.
 #![tactic(auto)]
 
+mod asked;
 mod binding;
 mod command;
+mod explained;
 mod run;
 
+use asked::{Asked, asked_by, put_help, put_version};
 use interpolator::Error;
+use std::alloc::Global;
 use std::io;
+use std::io::Write;
 use std::process::ExitCode;
 use words::program::arguments;
 
@@ -15,7 +20,7 @@ fn main(rt: HostRuntime) -> ExitCode {
     let mut out = rt.stdout();
     let mut err = rt.stderr();
     let status = match arguments(&rt) {
-        Ok(line) => command::answer(rt.alloc(), line.as_slice(), &mut out, &mut err),
+        Ok(line) => answer(rt.alloc(), line.as_slice(), &mut out, &mut err),
         Err(error) if error.kind() == io::ErrorKind::OutOfMemory => {
             run::report(Err(Error::NoMemory), &mut out, &mut err)
         }
@@ -23,4 +28,14 @@ fn main(rt: HostRuntime) -> ExitCode {
         Err(_) => run::usage(&mut err),
     };
     ExitCode::from(status)
+}
+
+// Does what a command line asks for, and returns the status.
+fn answer<O: Write, E: Write>(alloc: Global, line: &[String], out: &mut O, err: &mut E) -> u8 {
+    match asked_by(line) {
+        Asked::Help => run::status_of(put_help(out), run::DONE),
+        Asked::Version => run::status_of(put_version(out), run::DONE),
+        Asked::Explained(words) => explained::answer_explained(alloc, words, out, err),
+        Asked::Text(words) => command::answer(alloc, words, out, err),
+    }
 }

@@ -15,7 +15,8 @@ use std::alloc::Global;
 use std::io;
 use std::io::Write;
 
-const DONE: u8 = 0;
+/// The status of a run that did what it was asked.
+pub const DONE: u8 = 0;
 
 const FAULT: u8 = 1;
 
@@ -76,6 +77,15 @@ pub fn report<O: Write, E: Write>(outcome: Result<String, Error>, out: &mut O, e
     }
 }
 
+/// Writes what is said of a fault to `err`, as a line, and flushes.
+///
+/// Returns 1, or 3 if the write failed; how much was written is then unknown.
+pub fn report_fault<E: Write>(told: &str, err: &mut E) -> u8
+    ensures { Puts 1 (E.contents err.old) (E.contents err.new) (line told.now) result }
+{
+    status_of(put_text(told, err), FAULT)
+}
+
 fn put_text<O: Write>(text: &str, out: &mut O) -> io::Result<()>
     ensures { OnOk result (Appends (O.contents out.old) (O.contents out.new) (line text.now)) }
 {
@@ -109,8 +119,8 @@ fn put_usage<E: Write>(err: &mut E) -> io::Result<()>
     err.flush()
 }
 
-// This status, or that of a failed write.
-fn status_of(written: io::Result<()>, status: u8) -> u8
+/// This status, or that of a failed write.
+pub fn status_of(written: io::Result<()>, status: u8) -> u8
     ensures { MatchResult written (λ _. result ≡ status) (λ _. result ≡ 3) }
 {
     match written {

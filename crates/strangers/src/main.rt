@@ -5,8 +5,8 @@
 //! `--text` and `--items` limit the characters of a text or a decimal and the items of a list among
 //! the values: 80 and 20 by default. `--characters`, `--pieces` and `--buffered` limit the cost of
 //! the format with such values: 10000, 1000 and 10000. Put `--` before a format that begins with
-//! `--`. A float, `NAME:~=FLOAT` in other programs, is a bad word: its text may be longer than any
-//! limit.
+//! `--`; `--help` as the only word prints help. A float, `NAME:~=FLOAT` in other programs, is a bad
+//! word: its text may be longer than any limit.
 #![tactic(auto)]
 
 mod answering;
@@ -20,10 +20,29 @@ use interpolator::Error;
 use serving::{Count, Refused};
 use std::io;
 use std::process::ExitCode;
-use words::program::arguments;
+use words::program::{WRITTEN, arguments, ended};
 
 const USAGE: &str = "usage: strangers [FLAG NUMBER..] FORMAT \
     [NAME=TEXT | NAME:=NUMBER | NAME:.=DECIMAL | NAME[]=ITEM,ITEM..]";
+
+const HELP: &str = "\
+Prints a text by a format that nobody trusts, if it has no fault with the values, and cannot cost
+more than is allowed.
+
+usage: strangers [FLAG NUMBER..] [--] FORMAT
+    [NAME=TEXT | NAME:=NUMBER | NAME:.=DECIMAL | NAME[]=ITEM,ITEM..]..
+
+  --text N        the most characters of a text or a decimal among the values: 80
+  --items N       the most items of a list: 20
+  --characters N  the most characters that may be written: 10000
+  --pieces N      the most pieces that may be gone through: 1000
+  --buffered N    the most characters that may be held: 10000
+  --              before a format that begins with `--`
+  --help          print this, if it is the only word
+
+example: strangers --text 20 'Dear {name}' name=Ann
+  Dear Ann
+";
 
 const REJECTED: u8 = 1;
 
@@ -79,8 +98,17 @@ fn tell(rt: &HostRuntime, answer: &Answer) -> io::Result<u8> {
     }
 }
 
+/// Whether the words ask for help alone.
+fn is_help(words: &[String]) -> bool {
+    match words {
+        [word] => word.as_str() == "--help",
+        _ => false,
+    }
+}
+
 fn main(rt: HostRuntime) -> ExitCode {
     let answer = match arguments(&rt) {
+        Ok(line) if is_help(line.as_slice()) => return ended(rt.print(HELP), WRITTEN),
         Ok(line) => answered(rt.alloc(), line.as_slice()),
         Err(error) if error.kind() == io::ErrorKind::OutOfMemory => Err(Error::NoMemory),
         // An argument is not UTF-8.
