@@ -4,8 +4,8 @@ ghost use Rattle.std.specs.Prelude.{◌≡◌, ◌∷◌, ◌++◌, [], ℕ, Lis
 ghost use Rattle.std.specs.Prelude.{Some, if◌then◌else◌, is_some, map};
 ghost use Rattle.std.specs.Option.{option_map};
 ghost use Rattle.plurals.specs.Trees.{tree_of};
-ghost use Rattle.plurals.specs.Values.{applied, form_by, forms, has_forms, missing_for};
-ghost use Rattle.plurals.specs.Values.{missing_in, or_zero, remainder, truth, value_by};
+ghost use Rattle.plurals.specs.Values.{applied, as_form, form_by, forms, has_forms, holds};
+ghost use Rattle.plurals.specs.Values.{missing_for, missing_in, or_zero, remainder, truth, value_by};
 
 use std::alloc::AllocError;
 
@@ -47,6 +47,15 @@ pub enum Expression<'a> {
     Binary(Operator, Box<Expression<'a>>, Box<Expression<'a>>),
     /// `a ? b : c`
     Choice(Box<Expression<'a>>, Box<Expression<'a>>, Box<Expression<'a>>),
+}
+
+/// What an expression chooses.
+#[derive(Clone, Copy, Debug, PartialEq, Eq)]
+pub enum Form<'a> {
+    /// A name.
+    Name(&'a str),
+    /// A number, whose name is its digits.
+    Number(u64),
 }
 
 /// Numbers under names.
@@ -118,9 +127,9 @@ fn unless<'a>(name: &'a str, number: Option<u128>) -> Option<&'a str>
 }
 
 /// Appends a form.
-fn push<'a>(found: &mut Vec<&'a str>, form: &'a str) -> Result<(), AllocError>
-    ensures { IfOk result (λ _. map (λ x. x.now) found.new.items
-        ≡ map (λ x. x.now) found.old.items ++ (form.now ∷ [])) }
+fn push<'a>(found: &mut Vec<Form<'a>>, form: Form<'a>) -> Result<(), AllocError>
+    ensures { IfOk result (λ _. map as_form found.new.items
+        ≡ map as_form found.old.items ++ (as_form form.entry ∷ [])) }
 {
     found.push(form)?;
     Ok(())
@@ -151,20 +160,30 @@ impl<'a> Expression<'a> {
         }
     }
 
-    /// The form that an expression chooses: the name to which its choices come. None, if that is no
-    /// name.
-    pub fn form<N: Numbers>(&self, numbers: &N) -> Option<&'a str>
-        ensures { option_map (λ x. x.now) result
+    /// Whether a choice by an expression takes its first part: it is true, or a number is missing
+    /// for it.
+    fn holds<N: Numbers>(&self, numbers: &N) -> bool
+        ensures { result ≡ holds (N.number numbers.now) (tree_of self.now) }
+    {
+        self.missing_for(numbers).is_some() || self.value(numbers) != 0
+    }
+
+    /// The form that an expression chooses: the name or number to which its choices come, of which
+    /// each is by its test, or its first part if a number is missing for that. None, if that is no
+    /// name or number.
+    pub fn form<N: Numbers>(&self, numbers: &N) -> Option<Form<'a>>
+        ensures { option_map as_form result
             ≡ form_by (N.number numbers.now) (tree_of self.now) }
     {
         match self {
-            Expression::Name(name) => Some(*name),
+            Expression::Name(name) => Some(Form::Name(*name)),
+            Expression::Number(number) => Some(Form::Number(*number)),
             Expression::Group(a) => a.form(numbers),
             Expression::Choice(test, a, b) => {
-                if test.value(numbers) == 0 {
-                    b.form(numbers)
-                } else {
+                if test.holds(numbers) {
                     a.form(numbers)
+                } else {
+                    b.form(numbers)
                 }
             }
             _ => None,
@@ -177,6 +196,7 @@ impl<'a> Expression<'a> {
     {
         match self {
             Expression::Name(_) => true,
+            Expression::Number(_) => true,
             Expression::Group(a) => a.has_forms(),
             Expression::Choice(_, a, b) => a.has_forms() && b.has_forms(),
             _ => false,
@@ -184,12 +204,13 @@ impl<'a> Expression<'a> {
     }
 
     /// Appends the forms that an expression can choose, in their order.
-    pub fn push_forms(&self, found: &mut Vec<&'a str>) -> Result<(), AllocError>
-        ensures { IfOk result (λ _. map (λ x. x.now) found.new.items
-            ≡ map (λ x. x.now) found.old.items ++ forms (tree_of self.now)) }
+    pub fn push_forms(&self, found: &mut Vec<Form<'a>>) -> Result<(), AllocError>
+        ensures { IfOk result (λ _. map as_form found.new.items
+            ≡ map as_form found.old.items ++ forms (tree_of self.now)) }
     {
         match self {
-            Expression::Name(name) => push(found, name),
+            Expression::Name(name) => push(found, Form::Name(*name)),
+            Expression::Number(number) => push(found, Form::Number(*number)),
             Expression::Group(a) => a.push_forms(found),
             Expression::Choice(_, a, b) => {
                 a.push_forms(found)?;
@@ -217,16 +238,23 @@ impl<'a> Expression<'a> {
         }
     }
 
-    /// The first of the names in the tests of an expression that has no number.
+    /// The first name without a number in the tests by which an expression comes to its form.
     pub fn missing<N: Numbers>(&self, numbers: &N) -> Option<&'a str>
         ensures { option_map (λ x. x.now) result
             ≡ missing_in (N.number numbers.now) (tree_of self.now) }
     {
         match self {
             Expression::Group(a) => a.missing(numbers),
-            Expression::Choice(test, a, b) => test
-                .missing_for(numbers)
-                .or(a.missing(numbers).or(b.missing(numbers))),
+            Expression::Choice(test, a, b) => {
+                if let Some(name) = test.missing_for(numbers) {
+                    return Some(name);
+                }
+                if test.value(numbers) == 0 {
+                    b.missing(numbers)
+                } else {
+                    a.missing(numbers)
+                }
+            }
             _ => None,
         }
     }

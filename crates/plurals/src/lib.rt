@@ -17,7 +17,7 @@ mod reduce;
 mod tests;
 mod token;
 
-pub use expression::{Expression, Numbers, Operator};
+pub use expression::{Expression, Form, Numbers, Operator};
 pub use fault::{Fault, ParseError, Problem};
 pub use reading::parse;
 pub use token::{LIMIT, is_name};
