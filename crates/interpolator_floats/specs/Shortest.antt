@@ -1,5 +1,5 @@
 -- The shortest digits of a float.
-use Rattle.std.specs.Prelude.{ℕ, suc, ◌≡◌, ◌⊎◌, ◌+◌, ◌-◌, ◌*◌, ◌^◌, ◌<◌, ◌≤◌, false}
+use Rattle.std.specs.Prelude.{ℕ, suc, ◌≡◌, ◌⊎◌, ◌+◌, ◌-◌, ◌*◌, ◌/◌, ◌^◌, ◌<◌, ◌≤◌, false}
 use lib.Ieee.{Format, emax, low, prec, round}
 use lib.Ieee.Exact.{HasValue}
 use Rattle.interpolator_digits.specs.Exponent.{distance}
@@ -39,6 +39,12 @@ units_down power down = 2 ^ power * 10 ^ down
 
 abbrev pub units_up : (up : ℕ) → ℕ
 units_up up = 4 * (10 ^ up * 2 ^ 1074)
+
+-- the first 64 bits of 10 ^ (index - 292)
+abbrev pub leading_bits : (index : ℕ) → ℕ
+leading_bits index =
+    let place = (index * 1741647 + 522724) / 524288 in
+    10 ^ (index - 292) * 2 ^ (1034 - place) / (10 ^ (292 - index) * 2 ^ (place - 1034))
 
 -- the greatest power of ten that is no wider than `half` and two quarters of a step
 pub record IsScale (power half up down : ℕ) : Type 0 where

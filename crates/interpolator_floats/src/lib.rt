@@ -18,6 +18,7 @@ mod exponent;
 mod parts;
 mod plain;
 mod powers;
+mod scale;
 mod shortest;
 #[cfg(test)]
 mod tests;

@@ -8,32 +8,32 @@ use Rattle.interpolator_floats.proofs.shortest.scaled_choice.Goals as goal
 
 pub first_inside-low-requires : goal.first_inside-low-requires
 first_inside-low-requires c =
-    let scale = c.scale_of-scale in
-    omega (arith, c.quick_units-below.ensures.count, count_short (4 * c.args.mantissa - c.args.half) c.args.power c.args.half scale.result.up scale.result.down (omega (arith, c.requires.short)) c.requires.least scale.ensures.scale)
+    let counted = c.counted_scale-counted in
+    omega (arith, c.quick_units-below.ensures.count, count_short (4 * c.args.mantissa - c.args.half) c.args.power c.args.half counted.result.scale.up counted.result.scale.down (omega (arith, c.requires.short)) c.requires.least counted.ensures.scale)
 
 pub last_inside-high-requires : goal.last_inside-high-requires
 last_inside-high-requires c =
-    let scale = c.scale_of-scale in
-    omega (arith, c.quick_units-above.ensures.count, last_some c.args.mantissa c.args.half (units_down c.args.power scale.result.down) (units_up scale.result.up) c.requires.some c.requires.most scale.ensures.scale.finer (unit_some scale.result.up))
+    let counted = c.counted_scale-counted in
+    omega (arith, c.quick_units-above.ensures.count, last_some c.args.mantissa c.args.half (units_down c.args.power counted.result.scale.down) (units_up counted.result.scale.up) c.requires.some c.requires.most counted.ensures.scale.finer (unit_some counted.result.scale.up))
 
 pub overflow_add-near : goal.overflow_add-near
 overflow_add-near c =
-    let scale = c.scale_of-scale in
-    omega (arith, c.quick_units-twice.ensures.count, count_short (8 * c.args.mantissa) c.args.power c.args.half scale.result.up scale.result.down (omega (arith, c.requires.short)) c.requires.least scale.ensures.scale)
+    let counted = c.counted_scale-counted in
+    omega (arith, c.quick_units-twice.ensures.count, count_short (8 * c.args.mantissa) c.args.power c.args.half counted.result.scale.up counted.result.scale.down (omega (arith, c.requires.short)) c.requires.least counted.ensures.scale)
 
 pub returns-clause-choice : goal.returns-clause-choice
 returns-clause-choice c =
-    let scale = c.scale_of-scale in
+    let counted = c.counted_scale-counted in
     let m = c.args.mantissa in
     let half = c.args.half in
-    let d = units_down c.args.power scale.result.down in
-    let unit = units_up scale.result.up in
-    let U = unit_some scale.result.up in
+    let d = units_down c.args.power counted.result.scale.down in
+    let unit = units_up counted.result.scale.up in
+    let U = unit_some counted.result.scale.up in
     let first = c.first_inside-low.ensures ((4 * m - half) * d) unit U (sym c.quick_units-below.ensures.count) c.quick_units-below.ensures.some c.quick_units-below.ensures.none in
     let last = c.last_inside-high.ensures ((4 * m + 2) * d) unit U (sym c.quick_units-above.ensures.count) c.quick_units-above.ensures.some c.quick_units-above.ensures.none in
     let odd = slack_odd m half c.requires.least c.requires.most c.requires.even in
-    let finer = scale.ensures.scale.finer in
-    let wide = scale.ensures.scale.least in
+    let finer = counted.ensures.scale.finer in
+    let wide = counted.ensures.scale.least in
     let q = c.quick_units-twice.result.count in
     let twice = sym c.quick_units-twice.ensures.count in
     let low = c.first_inside-low.result in
@@ -50,17 +50,17 @@ returns-clause-choice c =
 
 pub returns-clause-some : goal.returns-clause-some
 returns-clause-some c =
-    let scale = c.scale_of-scale in
+    let counted = c.counted_scale-counted in
     let m = c.args.mantissa in
     let half = c.args.half in
-    let d = units_down c.args.power scale.result.down in
-    let unit = units_up scale.result.up in
-    let U = unit_some scale.result.up in
+    let d = units_down c.args.power counted.result.scale.down in
+    let unit = units_up counted.result.scale.up in
+    let U = unit_some counted.result.scale.up in
     let first = c.first_inside-low.ensures ((4 * m - half) * d) unit U (sym c.quick_units-below.ensures.count) c.quick_units-below.ensures.some c.quick_units-below.ensures.none in
     let last = c.last_inside-high.ensures ((4 * m + 2) * d) unit U (sym c.quick_units-above.ensures.count) c.quick_units-above.ensures.some c.quick_units-above.ensures.none in
     let odd = slack_odd m half c.requires.least c.requires.most c.requires.even in
-    let finer = scale.ensures.scale.finer in
-    let wide = scale.ensures.scale.least in
+    let finer = counted.ensures.scale.finer in
+    let wide = counted.ensures.scale.least in
     let q = c.quick_units-twice.result.count in
     let twice = sym c.quick_units-twice.ensures.count in
     let low = c.first_inside-low.result in
@@ -74,4 +74,4 @@ returns-clause-some c =
     (near_most m half d unit (slack m) q low high c.requires.some (slack-le m) c.requires.least c.requires.most finer wide odd twice first last)
     (low_next m half d unit (slack m) q low high c.requires.some (slack-le m) c.requires.least c.requires.most finer wide odd twice first last)
     (some_count m half d unit (slack m) q low high c.requires.some (slack-le m) c.requires.least c.requires.most finer wide odd twice first last) in
-    choice_some m half d unit (slack m) c.decided.result.count c.requires.some c.requires.most (slack-le m) (step_some c.args.power scale.result.down) choice.inside
+    choice_some m half d unit (slack m) c.decided.result.count c.requires.some c.requires.most (slack-le m) (step_some c.args.power counted.result.scale.down) choice.inside
