@@ -36,7 +36,7 @@ next=17014118346046923173168730371588410573
 zeros=0.0000000000000000000000000000000000000000
 here=$(cd "$(dirname "$0")" && pwd)
 name=report
-wanted=97
+wanted=98
 . "$here/../../.ci/cases.sh"
 
 # table WANTED TEXT FLAG..: the report of a file with this text, which goes to the output, with
@@ -120,7 +120,7 @@ group_cases() {
     table $'city  t\nUlm   a\nUlm   c\nBonn  b\n' $'city,t\nUlm,a\nBonn,b\nUlm,c\n' --group city
     table $'n  city\n1\n\n1  total\n1  counted\n1  total\n1  counted\n' $'n:,city\n1,\n,\n' \
         --group city
-    table $'city,n\nUlm,1\nUlm,3\ntotal Ulm,4\nBonn,2\ntotal Bonn,2\ntotal,6\n' "$cities" \
+    table $'"city","n"\n"Ulm","1"\n"Ulm","3"\n"total Ulm","4"\n"Bonn","2"\n"total Bonn","2"\n"total","6"\n' "$cities" \
         --csv --group city
     fault 't:1: no column has the name `town`' "$cities" --group town
     fault 't:1: the total of `n` has more than 128 bits' $'c,n:\na,'"${most}7"$'\nb,-1\na,1\n' \
@@ -129,10 +129,38 @@ group_cases() {
 }
 
 csv_cases() {
-    table $'a,n\n"x,y",1.5\n"z""",2\ntotal,3.5\n' $'a;n:\n"x,y";1.5\n"z""";2\n' --csv
-    table $'a,b\n"1\n2",x\n' $'a,b\n"1\n2",x\n' --csv
-    table $'a\n""\nx\n' $'a\n\nx\n' --csv
-    table $'a,n\nx,\ntotal,0\ncounted,0\n' $'a,n:\nx,\n' --csv
+    table $'"a","n"\n"x,y","1.5"\n"z""","2"\n"total","3.5"\n' $'a;n:\n"x,y";1.5\n"z""";2\n' --csv
+    table $'"a","b"\n"1\n2","x"\n' $'a,b\n"1\n2",x\n' --csv
+    table $'"a"\n""\n"x"\n' $'a\n\nx\n' --csv
+    table $'"a","n"\n"x",""\n"total","0"\n"counted","0"\n' $'a,n:\nx,\n' --csv
+    read_back_case
+}
+
+# Records of awkward fields, which Python reads back.
+read_back_case() {
+    if python3 - "$program" <<'END'; then
+import csv
+import io
+import random
+import subprocess
+import sys
+
+random.seed(4180)
+marks = '"," ;\n\t\'=\\{}x"\u00e9\u2028\u202e\U0001f600'
+rows = [['name', '"a",b', 'c\nd']]
+for _ in range(2000):
+    rows.append([''.join(random.choices(marks, k=random.randrange(8))) for _ in rows[0]])
+with open('t', 'w', newline='', encoding='utf-8') as file:
+    csv.writer(file, quoting=csv.QUOTE_ALL).writerows(rows)
+done = subprocess.run(
+    [sys.argv[1], '--csv', '--separator', ',', 't'], capture_output=True, timeout=60)
+back = list(csv.reader(io.StringIO(done.stdout.decode(), newline=''), strict=True))
+sys.exit(done.returncode != 0 or back != [[field.strip() for field in row] for row in rows])
+END
+        passed=$((passed + 1))
+    else
+        fail 'records that Python reads otherwise'
+    fi
 }
 
 fault_cases() {
@@ -181,7 +209,7 @@ other_cases() {
     printf 'a\n1\n' >-t
     case_of file file 2 '' "$usage"$'\n' -t
     case_of file file 0 $'a\n1\n' '' -- -t
-    case_of file file 0 $'a\n1\n' '' --csv -- -t
+    case_of file file 0 $'"a"\n"1"\n' '' --csv -- -t
     case_of file file 0 "$help" '' --help
     case_of file file 3 '' $'none: No such file or directory (os error 2)\n' none
     case_of file file 3 '' $'.: Is a directory (os error 21)\n' .
@@ -230,7 +258,7 @@ wide_case() {
 refused_calls() {
     printf '%s' $'item,count:\nbread,7\ncrème,-1.25\n' >t
     refusals_of 0 $'item   count\nbread      7\ncrème  -1.25\ntotal   5.75\n' '' t
-    refusals_of 0 $'item,count\nbread,7\ntotal bread,7\ncrème,-1.25\ntotal crème,-1.25\ntotal,5.75\n' '' \
+    refusals_of 0 $'"item","count"\n"bread","7"\n"total bread","7"\n"crème","-1.25"\n"total crème","-1.25"\n"total","5.75"\n' '' \
         --csv --group item t
     printf '%s' $'t,n\na,9\nb\nc,1,2' >t
     refusals_of 1 '' $'t:3: 1 field, but line 1 has 2: column 2 has no field\nt:4: 3 fields, but line 1 has 2: column 3 has no name\n' t

@@ -4,11 +4,12 @@ use crate::columns::Column;
 use crate::feet::{Foot, push_feet};
 use crate::rows::{Group, entry_in};
 use interpolator::{
-    Error, Formattable, Pairs, Prepared, Row, Template, TextBuffer, TextWrite, Value, View,
-    items_of,
+    Error, Escape, EscapedPrepared, Formattable, Pairs, PlaceError, Prepared, Row, Template,
+    TextBuffer, TextWrite, Value, View, items_of, values,
 };
-use records::{Record, Separator, push_record};
+use records::Record;
 use std::alloc::Global;
+use std::fmt;
 
 /// How many characters wide a column is, with what it has below it.
 fn width_of(column: &Column<'_>, index: usize, feet: &[Foot]) -> usize {
@@ -42,34 +43,79 @@ fn prepared_row(alloc: Global, format: &str) -> Result<Prepared, Error> {
     template.prepare(alloc, &Pairs(&[("", Formattable::iter(&items))]))
 }
 
-/// The prepared format of a row; none if rows are written as records.
-fn row_of(
+/// The format of a record of CSV: the items of `row` by their indices, each between quotes.
+fn record_format(alloc: Global, columns: &[Column<'_>]) -> Result<String, Error> {
+    let mut format = String::new(alloc);
+    for index in 0..columns.len() {
+        let gap = if index == 0 { "" } else { "," };
+        let field = format!(in alloc; "{gap}\"{{row:i{index}({{}})}}\"")?;
+        format.push_str(field.as_str())?;
+    }
+    Ok(format)
+}
+
+/// The format of a record, prepared for a list of entries, which are written escaped.
+fn prepared_record(alloc: Global, format: &str) -> Result<EscapedPrepared, Error> {
+    let entry = View::Text("");
+    let items = [Formattable::display(&entry)];
+    match Template::parse(alloc, format)?.escaped(alloc, Escape::Csv) {
+        Ok(record) => record.prepare_named(alloc, &values!(row:i = &items)),
+        Err(PlaceError::NoMemory) => Err(Error::NoMemory),
+        // not of such a format: each of its values stands between quotes
+        Err(PlaceError::Misplaced(misplaced)) => Err(Error::Fmt(fmt::Error, misplaced.place)),
+    }
+}
+
+/// How a row is written.
+#[derive(Drop)]
+enum Form {
+    /// As a line of the table.
+    Line(Prepared),
+    /// As a record of CSV.
+    Record(EscapedPrepared),
+}
+
+/// The prepared format of a row.
+fn form_of(
     alloc: Global,
     columns: &[Column<'_>],
     feet: &[Foot],
     is_csv: bool,
-) -> Result<Option<Prepared>, Error> {
+) -> Result<Form, Error> {
     if is_csv {
-        return Ok(None);
+        let format = record_format(alloc, columns)?;
+        return Ok(Form::Record(prepared_record(alloc, format.as_str())?));
     }
     let format = row_format(alloc, columns, feet)?;
-    Ok(Some(prepared_row(alloc, format.as_str())?))
+    Ok(Form::Line(prepared_row(alloc, format.as_str())?))
 }
 
 /// The page, as far as it is written.
 #[derive(Drop)]
 struct Page {
     alloc: Global,
-    /// The format of a row; none if it is written as records.
-    row: Option<Prepared>,
+    form: Form,
     out: String,
 }
 
+/// Writes a row of entries.
+fn write_row<V: Value>(
+    alloc: Global,
+    out: &mut TextBuffer,
+    form: &Form,
+    row: &Row<'_, V>,
+) -> Result<(), Error> {
+    match form {
+        Form::Line(line) => line.write(alloc, out, row),
+        Form::Record(record) => record.write(alloc, out, row),
+    }
+}
+
 /// The text of a row of entries.
-fn row_text<V: Value>(alloc: Global, row: &Prepared, entries: &[V]) -> Result<String, Error> {
+fn row_text<V: Value>(alloc: Global, form: &Form, entries: &[V]) -> Result<String, Error> {
     let items = items_of(alloc, entries)?;
     let mut out = TextBuffer::new(alloc);
-    let answer = row.write(alloc, &mut out, &Row(&[Formattable::iter(&items)]));
+    let answer = write_row(alloc, &mut out, form, &Row(&[Formattable::iter(&items)]));
     // The buffer refuses a text only if memory runs out.
     if out.refused() {
         return Err(Error::NoMemory);
@@ -98,15 +144,13 @@ fn push_shown(out: &mut String, text: &str) -> Result<(), Error> {
 impl Page {
     /// Adds a line of entries.
     fn push(&mut self, entries: &[&str]) -> Result<(), Error> {
-        match &self.row {
-            None => push_record(&mut self.out, Separator::Comma, entries)?,
-            Some(row) => {
-                let views = views_of(self.alloc, entries)?;
-                let text = row_text(self.alloc, row, &views)?;
-                push_shown(&mut self.out, text.trim_end())?;
-                self.out.push('\n')?;
-            }
+        let views = views_of(self.alloc, entries)?;
+        let text = row_text(self.alloc, &self.form, &views)?;
+        match &self.form {
+            Form::Line(_) => push_shown(&mut self.out, text.trim_end())?,
+            Form::Record(_) => self.out.push_str(text.as_str())?,
         }
+        self.out.push('\n')?;
         Ok(())
     }
 
@@ -218,7 +262,7 @@ pub fn page_of(
     let feet = all_feet(alloc, columns, records, groups, by)?;
     let mut page = Page {
         alloc,
-        row: row_of(alloc, columns, &feet, is_csv)?,
+        form: form_of(alloc, columns, &feet, is_csv)?,
         out: String::new(alloc),
     };
     page.push_names(columns)?;

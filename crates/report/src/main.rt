@@ -18,7 +18,7 @@
 //! A column is as wide, in characters, as the widest of its name, its entries and its totals, and
 //! aligned to the right if it is summed or all its entries are numbers. A line end in a field is
 //! shown as a blank, as is any other control character, and blanks at the end of a line are left
-//! out. `--csv` writes records with commas, and fields as they are.
+//! out. `--csv` writes records of CSV, each field as it is, between quotes.
 //!
 //! What is wrong is told by line and column: a byte that is no UTF-8; else all places where the file
 //! goes on with no record, and all records with another number of fields than the first line; else
