@@ -24,6 +24,7 @@ Prints the records of a file as a table, with exact totals.
   --lenient      what is no number in a column that is summed counts as none
   --csv          write records, not a table
   --             what follows is the file
+  --help         print this, if it is the only word
 
 report --total count,price --group city stock.csv
 ";
