@@ -6,6 +6,7 @@ mod helpers;
 mod invoice;
 mod languages;
 mod lent;
+mod logger;
 mod pages;
 mod profile;
 mod totals;
@@ -25,6 +26,7 @@ fn all(alloc: Global) -> Result<String, Error> {
         lent::shown(alloc)?,
         helpers::shown(alloc)?,
         pages::shown(alloc)?,
+        logger::shown(alloc)?,
         profile::shown(alloc)?,
     ] {
         page.push_str(text.as_str())?;

@@ -200,7 +200,7 @@ pub fn show(page: &mut Page) -> Result<(), Error> {
     catalogue::show(page)?;
     cells::show(page)?;
     levels::show(page);
-    log::show(page);
+    log::show(page)?;
     named::show(page);
     macros::show(page);
     fallback::show(page);

@@ -1,7 +1,7 @@
-//! A layout for log lines, prepared for rows of a record's fields.
+//! A layout for log lines, which others write: prepared once, and its values written escaped.
 
 use crate::page::Page;
-use interpolator::{Error, Formattable, Pairs, Prepared, Row, Template, TextBuffer, View};
+use interpolator::{Error, Escape, EscapedPrepared, PlaceError, Template, TextBuffer, values};
 use std::alloc::Global;
 
 /// A record to be logged.
@@ -12,46 +12,56 @@ struct Record<'a> {
     message: &'a str,
 }
 
+/// Why there is no log.
+#[derive(Debug, Drop)]
+enum LogError {
+    /// The layout has a fault.
+    Layout(Error),
+    /// A list of the layout is padded with a control.
+    Place(PlaceError),
+}
+
+impl From<Error> for LogError {
+    fn from(error: Error) -> LogError {
+        LogError::Layout(error)
+    }
+}
+
+impl From<PlaceError> for LogError {
+    fn from(error: PlaceError) -> LogError {
+        LogError::Place(error)
+    }
+}
+
 /// How a record is laid out: a format that is prepared once.
 #[derive(Drop)]
 struct Layout {
-    line: Prepared,
+    line: EscapedPrepared,
 }
 
 impl Layout {
     /// Parses a layout, and checks it against an example of a record.
-    fn new(alloc: Global, line: &str) -> Result<Layout, Error> {
-        let template = Template::parse(alloc, line)?;
-        let values = [View::from("INFO"), View::from(1u32), View::from("ready")];
-        let line = template.prepare(
-            alloc,
-            &Pairs(&[
-                ("level", Formattable::debug_display(&values[0])),
-                ("line", Formattable::integer(&values[1])),
-                ("message", Formattable::debug_display(&values[2])),
-            ]),
-        )?;
+    fn new(alloc: Global, text: &str) -> Result<Layout, LogError> {
+        let layout = Template::parse(alloc, text)?.escaped(alloc, Escape::Line)?;
+        let example = values!(level = "INFO", line:integer = 1u32, message = "ready");
+        let line = layout.prepare_named(alloc, &example)?;
         Ok(Layout { line })
     }
 
     /// Writes a record. The only memory that this needs is that of the text.
     fn write(&self, alloc: Global, out: &mut TextBuffer, record: &Record<'_>) -> Result<(), Error> {
-        let values = [
-            View::from(record.level),
-            View::from(record.line),
-            View::from(record.message),
-        ];
-        let row = [
-            Formattable::debug_display(&values[0]),
-            Formattable::integer(&values[1]),
-            Formattable::debug_display(&values[2]),
-        ];
-        self.line.write(alloc, out, &Row(&row))
+        let Record {
+            level,
+            line,
+            message,
+        } = *record;
+        self.line
+            .write_named(alloc, out, &values!(level, line:integer, message))
     }
 }
 
 /// All records, each written by the layout.
-fn laid_out(alloc: Global, layout: &str, records: &[Record<'_>]) -> Result<String, Error> {
+fn laid_out(alloc: Global, layout: &str, records: &[Record<'_>]) -> Result<String, LogError> {
     let layout = Layout::new(alloc, layout)?;
     let mut out = TextBuffer::new(alloc);
     for record in records {
@@ -60,7 +70,7 @@ fn laid_out(alloc: Global, layout: &str, records: &[Record<'_>]) -> Result<Strin
     Ok(out.into_string())
 }
 
-/// Two records.
+/// Two records, the second of what somebody sent who would rather write the log.
 const RECORDS: [Record<'static>; 2] = [
     Record {
         level: "INFO",
@@ -70,16 +80,23 @@ const RECORDS: [Record<'static>; 2] = [
     Record {
         level: "WARN",
         line: 1234,
-        message: "\"{é}\"",
+        message: "no {é}\nINFO      8 root",
     },
 ];
 
-pub fn show(page: &mut Page) {
-    let alloc = page.alloc;
-    let log = laid_out(alloc, "{level:<6}{line:>5} {message}\n", &RECORDS);
-    page.put_made("log", log);
-    page.put_made(
-        "short log",
-        laid_out(alloc, "{line:04x} {message:?};", &RECORDS),
-    );
+/// The records by this layout, or why there is no log.
+fn show_by(page: &mut Page, name: &str, layout: &str) -> Result<(), Error> {
+    match laid_out(page.alloc, layout, &RECORDS) {
+        Ok(log) => page.put(name, log.as_str()),
+        Err(error) => {
+            let told = format!(in page.alloc; "{error:?}")?;
+            page.put(name, told.as_str());
+        }
+    }
+    Ok(())
+}
+
+pub fn show(page: &mut Page) -> Result<(), Error> {
+    show_by(page, "log", "{level:<6}{line:>5} {message}\n")?;
+    show_by(page, "short log", "{line:04x} {message:?};")
 }
