@@ -45,8 +45,10 @@ impl Logger {
     fn new(alloc: Global, layout: &EscapedTemplate) -> Result<Logger, Error> {
         let example = record_of(alloc, "INFO", "ready", "Ann", 1)?;
         lend!(rows = example.fields);
-        let names = values!(level = example.level, message = &example.message, fields:i = rows);
-        let line = layout.prepare_named(alloc, &names)?;
+        let line = layout.prepare_named(
+            alloc,
+            &values!(level = example.level, message = &example.message, fields:i = rows),
+        )?;
         Ok(Logger { line })
     }
 

@@ -43,8 +43,10 @@ impl Layout {
     /// Parses a layout, and checks it against an example of a record.
     fn new(alloc: Global, text: &str) -> Result<Layout, LogError> {
         let layout = Template::parse(alloc, text)?.escaped(alloc, Escape::Line)?;
-        let example = values!(level = "INFO", line:integer = 1u32, message = "ready");
-        let line = layout.prepare_named(alloc, &example)?;
+        let line = layout.prepare_named(
+            alloc,
+            &values!(level = "INFO", line:integer = 1u32, message = "ready"),
+        )?;
         Ok(Layout { line })
     }
 
