@@ -42,8 +42,7 @@ struct Logger {
 
 impl Logger {
     /// Prepares a layout by an example, so that no record that is like it has a fault.
-    fn new(alloc: Global, layout: &EscapedTemplate) -> Result<Logger, Error> {
-        let example = record_of(alloc, "INFO", "ready", "Ann", 1)?;
+    fn new(alloc: Global, layout: &EscapedTemplate, example: &Record) -> Result<Logger, Error> {
         lend!(rows = example.fields);
         let line = layout.prepare_named(
             alloc,
@@ -65,7 +64,8 @@ impl Logger {
 
 /// The log of two records, the second by somebody who would rather write it.
 fn written(alloc: Global, layout: &EscapedTemplate) -> Result<String, Error> {
-    let logger = Logger::new(alloc, layout)?;
+    let example = record_of(alloc, "INFO", "ready", "Ann", 1)?;
+    let logger = Logger::new(alloc, layout, &example)?;
     let mut out = TextBuffer::new(alloc);
     for record in [
         record_of(alloc, "INFO", "upload", "Zoë", 7)?,
