@@ -10,6 +10,7 @@ usage='usage: merge [--separator , | ; | tab] [--latin1] [--partial] [--html | -
 usage+='[--if-empty NAME=TEMPLATE] [--] TEMPLATE TABLE'
 out_of_place='this value is out of place; a value may stand'
 html_places='in text, or between the quotes of an attribute that is a text'
+next='and the next letter would begin there'
 stray='a stray quote: write the field in quotes, and double those in it'
 unclosed='a quote that is never closed'
 after_quote='text after a closing quote: double the quotes in a field'
@@ -18,7 +19,7 @@ wanted_number='wants a number, such as -7 or 12.50'
 greatest=170141183460469231731687303715884105727
 here=$(cd "$(dirname "$0")" && pwd)
 name=merge
-wanted=132
+wanted=140
 . "$here/../../.ci/cases.sh"
 
 # files TEMPLATE TABLE: what stands in the files `t` and `r`.
@@ -174,6 +175,14 @@ misplaced() {
     case_of file file 1 '' "$1"$'\n' "${@:3}" t r
 }
 
+# ending WANTED TEMPLATE WORD..: a template of one line that ends elsewhere than it began.
+ending() {
+    local blanks
+    blanks=$(times "${#2}" ' ')
+    misplaced "t:1:$((${#2} + 1)): this template ends $1, $next"$'\n  |\n1 | '"$2"$'\n  | '"$blanks^" \
+        "${@:2}"
+}
+
 escape_cases() {
     escaped --html '<p title="x&quot;y">&lt;b&gt;|  &lt;b&gt;&amp;</p>' \
         '<p title="{a}">{b:.3}|{b:>6}</p>' $'a,b\n"x""y",<b>&\n'
@@ -208,6 +217,19 @@ place_cases() {
     files '{a}' $'a\n1\n'
     refusals_of 1 '' "$(printf '%s\n' "t:1:1: $out_of_place between double quotes" '  |' '1 | {a}' \
         '  | ^')"$'\n' --csv t r
+}
+
+ending_cases() {
+    ending 'in an attribute' '<p title="{a}' --html
+    ending 'elsewhere than it began' '{a}<p>{b}</p' --html
+    ending 'in a field' '"{a}","{b}' --csv --partial
+    ending 'elsewhere than it began' '"{a}","{b}"' --csv
+    ending 'in a string' '{{"a":"{a}' --json
+    printf '%s' '<!--' >o
+    misplaced "o:1:5: this template ends elsewhere than it began, $next"$'\n  |\n1 | <!--\n  |     ^' \
+        '{a}' --html --if-empty a=o
+    escaped --html '<p>x</p><p>y</p>' '<p>{a}</p>' $'a\nx\ny\n'
+    escaped --csv $'"x",""""\n"y",""\n' $'"{a}","{b}"\n' $'a,b\nx,""""\ny,\n'
 }
 
 # The letters of the records before the first that is wrong.
@@ -324,6 +346,7 @@ all_cases() {
     other_template_cases
     escape_cases
     place_cases
+    ending_cases
     partial_cases
     large_cases
     table_cases

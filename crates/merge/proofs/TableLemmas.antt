@@ -193,6 +193,6 @@ settled separator letters names kinds partial from rows old mid new once are cle
 settled separator letters names kinds partial from rows old mid new once are clean same
     (Err why.NoColumn) h = absurd h
 settled separator letters names kinds partial from rows old mid new once are clean same
-    (Err (why.Misplaced found)) h = absurd h
+    (Err (why.Unfit found)) h = absurd h
 settled separator letters names kinds partial from rows old mid new once are clean same
-    (Err (why.OtherMisplaced found)) h = absurd h
+    (Err (why.OtherUnfit found)) h = absurd h

@@ -15,9 +15,9 @@ use Rattle.interpolator.specs.Template.NodeSamples.{faults_over}
 use Rattle.interpolator.specs.Views.{Shown, shown_as_value}
 use Rattle.interpolator_escapes.specs.Escapes.{escape_of}
 use Rattle.interpolator_escapes.specs.Formats.{escaped_shows}
-use Rattle.interpolator_escapes.specs.Placing.{FailsFor, StandsFor}
+use Rattle.interpolator_escapes.specs.Placing.{EndsFor, FailsFor}
+use Rattle.interpolator_escapes.specs.declared.ending.Ending.TheVariants as endings
 use Rattle.interpolator_escapes.specs.declared.escape.Escape.{Escape}
-use Rattle.interpolator_escapes.specs.declared.misplaced.Misplaced.{Misplaced}
 use Rattle.interpolator.specs.declared.Error.{Error}
 use Rattle.interpolator.specs.declared.Formattable.{Formattable}
 use Rattle.interpolator.specs.declared.Spec.{Spec}
@@ -35,6 +35,9 @@ use Rattle.merge.specs.declared.templates.Fault.{Fault}
 use Rattle.merge.specs.declared.templates.Fault.TheVariants as why
 use Rattle.merge.specs.declared.templates.Letters.{Letters}
 use Rattle.merge.specs.declared.templates.Templates.{Templates}
+use Rattle.merge.specs.declared.templates.Unfit.{Unfit}
+use Rattle.merge.specs.declared.templates.Unfit.TheVariants.{Misplaced, EndsInPlace}
+use Rattle.merge.specs.declared.templates.Unfit.TheVariants.{EndsElsewhere}
 use Rattle.merge.specs.declared.table.LineFault.{LineFault}
 use Rattle.merge.specs.declared.table.Trouble.{Trouble}
 
@@ -149,23 +152,34 @@ LooksUp names name (Ok column) = IsChosen names name column
 LooksUp names name (Err fault) = (wanted : Bor (List ℕ)) × (name ≡ Some wanted)
     × (column_named names wanted.now ≡ None) × (fault ≡ why.NoColumn)
 
--- the values of a template are in places of the escape, if one is asked for
+-- a template is fit for an escape: its values stand, and it ends as it began, so that the next
+-- letter begins as this one did
+abbrev pub IsFit : Escape → (template : List ℕ) → Type 0
+IsFit escape template = EndsFor escape (outermost (chars template)) endings.Beginning
+
+-- it is not: this value is the first that does not stand, or it ends elsewhere
+abbrev pub IsUnfit : Escape → (template : List ℕ) → Unfit → Type 0
+IsUnfit escape template (Misplaced found) = FailsFor escape (outermost (chars template)) found
+IsUnfit escape template EndsInPlace = EndsFor escape (outermost (chars template)) endings.Place
+IsUnfit escape template EndsElsewhere =
+    EndsFor escape (outermost (chars template)) endings.Elsewhere
+
+-- so it is by the escape that is asked for, if one is
 abbrev pub IsPlaced : Option Escape → (template : List ℕ) → Type 0
 IsPlaced None template = ⊤
-IsPlaced (Some escape) template = StandsFor escape (outermost (chars template))
+IsPlaced (Some escape) template = IsFit escape template
 
--- this is the first that is not
-abbrev pub IsMisplaced : Option Escape → (template : List ℕ) → Misplaced → Type 0
+abbrev pub IsMisplaced : Option Escape → (template : List ℕ) → Unfit → Type 0
 IsMisplaced None template found = ⊥
-IsMisplaced (Some escape) template found = FailsFor escape (outermost (chars template)) found
+IsMisplaced (Some escape) template found = IsUnfit escape template found
 
--- those of both templates are, or one is not, or memory ran out
+-- both templates are, or one is not, or memory ran out
 abbrev pub ArePlaced : Option Escape → Templates → Result (Unit {0}) Fault → Type 0
 ArePlaced escape templates (Ok _) =
     IsPlaced escape templates.letter.now × IsPlaced escape templates.other.now
-ArePlaced escape templates (Err (why.Misplaced found)) =
+ArePlaced escape templates (Err (why.Unfit found)) =
     IsMisplaced escape templates.letter.now found
-ArePlaced escape templates (Err (why.OtherMisplaced found)) =
+ArePlaced escape templates (Err (why.OtherUnfit found)) =
     IsMisplaced escape templates.other.now found
 ArePlaced escape templates (Err why.Stopped) = ⊤
 ArePlaced escape templates (Err _) = ⊥
@@ -180,8 +194,8 @@ pub record ArePrepared (templates : Templates) (names : List (List ℕ)) (letter
     pub letter_placed : IsPlaced templates.escape templates.letter.now
     pub other_placed : IsPlaced templates.escape templates.other.now
 
--- why templates are not: no column has the name that is asked for, a template has these faults, a
--- value of it is in no place of the escape, or memory ran out
+-- why templates are not: no column has the name that is asked for, a template has these faults, it
+-- is not fit for the escape, or memory ran out
 abbrev pub Spoils : Templates → (names : List (List ℕ)) → List Kind → Fault → Type 0
 Spoils templates names kinds why.NoColumn = (name : Bor (List ℕ))
     × (templates.column ≡ Some name) × (column_named names name.now ≡ None)
@@ -189,9 +203,9 @@ Spoils templates names kinds (why.Template errors) =
     HasFaults (form_of templates.letter.now names) kinds errors.items
 Spoils templates names kinds (why.Other errors) =
     HasFaults (form_of templates.other.now names) kinds errors.items
-Spoils templates names kinds (why.Misplaced found) =
+Spoils templates names kinds (why.Unfit found) =
     IsMisplaced templates.escape templates.letter.now found
-Spoils templates names kinds (why.OtherMisplaced found) =
+Spoils templates names kinds (why.OtherUnfit found) =
     IsMisplaced templates.escape templates.other.now found
 Spoils templates names kinds (why.Table told) = ⊥
 Spoils templates names kinds why.Stopped = ⊤

@@ -316,7 +316,7 @@ fn merge_rows<W: TextWrite>(
 /// # Errors
 ///
 /// The fault of a first record whose names cannot be read; all faults that a template has with the
-/// names, its first value in no place of the escape, or that the names lack the one of the column;
+/// names, why it is not fit for the escape, or that the names lack the one of the column;
 /// the faults of all records; `Stopped`.
 pub fn merge<W: TextWrite>(
     alloc: Global,

@@ -21,12 +21,12 @@
 //!
 //! With `--html`, `--csv` or `--json`, of which one may be given, once, values are written
 //! escaped: as in the text and the attributes of a page, in the quoted fields of a table, or in
-//! the strings of JSON. Each value of a template has to stand in such a place of a letter by
-//! itself.
+//! the strings of JSON. Each value of a template has to stand in such a place, and a template has to
+//! end as it began, so that the next letter begins as this one did: one of CSV ends with a newline.
 //!
 //! Templates are checked with the columns before the first letter, and all faults of the first
 //! that has any are shown in their lines, as a compiler does; else the first value that is out of
-//! place is. All records of the table that have a fault are reported, by their first line, and all
+//! place is, or the end. All records of the table that have a fault are reported, by their first line, and all
 //! places where the table goes on with no record. In both cases no letter is written; but with
 //! `--partial` those of the records before the first fault are. So the table is read twice, or
 //! once with `--partial`, and each letter is written as it is made.

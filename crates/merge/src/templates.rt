@@ -1,14 +1,11 @@
 //! The templates of letters, prepared for the columns of a table, and why letters are missing.
 
 ghost use Rattle.std.specs.Prelude.{◌≡◌, IfOk, MatchOption, MatchResult, map};
-ghost use Rattle.std.specs.Str.{chars};
-ghost use Rattle.interpolator.specs.At.{outermost};
 ghost use Rattle.interpolator.specs.Prepared.Rows.{pair_names};
 ghost use Rattle.interpolator.specs.Slots.{slots_of};
-ghost use Rattle.interpolator_escapes.specs.Placing.{FailsFor, StandsFor};
 ghost use Rattle.merge.specs.Columns.{kinds_in, names_in};
-ghost use Rattle.merge.specs.Letters.{ArePlaced, HasFaults, HasNames, IsReady, LooksUp, Prepares};
-ghost use Rattle.merge.specs.Letters.{form_by, form_for, form_of};
+ghost use Rattle.merge.specs.Letters.{ArePlaced, HasFaults, HasNames, IsReady, IsUnfit, LooksUp};
+ghost use Rattle.merge.specs.Letters.{IsFit, Prepares, form_by, form_for, form_of};
 ghost use Rattle.merge.specs.Values.{example_by, is_empty_at};
 ghost use Rattle.merge.specs.declared.templates.Fault.TheVariants.{Stopped};
 ghost use Rattle.records.specs.Spellings.{text_of};
@@ -19,9 +16,20 @@ use crate::values::{example_of, is_empty_at};
 use interpolator::{
     Error, Escape, Formattable, Interpolate, Misplaced, Pairs, PlaceError, Prepared, Template, View,
 };
-use interpolator_escapes::check_format;
+use interpolator_escapes::{Ending, check_format};
 use records::Field;
 use std::alloc::{AllocError, Global};
+
+/// Why a template is not fit for letters whose values are escaped.
+#[derive(Clone, Copy)]
+pub enum Unfit {
+    /// This is its first value in no place of the escape.
+    Misplaced(Misplaced),
+    /// It ends where a value may stand, and not as it began: the next letter would begin there.
+    EndsInPlace,
+    /// It ends elsewhere than it began.
+    EndsElsewhere,
+}
 
 /// Why letters are missing.
 #[derive(Drop)]
@@ -30,10 +38,10 @@ pub enum Fault {
     Template(Vec<Error>),
     /// Those of the other template.
     Other(Vec<Error>),
-    /// The first value of the template that is in no place of the escape.
-    Misplaced(Misplaced),
-    /// That of the other template.
-    OtherMisplaced(Misplaced),
+    /// Why the template is not fit for the escape.
+    Unfit(Unfit),
+    /// Why the other template is not.
+    OtherUnfit(Unfit),
     /// No column has the name of the one whose empty fields choose the other template.
     NoColumn,
     /// All lines of the table that have a fault.
@@ -142,31 +150,32 @@ fn chosen_column(columns: &[Column<'_>], name: Option<&str>) -> Result<Option<us
     }
 }
 
-/// The first value of a template that is in no place of an escape.
-fn misplaced_in(alloc: Global, escape: Escape, text: &str) -> Result<Option<Misplaced>, Error>
-    ensures { IfOk result (λ found. MatchOption found
-        (StandsFor escape (outermost (chars text.now)))
-        (FailsFor escape (outermost (chars text.now)))) }
+/// Why a template is not fit for letters whose values are escaped, if it is not.
+fn unfit_for(alloc: Global, escape: Escape, text: &str) -> Result<Option<Unfit>, Error>
+    ensures { IfOk result (λ found.
+        MatchOption found (IsFit escape text.now) (IsUnfit escape text.now)) }
 {
     match check_format(alloc, escape, text) {
-        Ok(()) => Ok(None),
-        Err(PlaceError::Misplaced(misplaced)) => Ok(Some(misplaced)),
+        Ok(Ending::Beginning) => Ok(None),
+        Ok(Ending::Place) => Ok(Some(Unfit::EndsInPlace)),
+        Ok(Ending::Elsewhere) => Ok(Some(Unfit::EndsElsewhere)),
+        Err(PlaceError::Misplaced(misplaced)) => Ok(Some(Unfit::Misplaced(misplaced))),
         Err(PlaceError::NoMemory) => Err(Error::NoMemory),
     }
 }
 
-/// Checks that the values of the templates are in places of the escape, if one is asked for.
+/// Checks that the templates are fit for the escape, if one is asked for.
 fn check_places(alloc: Global, templates: Templates<'_>) -> Result<(), Fault>
     ensures { ArePlaced templates.entry.escape templates.entry result }
 {
     let Some(escape) = templates.escape else {
         return Ok(());
     };
-    if let Some(misplaced) = misplaced_in(alloc, escape, templates.letter)? {
-        return Err(Fault::Misplaced(misplaced));
+    if let Some(unfit) = unfit_for(alloc, escape, templates.letter)? {
+        return Err(Fault::Unfit(unfit));
     }
-    if let Some(misplaced) = misplaced_in(alloc, escape, templates.other)? {
-        return Err(Fault::OtherMisplaced(misplaced));
+    if let Some(unfit) = unfit_for(alloc, escape, templates.other)? {
+        return Err(Fault::OtherUnfit(unfit));
     }
     Ok(())
 }

@@ -2,10 +2,8 @@
 
 use crate::columns::{columns_of, names_of};
 use crate::table::{LineFault, Trouble};
-use crate::templates::Fault;
-use interpolator::{
-    Error, Escape, Misplaced, Source, explain_place, explain_with_names, places_of,
-};
+use crate::templates::{Fault, Unfit};
+use interpolator::{Error, Escape, Source, explain_place, explain_with_names, places_of};
 use records::{Field, ReadError, Reader, Separator};
 use std::alloc::Global;
 
@@ -109,23 +107,73 @@ fn told_template(
     Ok(told)
 }
 
-/// The value of a template that is out of place, shown in its line.
+/// Something at a place of a template, shown in its line.
+fn told_at(
+    alloc: Global,
+    name: &str,
+    text: &str,
+    place: usize,
+    why: &str,
+) -> Result<String, Error> {
+    let mut told = explain_place(alloc, &source_of(name, text), place, why)?;
+    told.push('\n')?;
+    Ok(told)
+}
+
+/// What a value of an escape stands in.
+fn place_of(escape: Escape) -> &'static str {
+    match escape {
+        Escape::Line => "a line",
+        Escape::Html => "an attribute",
+        Escape::Csv => "a field",
+        Escape::Json => "a string",
+        Escape::Shell => "quotes",
+    }
+}
+
+/// Why a template is not fit for an escape, shown in its line.
+fn told_unfit(
+    alloc: Global,
+    escape: Escape,
+    name: &str,
+    text: &str,
+    unfit: Unfit,
+) -> Result<String, Error> {
+    match unfit {
+        Unfit::Misplaced(misplaced) => {
+            let places = places_of(escape);
+            let why = format!(in alloc; "{}; a value may stand {places}", misplaced.why)?;
+            told_at(alloc, name, text, misplaced.place, why.as_str())
+        }
+        Unfit::EndsInPlace => {
+            let place = place_of(escape);
+            let why = format!(in alloc;
+                "this template ends in {place}, and the next letter would begin there"
+            )?;
+            told_at(alloc, name, text, text.len(), why.as_str())
+        }
+        Unfit::EndsElsewhere => told_at(
+            alloc,
+            name,
+            text,
+            text.len(),
+            "this template ends elsewhere than it began, and the next letter would begin there",
+        ),
+    }
+}
+
+/// The same of one of the files.
 fn told_place(
     alloc: Global,
     files: Files<'_>,
     name: &str,
     text: &str,
-    misplaced: Misplaced,
+    unfit: Unfit,
 ) -> Result<String, Error> {
-    let places = match files.escape {
-        Some(escape) => places_of(escape),
-        None => "",
-    };
-    let why = format!(in alloc; "{}; a value may stand {places}", misplaced.why)?;
-    let source = source_of(name, text);
-    let mut told = explain_place(alloc, &source, misplaced.place, why.as_str())?;
-    told.push('\n')?;
-    Ok(told)
+    match files.escape {
+        Some(escape) => told_unfit(alloc, escape, name, text, unfit),
+        None => Ok(String::new(alloc)),
+    }
 }
 
 /// Why letters are missing: faults of a template, or of the table.
@@ -135,17 +183,11 @@ pub fn told(alloc: Global, files: Files<'_>, fault: &Fault) -> Result<String, Er
             told_template(alloc, files, files.template_name, files.template, faults)
         }
         Fault::Other(faults) => told_template(alloc, files, files.other_name, files.other, faults),
-        Fault::Misplaced(misplaced) => {
-            told_place(
-                alloc,
-                files,
-                files.template_name,
-                files.template,
-                *misplaced,
-            )
+        Fault::Unfit(unfit) => {
+            told_place(alloc, files, files.template_name, files.template, *unfit)
         }
-        Fault::OtherMisplaced(misplaced) => {
-            told_place(alloc, files, files.other_name, files.other, *misplaced)
+        Fault::OtherUnfit(unfit) => {
+            told_place(alloc, files, files.other_name, files.other, *unfit)
         }
         Fault::Table(faults) => told_lines(alloc, files, faults.as_slice()),
         Fault::NoColumn => {
