@@ -8,9 +8,10 @@ set -u
 
 here=$(cd "$(dirname "$0")" && pwd)
 name=catalogue
-usage='usage: catalogue [--fallback FILE] FILE KEY '
-usage+='[NAME=TEXT | NAME:=NUMBER | NAME:.=DECIMAL | NAME:~=FLOAT | NAME[]=ITEM,ITEM..] | catalogue --check FILE..'
-wanted=102
+usage='usage: catalogue [--line | --html] [--fallback FILE] [--] FILE KEY '
+usage+='[NAME=TEXT | NAME:=NUMBER | NAME:.=DECIMAL | NAME:~=FLOAT | NAME[]=ITEM,ITEM..] | '
+usage+='catalogue --check [--line | --html] [--] FILE..'
+wanted=126
 . "$here/../../.ci/cases.sh"
 
 # message WANTED WORD..: a message, which goes to standard output, with status 0.
@@ -182,6 +183,7 @@ float_cases() {
 key_cases() {
     printf '\xef\xbb\xbf%s\n%s\n' '# greetings' 'hello = Hello {name}!' >mark.txt
     message 'Hello Ann!' mark.txt hello name=Ann
+    printf '%s\n' 'hello = Hello {name}' >mark2.txt
     printf '\xef\xbb\xbf%s\n' 'hello = Hello {name' >mark.txt
     told "$(printf '%s\n' \
         'mark.txt:1:16: error while parsing input: Format spec at 7 is nether closed with a `}` (byte 7 of the format)' \
@@ -266,6 +268,44 @@ form_cases() {
         --check ending.txt
 }
 
+# Values that are written escaped, and those that are out of place.
+escape_cases() {
+    local places='in text, or between the quotes of an attribute that is a text'
+    printf '%s\n' 'link(to, n:) = <a title="{to}">{to:?} {n}</a>' 'plain = {x:>3}' >page.txt
+    message '<a title="&lt;&quot;&gt;">&quot;&lt;\&quot;&gt;&quot; -1</a>' --html page.txt link \
+        'to=<">' n:=-1
+    message '  &lt;' --html page.txt plain 'x=<'
+    message '  &lt;' --fallback page.txt --html m.txt plain 'x=<'
+    message '  <' page.txt plain 'x=<'
+    message 'Hello a\nb\x1b\\!' --line m.txt hello $'name=a\nb\e\\'
+    message 'Hello é' --line -- mark2.txt hello name=é
+    case_of file file 0 '' '' --check --html page.txt m.txt
+    case_of file file 0 '' '' --line --check page.txt m.txt
+    printf '%s\n' 'a = {x}' 'é = <p {x}> {y}' '# {' 'b(l[]) = <i>{l:i({}<)}</i>' >out.txt
+    misplaced="$(printf '%s\n' \
+        "out.txt:2:8: this value is out of place; a value may stand $places (byte 3 of the format)" \
+        '  |' '2 | é = <p {x}> {y}' '  |        ^' \
+        "out.txt:4:13: an item of this list ends elsewhere than it began; a value may stand $places (byte 3 of the format)" \
+        '  |' '4 | b(l[]) = <i>{l:i({}<)}</i>' '  |             ^')"
+    told "$misplaced" --check --html out.txt
+    told "$misplaced" --html out.txt a x=1
+    told "$misplaced" --html --fallback out.txt m.txt hello name
+    message 1 --line out.txt a x=1
+    message 1 out.txt a x=1
+    printf '%s\n' 'a = {x' >early.txt
+    told "$(printf '%s\n' \
+        'early.txt:1:6: error while parsing input: Format spec at 1 is nether closed with a `}` (byte 1 of the format)' \
+        '  |' '1 | a = {x' '  |     ~^')"$'\n'"$misplaced" --check --html early.txt out.txt
+    wrong "$usage" --html --html m.txt hello name=1
+    wrong "$usage" --html --line m.txt hello name=1
+    wrong "$usage" --check --html
+    wrong "$usage" --html m.txt
+    wrong "$usage" --csv m.txt hello name=1
+    wrong "$usage" --check --fallback m.txt m.txt
+    unread '--html: No such file or directory (os error 2)' -- --html hello
+    case_of file file 0 "$(sed -n '/^const HELP/,/^";/p' "$here/src/main.rt" | sed '1d;$d')"$'\n' '' --help
+}
+
 # Checks alone.
 check_cases() {
     unread 'none.txt: No such file or directory (os error 2)' --fallback none.txt m.txt hello
@@ -304,6 +344,8 @@ use_cases() {
 
 refused_calls() {
     refusals_of 0 $'Ann: -07 of <a>, <b>\n' '' declared.txt cart name=Ann n:=-7 'l[]=a,b'
+    refusals_of 0 $'<a title="&lt;">&quot;&lt;&quot; 1</a>\n' '' --html page.txt link 'to=<' n:=1
+    refusals_of 1 '' "$misplaced"$'\n' --check --html out.txt
     refusals_of 0 $'2 Artikel\n' '' --fallback m.txt forms.txt cart n:=2
     refusals_of 0 '' '' --check m.txt
     refusals_of 1 '' "$faults"$'\n' --check one.txt m.txt two.txt
@@ -326,6 +368,7 @@ all_cases() {
     key_cases
     fallback_cases
     form_cases
+    escape_cases
     check_cases
     use_cases
     refused_calls

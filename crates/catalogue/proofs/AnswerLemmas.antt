@@ -3,6 +3,7 @@ use Rattle.std.proofs.Common.{◌≡◌, ◌⊎◌, refl, inr, arith, ℕ, List,
 use Rattle.std.proofs.Common.{All, option_map}
 use Rattle.std.specs.declared.string.String.{String}
 use Rattle.interpolator.specs.Faults.{Answer as Reply, Fault, answer_place, fault, no_memory}
+use Rattle.interpolator_escapes.specs.declared.escape.Escape.{Escape}
 use Rattle.catalogue.specs.Declarations.{Declared, nothing, these, broken}
 use Rattle.catalogue.specs.Entries.{Held}
 use Rattle.catalogue.specs.Files.{Line}
@@ -13,7 +14,7 @@ use Rattle.catalogue.specs.Objects.{IsGiven}
 use Rattle.catalogue.specs.declared.entries.Object.{Object}
 use Rattle.catalogue.specs.declared.messages.Answer.{Answer}
 use Rattle.catalogue.specs.declared.messages.Answer.TheVariants.{Message, Faults, BadWord}
-use Rattle.catalogue.proofs.KindLemmas.{ByKind, MeansNone, none_fails}
+use Rattle.catalogue.proofs.KindLemmas.{ByKind, MeansNone, SameFaults, none_fails}
 
 -- a fault that has a place, as a call told it, is the fault of what it means
 pub told_fault : (a : Reply) (o : Option Fault) (place : ℕ) → Some place ≡ answer_place a
@@ -22,26 +23,25 @@ told_fault no_memory o place has h = absurd (cc has)
 told_fault (fault f) o place has h = (f, refl, grind (arith, h))
 
 -- the message of a sound line, or its fault, is a reply
-pub replies_made : ByKind → MeansNone → (line : Line) (key format : List ℕ) (declared : Declared)
-    (values : List Object) (held : List Held) (answer : Answer) → IsSoundOver declared format
-    → All IsGiven values → ArePicked declared values held → IsMadeOrTold line format held answer
-    → Replies answer None line key declared format values
-replies_made by_kind none line key format declared values held (Message m) sound given are h =
-    record { held = held; are = are; made = h }
-replies_made by_kind none line key format nothing values held (Faults told) sound given are h =
-    inr (refl, rw (← are) h)
-replies_made by_kind none line key format (these ds) values held (Faults told) sound given are h =
-    absurd (let no = none_fails by_kind none format ds values held sound given are in
-    let some = h.faulty in cc)
-replies_made by_kind none line key format (broken at) values held (Faults told) sound given are h =
-    absurd sound
-replies_made by_kind none line key format declared values held (BadWord w) sound given are h =
-    absurd h
+module _ (by_kind : ByKind) (none : MeansNone) (same : SameFaults) (escape : Option Escape)
+    (line : Line) (key format : List ℕ) where
+  pub replies_made : (declared : Declared) (values : List Object) (held : List Held)
+      (answer : Answer) → IsSoundOver declared format → All IsGiven values
+      → ArePicked declared values held → IsMadeOrTold escape line format held answer
+      → Replies escape answer None line key declared format values
+  replies_made declared values held (Message m) sound given are h =
+      record { held = held; are = are; made = h }
+  replies_made nothing values held (Faults told) sound given are h = inr (refl, rw (← are) h)
+  replies_made (these ds) values held (Faults told) sound given are h =
+      absurd (let no = none_fails by_kind none same escape format ds values held sound given are in
+      let some = h.faulty in cc)
+  replies_made (broken at) values held (Faults told) sound given are h = absurd sound
+  replies_made declared values held (BadWord w) sound given are h = absurd h
 
 -- what the line comes to is the answer
-pub answers_line : {Y : Type 0} (files : List (List ℕ × List ℕ)) (key : List ℕ)
-    (words : List (String Y)) (answer : Answer) → OfLine files key words answer
-    → Answers files key words answer
-answers_line files key words (Message m) h = h
-answers_line files key words (Faults told) h = inr (inr h)
-answers_line files key words (BadWord w) h = absurd h.replies
+pub answers_line : {Y : Type 0} (escape : Option Escape) (files : List (List ℕ × List ℕ))
+    (key : List ℕ) (words : List (String Y)) (answer : Answer)
+    → OfLine escape files key words answer → Answers escape files key words answer
+answers_line escape files key words (Message m) h = h
+answers_line escape files key words (Faults told) h = inr (inr h)
+answers_line escape files key words (BadWord w) h = absurd h.replies

@@ -1,5 +1,6 @@
 -- Values of declared kinds resemble the examples of these: a sound format has no fault over them.
-use Rattle.std.proofs.Common.{◌≡◌, ap, arith, refl, sym, inl, ℕ, List, [], ◌∷◌, map, None, Option}
+use Rattle.std.proofs.Common.{◌≡◌, ◌∙◌, ap, arith, refl, sym, inl, ℕ, List, [], ◌∷◌, map}
+use Rattle.std.proofs.Common.{None, Option, Some}
 use Rattle.std.proofs.lemmas.List.Elements.{All-nil, All-cons}
 use Rattle.std.proofs.lemmas.Slice.Eq.{bytes_eq-Decides}
 use Rattle.std.specs.List.{All, AllZip}
@@ -22,6 +23,9 @@ use Rattle.interpolator.specs.declared.Bits.TheVariants.{B128}
 use Rattle.interpolator.specs.declared.Spec.{Spec}
 use Rattle.interpolator.specs.declared.Trait.{Trait}
 use Rattle.interpolator.specs.declared.View.{View}
+use Rattle.interpolator_escapes.specs.Escapes.{escape_of}
+use Rattle.interpolator_escapes.specs.Formats.{escaped_shows}
+use Rattle.interpolator_escapes.specs.declared.escape.Escape.{Escape}
 use Rattle.catalogue.specs.Declarations.{these}
 use Rattle.catalogue.specs.Entries.{Held, found_by, item_slots, slots_by}
 use Rattle.catalogue.specs.Examples.{example, example_of, example_slots, faults_of, text_example}
@@ -47,6 +51,18 @@ MeansNone = (finds : List ℕ → Option (Slots View)) (e : Environment View) (a
     → faults_over view_shows finds a ≡ []
     → ResemblesOn view_shows view_shows e (environment finds) (asked_names a)
     → (means view_shows e a).fault ≡ None
+
+-- an escape changes no fault
+abbrev pub SameFaults : Type 0
+SameFaults = (escape : Escape) (e : Environment View) (a : At)
+    → (means (escaped_shows (escape_of escape) view_shows) e a).fault ≡ (means view_shows e a).fault
+
+-- so a message has the fault that it has without one
+same_fault : SameFaults → (escape : Option Escape) (format : List ℕ) (held : List Held)
+    → (message_means escape format held).fault ≡ (message_means None format held).fault
+same_fault same None format held = refl
+same_fault same (Some escape) format held =
+    same escape (environment (found_by held)) (outermost (chars format))
 
 names_alike : (held examples : List Held) (names : List (List ℕ)) → AllZip IsLike held examples
     → ResemblesOn view_shows view_shows (environment (found_by held))
@@ -168,9 +184,11 @@ module _ (by_kind : ByKind) (means_none : MeansNone) where
       (pick_alike objects d x g h.0, all_alike objects ds xs g h.1)
 
   -- so no message fails
-  pub none_fails : (format : List ℕ) (ds : List (List ℕ × Kind)) (objects : List Object)
-      (held : List Held) → faults_of (these ds) format ≡ [] → All IsGiven objects
-      → AllZip (HoldsPick objects) ds held → (message_means format held).fault ≡ None
-  none_fails format ds objects held sound g h =
-      means_none (found_by (map example_of ds)) _ (outermost (chars format)) sound
+  pub none_fails : SameFaults → (escape : Option Escape) (format : List ℕ)
+      (ds : List (List ℕ × Kind)) (objects : List Object) (held : List Held)
+      → faults_of (these ds) format ≡ [] → All IsGiven objects
+      → AllZip (HoldsPick objects) ds held → (message_means escape format held).fault ≡ None
+  none_fails same escape format ds objects held sound g h =
+      same_fault same escape format held
+      ∙ means_none (found_by (map example_of ds)) _ (outermost (chars format)) sound
       (names_alike _ _ (asked_names (outermost (chars format))) (all_alike objects ds held g h))

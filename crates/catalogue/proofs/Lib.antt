@@ -4,6 +4,7 @@ pub mod HeldLemmas
 pub mod KeyLemmas
 pub mod KindLemmas
 pub mod OwnLemmas
+pub mod PlaceLemmas
 pub mod RuleLemmas
 pub mod SoundLemmas
 pub mod ZipLemmas

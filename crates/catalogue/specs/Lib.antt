@@ -10,6 +10,7 @@ pub mod Examples
 pub mod Entries
 pub mod Objects
 pub mod Picks
+pub mod Places
 pub mod Reports
 pub mod Keys
 pub mod Rules

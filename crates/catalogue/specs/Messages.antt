@@ -10,6 +10,12 @@ use Rattle.interpolator.specs.Faults.{Fault, fault}
 use Rattle.interpolator.specs.Meaning.Environments.{environment}
 use Rattle.interpolator.specs.Meaning.Meanings.{Meaning, means}
 use Rattle.interpolator.specs.Meaning.Outcomes.{Formats}
+use Rattle.interpolator.specs.Views.{Shown}
+use Rattle.interpolator.specs.declared.Spec.{Spec}
+use Rattle.interpolator.specs.declared.Trait.{Trait}
+use Rattle.interpolator_escapes.specs.Escapes.{escape_of}
+use Rattle.interpolator_escapes.specs.Formats.{escaped_shows}
+use Rattle.interpolator_escapes.specs.declared.escape.Escape.{Escape}
 use Rattle.catalogue.specs.Declarations.{Declared, nothing}
 use Rattle.catalogue.specs.Entries.{Held, found_by, held_by}
 use Rattle.catalogue.specs.Examples.{view_shows}
@@ -25,30 +31,38 @@ use Rattle.catalogue.specs.declared.entries.Object.{Object}
 use Rattle.catalogue.specs.declared.messages.Answer.{Answer}
 use Rattle.catalogue.specs.declared.messages.Answer.TheVariants.{Message, Faults, BadWord}
 
+-- what values show in a message: escaped, if that is asked for
+abbrev pub escaped_by : {X : Type 0} → Option Escape → (shows : X → Trait → Spec → Shown)
+    → X → Trait → Spec → Shown
+escaped_by None shows = shows
+escaped_by (Some escape) shows = escaped_shows (escape_of escape) shows
+
 -- what a format means with these values under names
-abbrev pub message_means : List ℕ → List Held → Meaning
-message_means format held =
-    means view_shows (environment (found_by held)) (outermost (chars format))
+abbrev pub message_means : Option Escape → List ℕ → List Held → Meaning
+message_means escape format held =
+    means (escaped_by escape view_shows) (environment (found_by held)) (outermost (chars format))
 
 -- what is reported of a format's fault: the fault as it is shown in its line
-pub record IsToldOf (line : Line) (format : List ℕ) (held : List Held) (told : List ℕ)
-    : Type 0 where
+pub record IsToldOf (escape : Option Escape) (line : Line) (format : List ℕ) (held : List Held)
+    (told : List ℕ) : Type 0 where
   pub f : Fault
-  pub faulty : (message_means format held).fault ≡ Some f
+  pub faulty : (message_means escape format held).fault ≡ Some f
   pub says : told ≡ told_of_fault line format (fault f)
 
 -- a message is what its format means, without fault; or its fault is reported
-abbrev pub IsMadeOrTold : Line → (format : List ℕ) → List Held → Answer → Type 0
-IsMadeOrTold line format held (Message message) = Formats (message_means format held) (Ok message)
-IsMadeOrTold line format held (Faults told) = IsToldOf line format held (string_bytes told)
-IsMadeOrTold line format held (BadWord word) = ⊥
+abbrev pub IsMadeOrTold : Option Escape → Line → (format : List ℕ) → List Held → Answer → Type 0
+IsMadeOrTold escape line format held (Message message) =
+    Formats (message_means escape format held) (Ok message)
+IsMadeOrTold escape line format held (Faults told) =
+    IsToldOf escape line format held (string_bytes told)
+IsMadeOrTold escape line format held (BadWord word) = ⊥
 
 -- a message is made with what is picked of objects for what its line declares
-pub record IsMade {Z : Type 0} (format : List ℕ) (declared : Declared) (objects : List Object)
-    (message : String Z) : Type 0 where
+pub record IsMade {Z : Type 0} (escape : Option Escape) (format : List ℕ) (declared : Declared)
+    (objects : List Object) (message : String Z) : Type 0 where
   pub held : List Held
   pub are : ArePicked declared objects held
-  pub made : Formats (message_means format held) (Ok message)
+  pub made : Formats (message_means escape format held) (Ok message)
 
 -- what is reported of a declaration for which nothing is picked
 pub record IsToldLacking (line : Line) (key : List ℕ) (declared : Declared)
@@ -59,17 +73,18 @@ pub record IsToldLacking (line : Line) (key : List ℕ) (declared : Declared)
 
 -- what the line that was found comes to: the message; the value that it lacks, or its fault, if it
 -- declares nothing; or that the number which chooses its form is missing
-abbrev pub Replies : Answer → Option (List ℕ) → Line → (key : List ℕ) → Declared
+abbrev pub Replies : Option Escape → Answer → Option (List ℕ) → Line → (key : List ℕ) → Declared
     → (format : List ℕ) → List Object → Type 0
-Replies (Message message) None line key declared format objects =
-    IsMade format declared objects message
-Replies (Faults told) None line key declared format objects =
+Replies escape (Message message) None line key declared format objects =
+    IsMade escape format declared objects message
+Replies escape (Faults told) None line key declared format objects =
     IsToldLacking line key declared objects (string_bytes told)
-    ⊎ ((declared ≡ nothing) × IsToldOf line format (map held_by objects) (string_bytes told))
-Replies (Faults told) (Some name) line key declared format objects =
+    ⊎ ((declared ≡ nothing)
+    × IsToldOf escape line format (map held_by objects) (string_bytes told))
+Replies escape (Faults told) (Some name) line key declared format objects =
     string_bytes told ≡ told_of_lacking line key (name, kinds.Number)
-Replies (Message message) (Some name) line key declared format objects = ⊥
-Replies (BadWord word) lacks line key declared format objects = ⊥
+Replies escape (Message message) (Some name) line key declared format objects = ⊥
+Replies escape (BadWord word) lacks line key declared format objects = ⊥
 
 -- each word gives an object
 abbrev pub GiveValues : {Y : Type 0} → List (String Y) → List Object → Type 0
@@ -81,41 +96,42 @@ abbrev pub given : {X Z : Type 0} → Result (Vec Object Z) X → List Object
 given (Ok objects) = objects.items
 given (Err bad) = []
 
-module _ {Y : Type 0} (files : List (List ℕ × List ℕ)) (key : List ℕ) (words : List (String Y))
-  where
-    -- every file is sound, and the answer is what the line comes to with what the words give: the
-    -- line of the key, or of its form, in the first file that has it
-    pub record OfLine (answer : Answer) : Type 0 where
-      pub sound : All IsSoundFile files
-      pub values : List Object
-      pub given : GiveValues words values
-      pub known : Known
-      pub under : found_among values key files ≡ Some known
-      pub replies : Replies answer known.lacks known.line key known.declared known.format values
+module _ {Y : Type 0} (escape : Option Escape) (files : List (List ℕ × List ℕ)) (key : List ℕ)
+    (words : List (String Y)) where
+  -- every file is sound, and the answer is what the line comes to with what the words give: the
+  -- line of the key, or of its form, in the first file that has it
+  pub record OfLine (answer : Answer) : Type 0 where
+    pub sound : All IsSoundFile files
+    pub values : List Object
+    pub given : GiveValues words values
+    pub known : Known
+    pub under : found_among values key files ≡ Some known
+    pub replies : Replies escape answer known.lacks known.line key known.declared known.format
+        values
 
-    -- some line is not sound: all faults of all lines of all files are reported
-    pub record OfFiles (told : List ℕ) : Type 0 where
-      pub some : 0 < length told
-      pub all : told ≡ told_of_files files
+  -- some line is not sound: all faults of all lines of all files are reported
+  pub record OfFiles (told : List ℕ) : Type 0 where
+    pub some : 0 < length told
+    pub all : told ≡ told_of_files files
 
-    -- every file is sound, and none has the key, or the form that what the words give chooses
-    pub record OfKey (told : List ℕ) : Type 0 where
-      pub sound : All IsSoundFile files
-      pub values : List Object
-      pub given : GiveValues words values
-      pub none : found_among values key files ≡ None
-      pub says : told ≡ told_of_absent values key files
+  -- every file is sound, and none has the key, or the form that what the words give chooses
+  pub record OfKey (told : List ℕ) : Type 0 where
+    pub sound : All IsSoundFile files
+    pub values : List Object
+    pub given : GiveValues words values
+    pub none : found_among values key files ≡ None
+    pub says : told ≡ told_of_absent values key files
 
-    -- every file is sound, and this is the first word that gives nothing
-    pub record OfWord (word : List ℕ) : Type 0 where
-      pub sound : All IsSoundFile files
-      pub first : IsFirstBad words word
+  -- every file is sound, and this is the first word that gives nothing
+  pub record OfWord (word : List ℕ) : Type 0 where
+    pub sound : All IsSoundFile files
+    pub first : IsFirstBad words word
 
-    -- the answer: the message; a word that gives nothing; or what is wrong with the files, else the
-    -- key, or else the line: the number of its form, a value that is missing, or the message, if the
-    -- line declares nothing
-    abbrev pub Answers : Answer → Type 0
-    Answers (Message message) = OfLine (Message message)
-    Answers (BadWord word) = OfWord (string_bytes word)
-    Answers (Faults told) =
-        OfFiles (string_bytes told) ⊎ OfKey (string_bytes told) ⊎ OfLine (Faults told)
+  -- the answer: the message; a word that gives nothing; or what is wrong with the files, else the
+  -- key, or else the line: the number of its form, a value that is missing, or the message, if the
+  -- line declares nothing
+  abbrev pub Answers : Answer → Type 0
+  Answers (Message message) = OfLine (Message message)
+  Answers (BadWord word) = OfWord (string_bytes word)
+  Answers (Faults told) =
+      OfFiles (string_bytes told) ⊎ OfKey (string_bytes told) ⊎ OfLine (Faults told)

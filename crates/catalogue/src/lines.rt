@@ -1,11 +1,11 @@
 //! The lines of a file, and the key that is looked up in them.
 
-ghost use Rattle.std.specs.Prelude.{◌≡◌, IfOk, IfSome, MatchOption};
+ghost use Rattle.std.specs.Prelude.{◌≡◌, IfOk, IfSome, MatchOption, is_some};
 ghost use Rattle.std.specs.Option.{option_map};
 ghost use Rattle.std.specs.Str.{bytes_eq};
 ghost use Rattle.words.specs.Items.{texts_of};
 ghost use Rattle.catalogue.specs.Forms.{as_choice, as_sought};
-ghost use Rattle.catalogue.specs.Lines.{format_of, head_of, is_passed_over, is_under};
+ghost use Rattle.catalogue.specs.Lines.{format_of, has_message, head_of, is_passed_over, is_under};
 ghost use Rattle.catalogue.specs.Sought.{choice_for, has_key, sought};
 ghost use Rattle.words.specs.Words.{HasEquals};
 
@@ -39,14 +39,23 @@ pub fn is_passed_over(line: &str) -> bool
     line.trim().is_empty() || line.starts_with('#')
 }
 
+/// The head and the format of a line that has a message.
+pub fn message_of(line: &str) -> Option<(&str, &str)>
+    ensures some { is_some result ≡ has_message line.now }
+    ensures head { IfSome result (λ message. message.0.now ≡ head_of line.now) }
+    ensures format { IfSome result (λ message. message.1.now ≡ format_of line.now) }
+{
+    if is_passed_over(line) || rule_in(line).is_some() {
+        return None;
+    }
+    line_of(line)
+}
+
 /// Whether a line has a message under a key.
 fn is_under(key: &str, line: &str) -> bool
     ensures { result ≡ is_under key.now line.now }
 {
-    if is_passed_over(line) || rule_in(line).is_some() {
-        return false;
-    }
-    match line_of(line) {
+    match message_of(line) {
         Some((head, _)) => is_key(key_in(head), key),
         None => false,
     }

@@ -1,28 +1,35 @@
-//! `catalogue [--fallback FILE] FILE KEY [NAME=TEXT | NAME:=NUMBER | NAME:.=DECIMAL |
-//! NAME:~=FLOAT | NAME[]=ITEM,ITEM..]`: the message under a key in a file whose messages are all
-//! checked first. If the file lacks the key, the message is that of the fallback, which is checked
-//! too. `catalogue --check FILE..` checks files alone.
+//! `catalogue [--line | --html] [--fallback FILE] FILE KEY WORD..`: the message under a key in a
+//! file whose messages are all checked first, with the values of words `NAME=TEXT`, `NAME:=NUMBER`,
+//! `NAME:.=DECIMAL`, `NAME:~=FLOAT` and `NAME[]=ITEM,ITEM..`. If the file lacks the key, the
+//! message is that of the fallback, which is checked too. `catalogue --check FILE..` checks files
+//! alone.
 //!
-//! A line of a file is `key = format`, or `key(name, count:, price:., x:~, items[]) = format`, which
-//! declares a text `name`, a whole number `count`, a decimal `price`, a float `x` and a list of texts
-//! `items`. The format is then checked with examples of these, and the words have to give them, in any
-//! order. No two lines of a file have the same key. Blank lines, and lines whose first character is
-//! `#`, are skipped. White space around a key and in front of a format does not count; an indented
-//! `#` or `plural:` begins a key. Each fault is shown in its line, with the file, the line and the
-//! column; if there is any, no message is written.
+//! A line of a file is `key = format`, or `key(name, count:, price:., x:~, items[]) = format`,
+//! which declares a text `name`, a whole number `count`, a decimal `price`, a float `x` and a list
+//! of texts `items`. The format is then checked with examples of these, and the words have to give
+//! them, in any order. No two lines of a file have the same key. Blank lines, and lines whose first
+//! character is `#`, are skipped. White space around a key and in front of a format does not count;
+//! an indented `#` or `plural:` begins a key. Each fault is shown in its line, with the file, the
+//! line and the column; if there is any, no message is written.
 //!
-//! A line that begins with `plural:` is the rule of its file, as
-//! `plural: n == 0 ? zero : n == 1 ? one : other`. It stands once, before all messages. If the file
-//! has no line of the key `cart`, `catalogue FILE cart n:=1` writes the message of `cart.one`: the
-//! form is that of the first test whose number is the one of the word with its name, or else the
-//! last one. A test compares a name with a whole number below 2^64: a rule of `n % 10`, or of
-//! numbers between two, cannot be written. If the number of a test is missing, or a decimal has its
-//! name, the form is that of this test, and the missing number is reported; if no line has the form,
-//! that is. A check reports what is wrong with the rule, but not a key that lacks a form.
+//! A line that begins with `plural:` is the rule of its file, as `plural: n == 0 ? zero : n == 1 ?
+//! one : other`. It stands once, before all messages. If the file has no line of the key `cart`,
+//! `catalogue FILE cart n:=1` writes the message of `cart.one`: the form is that of the first test
+//! whose number is the one of the word with its name, or else the last one. A test compares a name
+//! with a whole number below 2^64: a rule of `n % 10`, or of numbers between two, cannot be
+//! written. If the number of a test is missing, or a decimal has its name, the form is that of this
+//! test, and the missing number is reported; if no line has the form, that is. A check reports what
+//! is wrong with the rule, but not a key that lacks a form.
+//!
+//! With `--line` or `--html` the values are written escaped. Then each value of each message has to
+//! stand where it may, of `--html` in text or between the quotes of an attribute; of each message
+//! the first that does not is shown after all other faults, and no message is written.
 //!
 //! The status is 0 after a message, or a check without a fault; 1 after a fault, 2 after a wrong
 //! use or a bad word, and 3 if a file cannot be read or the output cannot be written.
 #![tactic(auto)]
+
+ghost use Rattle.std.specs.Prelude.{◌<◌, IfSome, length};
 
 mod checks;
 mod declarations;
@@ -36,28 +43,57 @@ mod lines;
 mod messages;
 mod objects;
 mod picks;
+mod places;
 mod reports;
 mod rules;
 
 use checks::check;
 use files::File;
-use interpolator::Error;
+use interpolator::{Error, Escape};
 use messages::{Answer, look_up};
+use places::misplaced;
+use std::alloc::Global;
 use std::process::ExitCode;
 use std::{fs, io};
 use words::program::{BAD_USE, FAULT, REFUSED, WRITTEN, arguments};
 
-const USAGE: &str = "usage: catalogue [--fallback FILE] FILE KEY \
+const USAGE: &str = "usage: catalogue [--line | --html] [--fallback FILE] [--] FILE KEY \
     [NAME=TEXT | NAME:=NUMBER | NAME:.=DECIMAL | NAME:~=FLOAT | NAME[]=ITEM,ITEM..] | \
-    catalogue --check FILE..";
+    catalogue --check [--line | --html] [--] FILE..";
+
+const HELP: &str = "\
+Writes the message under a key of a file whose messages are all checked first.
+
+usage: catalogue [--line | --html] [--fallback FILE] [--] FILE KEY WORD..
+       catalogue --check [--line | --html] [--] FILE..
+
+  WORD               NAME=TEXT, NAME:=NUMBER, NAME:.=DECIMAL, NAME:~=FLOAT or NAME[]=ITEM,ITEM..
+  --check            only check files
+  --fallback FILE    the messages whose keys the file lacks
+  --line             values escaped, so that a message is one line
+  --html             values escaped, as in the text or a quoted attribute of a page
+  --help             print this
+
+A line of a file is `KEY = FORMAT`, or `KEY(name, count:, price:., x:~, items[]) = FORMAT`, which
+declares a text, a whole number, a decimal, a float and a list.
+
+example: with the line `cart(name, n:) = {name} has {n} items.` in m.txt
+  catalogue m.txt cart name=Ann n:=3
+writes
+  Ann has 3 items.
+";
 
 /// What a command line asks for.
 #[derive(Clone, Copy)]
-enum Asked<'a> {
-    /// A check of these files.
-    Check(&'a [String]),
-    /// A message.
-    Message(Wanted<'a>),
+struct Asked<'a> {
+    /// Files are checked, and no message is written.
+    is_check: bool,
+    /// How values are escaped, if they are.
+    escape: Option<Escape>,
+    /// A file for the messages that the file lacks.
+    second: Option<&'a str>,
+    /// The files, or a file, a key and values.
+    words: &'a [String],
 }
 
 /// The message under a key of a file, or else of a second file, with the values of words.
@@ -67,35 +103,69 @@ struct Wanted<'a> {
     second: Option<&'a str>,
     key: &'a str,
     values: &'a [String],
+    escape: Option<Escape>,
 }
 
-/// The message that words ask for, if they do: a file, a key and values.
-fn wanted_by<'a>(words: &'a [String], second: Option<&'a str>) -> Option<Asked<'a>> {
-    let [file, key, values @ ..] = words else {
+/// Takes a flag of one word, if it is one that may stand here.
+fn take_word(asked: &mut Asked<'_>, flag: &str) -> Option<()> {
+    match flag {
+        "--check" if !asked.is_check => asked.is_check = true,
+        "--line" if asked.escape.is_none() => asked.escape = Some(Escape::Line),
+        "--html" if asked.escape.is_none() => asked.escape = Some(Escape::Html),
+        _ => return None,
+    }
+    Some(())
+}
+
+/// Takes a flag at the beginning of words, and returns the words after it; none if there is none.
+fn after_flag<'a>(asked: &mut Asked<'a>, words: &'a [String]) -> Option<&'a [String]>
+    ensures { IfSome result (λ rest. length rest.now < length words.now) }
+{
+    match words {
+        [flag, file, more @ ..] if flag.as_str() == "--fallback" => {
+            asked.second = Some(file.as_str());
+            Some(more)
+        }
+        [flag, more @ ..] => {
+            take_word(asked, flag.as_str())?;
+            Some(more)
+        }
+        _ => None,
+    }
+}
+
+/// What a command line asks for, if its flags are known.
+fn asked_by(line: &[String]) -> Option<Asked<'_>> {
+    let mut asked = Asked {
+        is_check: false,
+        escape: None,
+        second: None,
+        words: line,
+    };
+    let mut rest = line;
+    while let Some(next) = after_flag(&mut asked, rest) {
+        rest = next;
+    }
+    asked.words = match rest {
+        [end, words @ ..] if end.as_str() == "--" => words,
+        [flag, ..] if flag.starts_with("--") => return None,
+        _ => rest,
+    };
+    Some(asked)
+}
+
+/// The message that is asked for, if one is.
+fn wanted_by<'a>(asked: &Asked<'a>) -> Option<Wanted<'a>> {
+    let [file, key, values @ ..] = asked.words else {
         return None;
     };
-    if file.starts_with("--") {
-        return None;
-    }
-    Some(Asked::Message(Wanted {
+    Some(Wanted {
         file: file.as_str(),
-        second,
+        second: asked.second,
         key: key.as_str(),
         values,
-    }))
-}
-
-/// What a command line asks for, if it is correct.
-fn asked_by(line: &[String]) -> Option<Asked<'_>> {
-    let (flag, rest) = line.split_first()?;
-    if flag.as_str() == "--check" && !rest.is_empty() {
-        return Some(Asked::Check(rest));
-    }
-    if flag.as_str() == "--fallback" {
-        let (second, words) = rest.split_first()?;
-        return wanted_by(words, Some(second.as_str()));
-    }
-    wanted_by(line, None)
+        escape: asked.escape,
+    })
 }
 
 /// Reads a file; if that fails, says why.
@@ -144,6 +214,28 @@ fn tell(rt: &HostRuntime, answer: &Answer) -> io::Result<u8> {
     }
 }
 
+/// What is wrong with files: the faults of their lines, and the values that are in no place of an
+/// escape, if one is asked for.
+fn told_of(alloc: Global, files: &[File], escape: Option<Escape>) -> Result<String, Error> {
+    let mut told = check(alloc, files)?;
+    if let Some(escape) = escape {
+        let more = misplaced(alloc, files, escape)?;
+        told.push_str(more.as_str())?;
+    }
+    Ok(told)
+}
+
+/// What is answered: all that is wrong with the files, or the message, or why there is none.
+fn answer_in(alloc: Global, wanted: &Wanted<'_>, files: &[File]) -> Result<Answer, Error> {
+    if wanted.escape.is_some() {
+        let told = told_of(alloc, files, wanted.escape)?;
+        if !told.is_empty() {
+            return Ok(Answer::Faults(told));
+        }
+    }
+    look_up(alloc, wanted.escape, files, wanted.key, wanted.values)
+}
+
 /// Writes a message.
 fn answer(rt: &HostRuntime, wanted: &Wanted<'_>) -> io::Result<u8> {
     let mut files = Vec::new(rt.alloc());
@@ -157,7 +249,7 @@ fn answer(rt: &HostRuntime, wanted: &Wanted<'_>) -> io::Result<u8> {
         };
         files.push(file)?;
     }
-    match look_up(rt.alloc(), files.as_slice(), wanted.key, wanted.values) {
+    match answer_in(rt.alloc(), wanted, files.as_slice()) {
         Ok(answer) => tell(rt, &answer),
         Err(error) => {
             eprintln!(rt; "{error}")?;
@@ -167,16 +259,16 @@ fn answer(rt: &HostRuntime, wanted: &Wanted<'_>) -> io::Result<u8> {
 }
 
 /// Checks files, and writes what is wrong with those that can be read.
-fn check_files(rt: &HostRuntime, names: &[String]) -> io::Result<u8> {
+fn check_files(rt: &HostRuntime, asked: &Asked<'_>) -> io::Result<u8> {
     let mut files = Vec::new(rt.alloc());
     let mut status = WRITTEN;
-    for name in names {
+    for name in asked.words {
         match read(rt, name.as_str())? {
             Some(file) => files.push(file)?,
             None => status = REFUSED,
         }
     }
-    let told = check(rt.alloc(), files.as_slice());
+    let told = told_of(rt.alloc(), files.as_slice(), asked.escape);
     match &told {
         Ok(told) if told.is_empty() => return Ok(status),
         Ok(told) => eprint!(rt; "{told}")?,
@@ -193,10 +285,21 @@ fn run(rt: &HostRuntime) -> io::Result<u8> {
         // A word that is not UTF-8 is a wrong use.
         Err(_) => return tell_usage(rt),
     };
-    match asked_by(line.as_slice()) {
-        Some(Asked::Check(files)) => check_files(rt, files),
-        Some(Asked::Message(wanted)) => answer(rt, &wanted),
-        None => tell_usage(rt),
+    if let [word, ..] = line.as_slice() {
+        if word.as_str() == "--help" {
+            rt.print(HELP)?;
+            return Ok(WRITTEN);
+        }
+    }
+    let Some(asked) = asked_by(line.as_slice()) else {
+        return tell_usage(rt);
+    };
+    if asked.is_check && asked.second.is_none() && !asked.words.is_empty() {
+        return check_files(rt, &asked);
+    }
+    match wanted_by(&asked) {
+        Some(wanted) if !asked.is_check => answer(rt, &wanted),
+        _ => tell_usage(rt),
     }
 }
 

@@ -3,11 +3,20 @@
 ghost use Rattle.std.specs.Prelude.{◌≡◌, IfOk, IfErr, None, map, string_bytes};
 ghost use Rattle.std.specs.List.{All};
 ghost use Rattle.std.specs.Option.{option_map};
+ghost use Rattle.std.specs.Str.{chars};
+ghost use Rattle.interpolator.specs.At.{outermost};
+ghost use Rattle.interpolator.specs.Contexts.{found_by_pairs};
 ghost use Rattle.interpolator.specs.Faults.{answer_of, no_memory};
+ghost use Rattle.interpolator.specs.Meaning.Environments.{environment};
+ghost use Rattle.interpolator.specs.Meaning.Meanings.{means};
+ghost use Rattle.interpolator.specs.Meaning.Outcomes.{Formats};
+ghost use Rattle.interpolator_escapes.specs.Escapes.{escape_of};
+ghost use Rattle.interpolator_escapes.specs.Formats.{escaped_shows};
 ghost use Rattle.catalogue.specs.Declarations.{declared_by};
 ghost use Rattle.catalogue.specs.Entries.{held_by_entry};
+ghost use Rattle.catalogue.specs.Examples.{view_shows};
 ghost use Rattle.catalogue.specs.Files.{as_file, as_line};
-ghost use Rattle.catalogue.specs.Messages.{Answers, IsMadeOrTold, Replies, given};
+ghost use Rattle.catalogue.specs.Messages.{Answers, IsMadeOrTold, Replies, escaped_by, given};
 ghost use Rattle.catalogue.specs.Sound.{IsSoundOver};
 ghost use Rattle.catalogue.specs.Told.{told_absent, told_of_absent};
 ghost use Rattle.catalogue.specs.Objects.{IsGiven};
@@ -19,8 +28,11 @@ use crate::forms::{choice_in, or_form};
 use crate::line_faults::told_of_fault;
 use crate::objects::objects_of;
 use crate::picks::{Picked, picks_of, told_of_lacking};
-use interpolator::{Error, Interpolate, Pairs, View};
+use interpolator::{Error, Escape, Formattable, Interpolate, Pairs, Template, Value, View};
+use interpolator_escapes::laws::escapes_make_no_fault;
+use interpolator_escapes::{CsvEscaper, HtmlEscaper, JsonEscaper, LineEscaper, ShellEscaper};
 use interpolator_laws::samples::{a_checked_format_means_no_fault, a_view_has_a_text_by_its_kind};
+use interpolator_pieces::format_by;
 use std::alloc::Global;
 use words::{Declaration, Kind};
 
@@ -73,14 +85,55 @@ fn told_of_absent(
     Ok(told)
 }
 
+/// The text of a format with these pairs, each value escaped.
+fn made_escaped<V: Value>(
+    alloc: Global,
+    escape: Escape,
+    format: &str,
+    pairs: &Pairs<'_, V>,
+) -> Result<String, Error>
+    ensures { Formats (means (escaped_shows (escape_of escape) V.shows)
+        (environment (found_by_pairs pairs.now.0.now)) (outermost (chars format.now))) result }
+{
+    match escape {
+        Escape::Line => format_by::<Pairs<'_, V>, LineEscaper>(alloc, format, pairs),
+        Escape::Html => format_by::<Pairs<'_, V>, HtmlEscaper>(alloc, format, pairs),
+        Escape::Csv => format_by::<Pairs<'_, V>, CsvEscaper>(alloc, format, pairs),
+        Escape::Json => format_by::<Pairs<'_, V>, JsonEscaper>(alloc, format, pairs),
+        Escape::Shell => format_by::<Pairs<'_, V>, ShellEscaper>(alloc, format, pairs),
+    }
+}
+
+/// The text of a format with these pairs, each value escaped, if that is asked for.
+fn made(
+    alloc: Global,
+    escape: Option<Escape>,
+    template: &Template,
+    pairs: &[(&str, Formattable<'_, View<'_>>)],
+) -> Result<String, Error>
+    ensures formats { Formats (means (escaped_by escape view_shows)
+        (environment (found_by_pairs pairs.now)) (outermost (chars template.now))) result }
+{
+    let pairs = Pairs(pairs);
+    match escape {
+        None => pairs.format_template(alloc, template),
+        Some(escape) => made_escaped(alloc, escape, template.text(), &pairs),
+    }
+}
+
 /// The message of a line, or its fault.
-fn said(alloc: Global, found: &Found<'_>, entries: &[Entry<'_>]) -> Result<Answer, Error>
-    ensures said { IfOk result (λ answer. IsMadeOrTold (as_line found.now.line) found.now.template
-        (map held_by_entry entries.now) answer) }
+fn said(
+    alloc: Global,
+    escape: Option<Escape>,
+    found: &Found<'_>,
+    entries: &[Entry<'_>],
+) -> Result<Answer, Error>
+    ensures said { IfOk result (λ answer. IsMadeOrTold escape (as_line found.now.line)
+        found.now.template (map held_by_entry entries.now) answer) }
     ensures refused { IfErr result (λ error. answer_of error ≡ no_memory) }
 {
     let pairs = pairs_of(alloc, entries)?;
-    match Pairs(&pairs).format_template(alloc, &found.template) {
+    match made(alloc, escape, &found.template, pairs.as_slice()) {
         Ok(message) => Ok(Answer::Message(message)),
         Err(error) => match error.place() {
             None => Err(error),
@@ -97,20 +150,22 @@ fn said(alloc: Global, found: &Found<'_>, entries: &[Entry<'_>]) -> Result<Answe
 /// or its fault.
 fn message(
     alloc: Global,
+    escape: Option<Escape>,
     key: &str,
     found: &Found<'_>,
     objects: &[Object<'_>],
 ) -> Result<Answer, Error>
     ensures replies { IfOk result (λ answer. IsSoundOver (declared_by found.now.heading)
-        found.now.template → All IsGiven objects.now → Replies answer None
+        found.now.template → All IsGiven objects.now → Replies escape answer None
         (as_line found.now.line) key.now (declared_by found.now.heading) found.now.template
         objects.now) }
     ensures refused { IfErr result (λ error. answer_of error ≡ no_memory) }
 {
     a_view_has_a_text_by_its_kind();
     a_checked_format_means_no_fault::<View<'_>, View<'_>>();
+    escapes_make_no_fault::<View<'_>>();
     match picks_of(alloc, objects, &found.heading)? {
-        Picked::Values(entries) => said(alloc, found, entries.as_slice()),
+        Picked::Values(entries) => said(alloc, escape, found, entries.as_slice()),
         Picked::Lacks(lacking) => {
             let told = told_of_lacking(alloc, &found.line, key, &lacking)?;
             Ok(Answer::Faults(told))
@@ -122,18 +177,20 @@ fn message(
 /// its message.
 fn reply(
     alloc: Global,
+    escape: Option<Escape>,
     key: &str,
     found: &Found<'_>,
     objects: &[Object<'_>],
 ) -> Result<Answer, Error>
     ensures replies { IfOk result (λ answer. IsSoundOver (declared_by found.now.heading)
         found.now.template → All IsGiven objects.now
-        → Replies answer (option_map (λ name. name.now) found.now.lacks) (as_line found.now.line)
-        key.now (declared_by found.now.heading) found.now.template objects.now) }
+        → Replies escape answer (option_map (λ name. name.now) found.now.lacks)
+        (as_line found.now.line) key.now (declared_by found.now.heading) found.now.template
+        objects.now) }
     ensures refused { IfErr result (λ error. answer_of error ≡ no_memory) }
 {
     let Some(name) = found.lacks else {
-        return message(alloc, key, found, objects);
+        return message(alloc, escape, key, found, objects);
     };
     let lacking = Declaration {
         name,
@@ -154,8 +211,9 @@ fn given<'o, 'a>(objects: &'o Result<Vec<Object<'a>>, &'a str>) -> &'o [Object<'
 }
 
 /// The message under a key, or under its form, in the first file that has it, with the values of
-/// words `NAME=TEXT`, `NAME:=NUMBER`, `NAME:.=DECIMAL`, `NAME:~=FLOAT` and `NAME[]=ITEM,ITEM..`; or all
-/// that is wrong with the files, or else with the words, the key or the message.
+/// words `NAME=TEXT`, `NAME:=NUMBER`, `NAME:.=DECIMAL`, `NAME:~=FLOAT` and `NAME[]=ITEM,ITEM..`,
+/// each value escaped, if that is asked for; or all that is wrong with the files, or else with the
+/// words, the key or the message.
 ///
 /// There is a message only if every line of every file but blank ones, comments and a whole rule
 /// before all messages is sound: it has an `=` and a key that no line before it has, its
@@ -176,9 +234,15 @@ fn given<'o, 'a>(objects: &'o Result<Vec<Object<'a>>, &'a str>) -> &'o [Object<'
 /// # Errors
 ///
 /// `NoMemory`.
-pub fn look_up(alloc: Global, files: &[File], key: &str, words: &[String]) -> Result<Answer, Error>
+pub fn look_up(
+    alloc: Global,
+    escape: Option<Escape>,
+    files: &[File],
+    key: &str,
+    words: &[String],
+) -> Result<Answer, Error>
     ensures answers { IfOk result (λ answer.
-        Answers (map as_file files.now) key.now words.now answer) }
+        Answers escape (map as_file files.now) key.now words.now answer) }
     ensures refused { IfErr result (λ error. answer_of error ≡ no_memory) }
 {
     let values = objects_of(alloc, words)?;
@@ -193,7 +257,7 @@ pub fn look_up(alloc: Global, files: &[File], key: &str, words: &[String]) -> Re
             Ok(Answer::BadWord(bad))
         }
         Ok(_) => match &found {
-            Some(found) => reply(alloc, key, found, objects),
+            Some(found) => reply(alloc, escape, key, found, objects),
             None => {
                 let absent = told_of_absent(alloc, files, key, objects)?;
                 Ok(Answer::Faults(absent))

@@ -21,7 +21,7 @@ returns-in-Some-clause-answers c =
     let gives : GiveValues words objects =
     rw (c.given-objects.ensures, c.in-Ok.is) (rw c.in-Ok.is at c.in_ok-values.ensures.given) in
     IfOk-weaker c.reply.result _ _ (λ answer replies.
-    answers_line files c.args.key.now words answer (record {
+    answers_line c.args.escape files c.args.key.now words answer (record {
       sound = sound;
       values = objects;
       given = gives;
