@@ -11,7 +11,7 @@ name=catalogue
 usage='usage: catalogue [--line | --html] [--fallback FILE] [--] FILE KEY '
 usage+='[NAME=TEXT | NAME:=NUMBER | NAME:.=DECIMAL | NAME:~=FLOAT | NAME[]=ITEM,ITEM..] | '
 usage+='catalogue --check [--line | --html] [--] FILE..'
-wanted=126
+wanted=165
 . "$here/../../.ci/cases.sh"
 
 # message WANTED WORD..: a message, which goes to standard output, with status 0.
@@ -251,21 +251,117 @@ form_cases() {
     told 'one_form.txt: no message `cart` or `cart.other`' one_form.txt cart m:=2
     message 'a box' --fallback one_form.txt forms.txt box n:=1 m:=1
     told 'forms.txt:4: `cart` wants `n:=NUMBER`' --fallback forms.txt m.txt cart
-    case_of file file 0 '' '' --check forms.txt one_form.txt
-    printf '%s\n' 'plural: é == 1 ? one : n = 2 ? two : n == 3 ? three' 'a = 1' 'plural: other' \
+    lacking="$(printf '%s\n' 'forms.txt:7:1: `box` lacks forms that the rule can choose: `zero`, `one`' \
+        '  |' '7 | box.other = {n} Kisten' '  | ^' \
+        'one_form.txt:2:1: `cart` lacks forms that the rule can choose: `other`' '  |' \
+        '2 | cart.one = an item' '  | ^' \
+        'one_form.txt:3:1: `box` lacks forms that the rule can choose: `other`' '  |' \
+        '3 | box.one = a box' '  | ^')"
+    told "$lacking" --check forms.txt one_form.txt
+    printf '%s\n' 'plural: n == 1 ? one : (n > 1 ? 2 : one)' 'a.2 = b' '  x.y.2 = c' 'a = d' \
+        'x.y.one = e' 'z.three = f' 'w.one = g' 'w.2 = h' >whole.txt
+    case_of file file 0 '' '' --check whole.txt
+    message h whole.txt w n:=5
+    message g whole.txt w n:=0
+}
+
+# Rules that are none.
+broken_rule_cases() {
+    local signs='a rule has names, numbers below 2^64 and `! % < <= > >= == != && || ? : ( )`'
+    printf '%s\n' 'plural: é == 1 ? one : n = 2 ? two : three' 'a = 1' 'plural: other' \
         'b == 1 ? c : d' >rules.txt
-    told "$(printf '%s\n' \
-        'rules.txt:1:24: a rule is `NAME == NUMBER ? FORM : .. : FORM`' \
-        '  |' '1 | plural: é == 1 ? one : n = 2 ? two : n == 3 ? three' \
-        '  |                        ^' \
+    told "$(printf '%s\n' "rules.txt:1:26: $signs" \
+        '  |' '1 | plural: é == 1 ? one : n = 2 ? two : three' \
+        '  |                          ^' \
         'rules.txt:3:1: a rule stands once, before all messages' \
         '  |' '3 | plural: other' '  | ^')" \
         --check rules.txt
-    printf '%s\n' 'plural: n == 1 ? one : n==2?two' 'cart.one = one' >ending.txt
-    told "$(printf '%s\n' \
-        'ending.txt:1:24: a rule is `NAME == NUMBER ? FORM : .. : FORM`' \
-        '  |' '1 | plural: n == 1 ? one : n==2?two' '  |                        ^')" \
-        --check ending.txt
+    broken_rule 'n == 1 ? one : n==2?two' 32 'a `(` is not closed, or a `?` has no `:`'
+    broken_rule '(n == 1 ? one : two' 28 'a `(` is not closed, or a `?` has no `:`'
+    broken_rule '' 9 'a name, a number, `!` or `(` is missing here'
+    broken_rule 'n == 1 ? : two' 18 'a name, a number, `!` or `(` is missing here'
+    broken_rule 'n % 0 ? a : b' 11 'a number that is not 0 follows a `%`'
+    broken_rule 'n ? a : b c' 19 'an operator is missing here, or the end of the rule'
+    broken_rule 'n ? a : b)' 18 'an operator is missing here, or the end of the rule'
+    broken_rule 'n == 18446744073709551616 ? a : b' 14 "$signs"
+    broken_rule 'n == 1 ? n == 2 : b' 9 \
+        'each part of a rule ends in a form, as in `n == 1 ? one : other`'
+    broken_rule 'n != 1' 9 'each part of a rule ends in a form, as in `n == 1 ? one : other`'
+    broken_rule "$(times 1000 '!')n" 1009 'a rule has at most 1000 words'
+}
+
+# broken_rule RULE COLUMN WHAT: a rule that is told so at a column.
+broken_rule() {
+    local found
+    printf 'plural: %s\ncart.one = one\n' "$1" >ending.txt
+    found=$("$program" --check ending.txt 2>&1 >/dev/null)
+    if [[ $? -eq 1 && ${found%%$'\n'*} == "ending.txt:1:$2: $3" ]]; then
+        passed=$((passed + 1))
+    else
+        fail "the rule $1: $found"
+    fi
+}
+
+# The rules of languages, with the samples of CLDR: LANGUAGE FORM NUMBER.. or FIRST-LAST..
+language_cases() {
+    local few='n % 10 >= 2 && n % 10 <= 4 && (n % 100 < 12 || n % 100 > 14) ? few'
+    local ends='62 102 1002' rest='0 5-19 100 1000 10000 100000 1000000'
+    language ru "n % 10 == 1 && n % 100 != 11 ? one : $few : many"
+    chooses ru one 1 21 31 41 51 61 71 81 101 1001 -21
+    chooses ru few 2-4 22-24 32-34 42-44 52-54 $ends
+    chooses ru many $rest
+    language pl "n == 1 ? one : $few : many"
+    chooses pl one 1
+    chooses pl few 2-4 22-24 32-34 42-44 52-54 $ends
+    chooses pl many $rest 21 101
+    language cs 'n == 1 ? one : n >= 2 && n <= 4 ? few : other'
+    chooses cs one 1
+    chooses cs few 2-4
+    chooses cs other $rest 22
+    language ar 'n==0?zero:n==1?one:n==2?two:n%100>=3&&n%100<=10?few:n%100>=11?many:other'
+    chooses ar zero 0
+    chooses ar one 1
+    chooses ar two 2
+    chooses ar few 3-10 103-110 1003
+    chooses ar many 11-26 111 1011
+    chooses ar other 100-102 200-202 300-302 400-402 500-502 600 1000 10000 100000 1000000
+    language en 'n == 1 ? one : other'
+    chooses en one 1
+    chooses en other 0 2-16 100 1000 10000 100000 1000000 -1
+    language gettext 'n%10==1 && n%100!=11 ? 0 : n%10>=2 && n%10<=4 && (n%100<10 || n%100>=20) ? 1 : 2'
+    chooses gettext 0 1 21 101
+    chooses gettext 1 2-4 22 104
+    chooses gettext 2 0 11-14 25 111
+}
+
+# language NAME RULE: a file NAME.txt with the rule and all forms of a key, which a check passes.
+language() {
+    local form
+    printf 'plural: %s\n' "$2" >"$1.txt"
+    for form in $(grep -oP '[?:] *\K[a-z0-9]+(?= *(:|$))' "$1.txt" | sort -u); do
+        printf 'item.%s = %s\n' "$form" "$form" >>"$1.txt"
+    done
+    case_of file file 0 '' '' --check "$1.txt"
+}
+
+# chooses LANGUAGE FORM NUMBER.. or FIRST-LAST..: one case, of all the numbers.
+chooses() {
+    local range number wrong=
+    for range in "${@:3}"; do
+        if [[ $range == ?*-* ]]; then
+            range=$(seq "${range%-*}" "${range##*-}")
+        fi
+        for number in $range; do
+            if [[ $("$program" "$1.txt" item n:="$number" 2>&1) != "$2" ]]; then
+                wrong+=" $number"
+            fi
+        done
+    done
+    if [[ -z $wrong ]]; then
+        passed=$((passed + 1))
+    else
+        fail "$1: $2 is not chosen for$wrong"
+    fi
 }
 
 # Values that are written escaped, and those that are out of place.
@@ -368,6 +464,8 @@ all_cases() {
     key_cases
     fallback_cases
     form_cases
+    broken_rule_cases
+    language_cases
     escape_cases
     check_cases
     use_cases

@@ -5,6 +5,5 @@ pub mod KeyLemmas
 pub mod KindLemmas
 pub mod OwnLemmas
 pub mod PlaceLemmas
-pub mod RuleLemmas
 pub mod SoundLemmas
 pub mod ZipLemmas

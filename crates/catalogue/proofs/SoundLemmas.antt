@@ -13,11 +13,11 @@ use Rattle.catalogue.specs.Forms.{first_given}
 use Rattle.catalogue.specs.Keys.{IsNew, told_of_key, with_key}
 use Rattle.catalogue.specs.Lines.{declared_of, format_of, head_of, is_passed_over, is_under, key_of}
 use Rattle.catalogue.specs.Lines.{key_with}
-use Rattle.catalogue.specs.Rules.{broken_in, rule_in}
+use Rattle.catalogue.specs.Rules.{rule_in, wrong_in}
 use Rattle.catalogue.specs.Sought.{Known, found_among, found_in, line_for, sought}
 use Rattle.catalogue.specs.Sound.{AreSound, IsSound, IsSoundFile, IsSoundOver}
 use Rattle.catalogue.specs.Told.{told_of_faults, told_of_file, told_of_files, told_of_line}
-use Rattle.catalogue.specs.Told.{told_of_broken, told_of_lines, told_of_message, told_of_rule}
+use Rattle.catalogue.specs.Told.{told_of_lines, told_of_message, told_of_rule, told_of_wrong}
 use Rattle.words.specs.Words.{is_equals}
 use Rattle.catalogue.specs.declared.entries.Object.{Object}
 use Rattle.catalogue.proofs.FirstLemmas.{given_holds}
@@ -41,13 +41,14 @@ clean_key : (line : Line) (head key : List ℕ) (keys : List (ℕ × List ℕ))
 clean_key line head key keys e = grind (arith, nat_tests, length-append)
 
 -- nor of a rule only if it is whole, and comes first
-clean_broken : (line : Line) (o : Option ℕ) → length (told_of_broken line o) ≡ 0 → o ≡ None
-clean_broken line None e = refl
-clean_broken line (Some place) e = absurd (grind (arith, length-append))
+clean_wrong : (line : Line) (o : Option (ℕ × List ℕ)) → length (told_of_wrong line o) ≡ 0
+    → o ≡ None
+clean_wrong line None e = refl
+clean_wrong line (Some wrong) e = absurd (grind (arith, length-append))
 
 clean_rule : (keys : List (ℕ × List ℕ)) (line : Line) (rule : List ℕ)
-    → length (told_of_rule keys line rule) ≡ 0 → (keys ≡ []) × (broken_in rule ≡ None)
-clean_rule [] line rule e = (refl, clean_broken line (broken_in rule) e)
+    → length (told_of_rule keys line rule) ≡ 0 → (keys ≡ []) × (wrong_in rule ≡ None)
+clean_rule [] line rule e = (refl, clean_wrong line (wrong_in rule) e)
 clean_rule (key ∷ keys) line rule e = grind (arith, nat_tests, length-append)
 
 -- nor of a line only if it is sound

@@ -1,12 +1,12 @@
 -- What the head of a line declares: names, each with a kind of value. Texts are bytes.
-use Rattle.std.specs.Prelude.{ℕ, Bool, not, ◌&&◌, ◌==◌, ◌-◌, nat_lt, List, [], ◌∷◌, ◌++◌}
+use Rattle.std.specs.Prelude.{ℕ, Bool, ◌==◌, ◌-◌, nat_lt, List, [], ◌∷◌, ◌++◌}
 use Rattle.std.specs.Prelude.{length, map, if◌then◌else◌, Option, None, Some}
 use Rattle.std.specs.Option.{option_or}
 use Rattle.std.specs.List.{before_first, after_first, list_any, position_or_len}
 use Rattle.std.specs.List.{slice_split}
-use Rattle.std.specs.Char.{is_whitespace}
-use Rattle.std.specs.Str.{bytes_eq, chars, trim, trim_start}
+use Rattle.std.specs.Str.{bytes_eq, trim, trim_start}
 use Rattle.interpolator.specs.Explained.{usize_sum}
+use Rattle.plurals.specs.Tokens.{is_name}
 use Rattle.words.specs.Declarations.{as_declaration, declaration_of}
 use Rattle.words.specs.declared.Kind.{Kind}
 use Rattle.catalogue.specs.declared.declarations.Heading.{Heading}
@@ -30,11 +30,7 @@ has is_such text = nat_lt (position_or_len is_such text) (length text)
 abbrev pub if_whole : Bool → List ℕ × Kind → Option (List ℕ × Kind)
 if_whole whole declared = if whole then Some declared else None
 
--- a text can be a declared name: it is not empty, and has no white space
-abbrev pub is_name : List ℕ → Bool
-is_name text = not (length text == 0) && not (list_any is_whitespace (chars text))
-
--- a declaration whose name can be one
+-- a declaration whose name can be one: it is not empty, and has no white space
 abbrev pub named : List ℕ × Kind → Option (List ℕ × Kind)
 named declared = if_whole (is_name declared.0) declared
 

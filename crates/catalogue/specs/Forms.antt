@@ -1,13 +1,12 @@
 -- The form of a message, which the rule of a file chooses by numbers. Texts are bytes.
-use Rattle.std.specs.Prelude.{ℕ, ℤ, pos, List, [], ◌∷◌, ◌++◌, codes}
-use Rattle.std.specs.Prelude.{if◌then◌else◌, Option, None, Some, string_bytes}
+use Rattle.std.specs.Prelude.{ℕ, List, [], ◌∷◌, ◌++◌, codes}
+use Rattle.std.specs.Prelude.{Option, None, Some, Result, Ok, Err, string_bytes}
 use Rattle.std.specs.Option.{option_map, option_or}
-use Rattle.std.specs.Ordering.{int_eq}
-use Rattle.std.specs.Str.{trim}
-use Rattle.interpolator.specs.declared.View.{View}
-use Rattle.interpolator.specs.declared.View.TheVariants.{Signed}
-use Rattle.catalogue.specs.Picks.{last_named}
-use Rattle.catalogue.specs.Rules.{Tested, parts_of, rule_in, test_in}
+use Rattle.plurals.specs.Readings.{tree_at}
+use Rattle.plurals.specs.Trees.{Tree}
+use Rattle.plurals.specs.Values.{as_form, form_by, missing_in}
+use Rattle.plurals.specs.declared.fault.Fault.{Fault}
+use Rattle.catalogue.specs.Rules.{numbers_of, rule_in}
 use Rattle.catalogue.specs.declared.entries.Object.{Object}
 use Rattle.catalogue.specs.declared.forms.Choice.{Choice}
 use Rattle.catalogue.specs.declared.forms.Sought.{Sought}
@@ -17,47 +16,25 @@ abbrev pub first_given : {A B : Type 0} → (A → Option B) → List A → Opti
 first_given gives [] = None
 first_given gives (x ∷ xs) = option_or (gives x) (first_given gives xs)
 
--- a form, and the name of a number that is missing for its test
+-- a form, and the name of a number that is missing for the tests by which it is chosen
 abbrev pub Chosen : Type 0
 Chosen = List ℕ × Option (List ℕ)
 
 abbrev pub as_choice : Choice → Chosen
-as_choice choice = (choice.form.now, option_map (λ name. name.now) choice.lacks)
+as_choice choice = (as_form choice.form, option_map (λ name. name.now) choice.lacks)
 
 -- the key that is looked up, and the name of a number that is missing
 abbrev pub as_sought : Sought → List ℕ × Option (List ℕ)
 as_sought sought = (string_bytes sought.key, option_map (λ name. name.now) sought.lacks)
 
--- the whole number that a view has
-abbrev pub number_of : View → Option ℤ
-number_of (Signed number bits) = Some number
-number_of _ = None
+-- what a rule chooses, if it is whole
+abbrev pub chosen_by : List Object → Result Tree Fault → Option Chosen
+chosen_by objects (Ok tree) = option_map (λ form. (form, missing_in (numbers_of objects) tree))
+    (form_by (numbers_of objects) tree)
+chosen_by objects (Err fault) = None
 
--- the number of an object, if there is one, and if it is a number
-abbrev pub number_in : Option Object → Option ℤ
-number_in None = None
-number_in (Some object) = number_of object.value
-
--- the number under a name: that of the last object of the name
-abbrev pub number_under : List Object → List ℕ → Option ℤ
-number_under objects name = number_in (last_named objects name)
-
--- what a test chooses by a number: its form, if the number is that of the test, or is missing
-abbrev pub choice_by : Tested → Option ℤ → Option Chosen
-choice_by test None = Some (test.2, Some test.0)
-choice_by test (Some number) = if int_eq number (pos test.1) then Some (test.2, None) else None
-
--- what a part of a rule chooses: a part that is no test is a form, which it takes
-abbrev pub choice_in : List Object → List ℕ → Option Tested → Option Chosen
-choice_in objects part None = Some (trim part, None)
-choice_in objects part (Some test) = choice_by test (number_under objects test.0)
-
-abbrev pub choice_at : List Object → List ℕ → Option Chosen
-choice_at objects part = choice_in objects part (test_in part)
-
--- what a rule chooses: what the first of its parts does that chooses
 abbrev pub choice_of : List Object → List ℕ → Option Chosen
-choice_of objects rule = first_given (choice_at objects) (parts_of rule)
+choice_of objects rule = chosen_by objects (tree_at rule)
 
 -- the rule of a file: that of its first line that has one
 abbrev pub rule_of : List (List ℕ) → Option (List ℕ)

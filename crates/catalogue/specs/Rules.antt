@@ -1,21 +1,21 @@
 -- The rule of a file, which chooses the form of a message by numbers. Texts are bytes.
-use Rattle.std.specs.Prelude.{ℕ, Bool, not, ◌&&◌, ◌==◌, ◌+◌, ◌^◌, nat_lt, List, [], ◌∷◌}
-use Rattle.std.specs.Prelude.{codes, drop, length, take, if◌then◌else◌, Option, None, Some, is_some}
-use Rattle.std.specs.Char.{is_ascii_digit}
-use Rattle.std.specs.List.{before_first, after_first, list_all, slice_split}
-use Rattle.std.specs.Option.{option_or}
-use Rattle.std.specs.Str.{bytes_eq, trim}
-use Rattle.std.specs.Str.Parse.{digits_value}
-use Rattle.catalogue.specs.Declarations.{after_part, begin_of, has, is_name}
-use Rattle.words.specs.Words.{is_equals}
-use Rattle.catalogue.specs.declared.rules.Test.{Test}
-
--- the characters `:` and `?`
-abbrev pub is_colon : ℕ → Bool
-is_colon b = b == 58
-
-abbrev pub is_question : ℕ → Bool
-is_question b = b == 63
+use Rattle.std.specs.Prelude.{ℕ, ℤ, pos, ◌+◌, ◌^◌, int_lt, unsigned_abs, List, codes}
+use Rattle.std.specs.Prelude.{drop, take, if◌then◌else◌, Option, None, Some, Result, Ok, Err}
+use Rattle.std.specs.Borrow.{Bor}
+use Rattle.std.specs.Option.{option_map}
+use Rattle.std.specs.Str.{bytes_eq}
+use Rattle.interpolator.specs.Explained.{usize_sum}
+use Rattle.interpolator.specs.declared.View.{View}
+use Rattle.interpolator.specs.declared.View.TheVariants.{Signed}
+use Rattle.plurals.specs.Readings.{tree_at}
+use Rattle.plurals.specs.Trees.{Tree}
+use Rattle.plurals.specs.Values.{has_forms}
+use Rattle.plurals.specs.declared.fault.Fault.{Fault}
+use Rattle.plurals.specs.declared.fault.Problem.{Problem}
+use Rattle.plurals.specs.declared.fault.Problem.TheVariants as problems
+use Rattle.catalogue.specs.Declarations.{begin_of}
+use Rattle.catalogue.specs.Picks.{last_named}
+use Rattle.catalogue.specs.declared.entries.Object.{Object}
 
 -- what a line with a rule begins with
 abbrev pub rule_head : List ℕ
@@ -25,68 +25,51 @@ rule_head = codes "plural:"
 abbrev pub rule_in : List ℕ → Option (List ℕ)
 rule_in line = if bytes_eq (take 7 line) rule_head then Some (drop 7 line) else None
 
--- the parts of a rule, between its colons: tests, and then a form
-abbrev pub parts_of : List ℕ → List (List ℕ)
-parts_of rule = slice_split is_colon rule
+-- the whole number that a view has
+abbrev pub number_of : View → Option ℤ
+number_of (Signed number bits) = Some number
+number_of _ = None
 
--- a test: its name, its number and its form
-abbrev pub Tested : Type 0
-Tested = List ℕ × ℕ × List ℕ
+-- the number of an object, if there is one, and if it is a number
+abbrev pub number_in : Option Object → Option ℤ
+number_in None = None
+number_in (Some object) = number_of object.value
 
-abbrev pub as_test : Test → Tested
-as_test test = (test.name.now, test.number, test.form.now)
+-- the number under a name: that of the last object of the name
+abbrev pub number_under : List Object → List ℕ → Option ℤ
+number_under objects name = number_in (last_named objects name)
 
--- a text is one or more digits
-abbrev pub is_numeral : List ℕ → Bool
-is_numeral text = not (length text == 0) && list_all is_ascii_digit text
+-- what a rule takes for a number: a negative one is 10^38 and its size, so it is none below that,
+-- and has the last digits of its size
+abbrev pub counted : ℤ → ℕ
+counted n = if int_lt n (pos 0) then 10 ^ 38 + unsigned_abs n else unsigned_abs n
 
--- the number that digits write, if it is below 2^64
-abbrev pub number_in : List ℕ → Option ℕ
-number_in text =
-    if is_numeral text && nat_lt (digits_value 10 text) (2 ^ 64)
-    then Some (digits_value 10 text) else None
+-- the numbers that a rule finds
+abbrev pub numbers_of : List Object → List ℕ → Option ℕ
+numbers_of objects name = option_map counted (number_under objects name)
 
--- a test, if there is a number, and its name and its form can be names
-abbrev pub whole_test : List ℕ → Option ℕ → List ℕ → Option Tested
-whole_test name None form = None
-whole_test name (Some number) form =
-    if is_name name && is_name form then Some (name, number, form) else None
+-- what is reported of a problem in a rule
+abbrev pub problem_text : Problem → List ℕ
+problem_text problems.Token =
+    codes "a rule has names, numbers below 2^64 and `! % < <= > >= == != && || ? : ( )`"
+problem_text problems.Divisor = codes "a number that is not 0 follows a `%`"
+problem_text problems.Operand = codes "a name, a number, `!` or `(` is missing here"
+problem_text problems.Operator = codes "an operator is missing here, or the end of the rule"
+problem_text problems.Unfinished = codes "a `(` is not closed, or a `?` has no `:`"
+problem_text problems.Long = codes "a rule has at most 1000 words"
 
--- the test of a name, what is after the first `=`, and a form
-abbrev pub test_after : (name after form : List ℕ) → Option Tested
-test_after name after form =
-    if bytes_eq (take 1 after) (codes "=")
-    then whole_test (trim name) (number_in (trim (drop 1 after))) (trim form) else None
+-- what is reported of a rule whose choices do not all come to forms
+abbrev pub no_form : List ℕ
+no_form = codes "each part of a rule ends in a form, as in `n == 1 ? one : other`"
 
--- the test of what is before `?`, and after it
-abbrev pub test_by : (condition form : List ℕ) → Option Tested
-test_by condition form =
-    if has is_equals condition
-    then test_after (before_first is_equals condition) (after_first is_equals condition) form
-    else None
+-- what is wrong with the rule of a line, if anything is, and at which byte of the line
+abbrev pub wrong_by : (rule : List ℕ) → Result Tree Fault → Option (ℕ × List ℕ)
+wrong_by rule (Ok tree) = if has_forms tree then None else Some (begin_of 7 rule, no_form)
+wrong_by rule (Err fault) = Some (usize_sum 7 fault.place, problem_text fault.problem)
 
--- the test `NAME == NUMBER ? FORM` between two colons, if it is one
-abbrev pub test_in : List ℕ → Option Tested
-test_in part =
-    if has is_question part
-    then test_by (before_first is_question part) (after_first is_question part) else None
+abbrev pub wrong_in : List ℕ → Option (ℕ × List ℕ)
+wrong_in rule = wrong_by rule (tree_at rule)
 
--- whether a part is whole: the last one is a form and no test, and any other is a test
-abbrev pub is_whole : Bool → List ℕ → Bool
-is_whole last part =
-    if last then is_name (trim part) && not (is_some (test_in part)) else is_some (test_in part)
-
--- where the part at a byte of a line begins, if it is broken; the last one ends with the line
-abbrev pub broken_part : (end place : ℕ) → List ℕ → Option ℕ
-broken_part end place part =
-    if is_whole (place + length part == end) part then None else Some (begin_of place part)
-
--- where the first broken part of a rule begins, if one is
-abbrev pub broken_from : (end place : ℕ) → List (List ℕ) → Option ℕ
-broken_from end place [] = None
-broken_from end place (part ∷ parts) =
-    option_or (broken_part end place part) (broken_from end (after_part place part) parts)
-
--- where the rule of a line is broken, if it is
-abbrev pub broken_in : List ℕ → Option ℕ
-broken_in rule = broken_from (7 + length rule) 7 (parts_of rule)
+-- borrows aside
+abbrev pub as_wrong : ℕ × Bor (List ℕ) → ℕ × List ℕ
+as_wrong wrong = (wrong.0, wrong.1.now)

@@ -5,7 +5,7 @@ use Rattle.catalogue.specs.Examples.{faults_of}
 use Rattle.catalogue.specs.Files.{Line, lines_of}
 use Rattle.catalogue.specs.Keys.{IsNew, with_key}
 use Rattle.catalogue.specs.Lines.{declared_of, format_of, is_passed_over, key_of, key_with}
-use Rattle.catalogue.specs.Rules.{broken_in, rule_in}
+use Rattle.catalogue.specs.Rules.{rule_in, wrong_in}
 use Rattle.words.specs.Words.{HasEquals}
 
 -- a format has no fault: by itself, if nothing is declared, or with examples of what is declared
@@ -19,7 +19,7 @@ pub record IsRule (keys : List (ℕ × List ℕ)) (line : List ℕ) : Type 0 whe
   pub rule : List ℕ
   pub ruled : rule_in line ≡ Some rule
   pub first : keys ≡ []
-  pub whole : broken_in rule ≡ None
+  pub whole : wrong_in rule ≡ None
 
 -- a line has a key that is not among these, nothing in its head is broken, and its format has no
 -- fault

@@ -12,7 +12,7 @@ use Rattle.catalogue.specs.Forms.{choice_with, or_form, rule_of}
 use Rattle.catalogue.specs.Keys.{told_of_key, with_key}
 use Rattle.catalogue.specs.Lines.{declared_of, format_of, head_of, is_passed_over, key_of, key_with}
 use Rattle.catalogue.specs.Reports.{lent, told_at}
-use Rattle.catalogue.specs.Rules.{broken_in, rule_in}
+use Rattle.catalogue.specs.Rules.{rule_in, wrong_in}
 use Rattle.words.specs.Words.{is_equals}
 use Rattle.catalogue.specs.declared.entries.Object.{Object}
 
@@ -46,20 +46,17 @@ told_of_message line (these declared) format =
     told_of_faults line format (map fault (faults_of (these declared) format))
 told_of_message line (broken place) format = told_at line place what_is_declared
 
--- what is reported of a rule: that another rule or a message is before it, or where it is broken
-abbrev pub what_is_a_rule : List ℕ
-what_is_a_rule = codes "a rule is `NAME == NUMBER ? FORM : .. : FORM`"
-
+-- what is reported of a rule: that another rule or a message is before it, or what is wrong with it
 abbrev pub what_is_before : List ℕ
 what_is_before = codes "a rule stands once, before all messages"
 
-abbrev pub told_of_broken : Line → Option ℕ → List ℕ
-told_of_broken line None = []
-told_of_broken line (Some place) = told_at line place what_is_a_rule
+abbrev pub told_of_wrong : Line → Option (ℕ × List ℕ) → List ℕ
+told_of_wrong line None = []
+told_of_wrong line (Some wrong) = told_at line wrong.0 wrong.1
 
 abbrev pub told_of_rule : List (ℕ × List ℕ) → Line → (rule : List ℕ) → List ℕ
 told_of_rule keys line rule =
-    if length keys == 0 then told_of_broken line (broken_in rule)
+    if length keys == 0 then told_of_wrong line (wrong_in rule)
     else told_at line 0 what_is_before
 
 -- what is reported of a line that has no rule: that it has no `=`, or what is wrong with its key and

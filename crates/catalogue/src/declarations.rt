@@ -2,16 +2,16 @@
 
 ghost use Rattle.std.specs.Prelude.{◌≡◌, ◌++◌, ◌==◌, ◌<◌, IfOk, OnOk, map};
 ghost use Rattle.std.specs.Option.{option_map};
-ghost use Rattle.std.specs.List.{list_any, slice_split};
-ghost use Rattle.std.specs.Char.{is_whitespace};
-ghost use Rattle.std.specs.Str.{chars, trim};
+ghost use Rattle.std.specs.List.{slice_split};
+ghost use Rattle.std.specs.Str.{trim};
 ghost use Rattle.catalogue.specs.Declarations.{as_list, if_whole};
-ghost use Rattle.catalogue.specs.Declarations.{is_name, part_of, begin_of, after_part, broken_at};
+ghost use Rattle.catalogue.specs.Declarations.{part_of, begin_of, after_part, broken_at};
 ghost use Rattle.catalogue.specs.Declarations.{declared_by, declared_between, declared_after};
 ghost use Rattle.catalogue.specs.Declarations.{declared_in, is_among, key_in};
 ghost use Rattle.words.specs.Declarations.{as_declaration};
 ghost use Rattle.words.specs.Items.{texts_of};
 
+use plurals::is_name;
 use std::alloc::{AllocError, Global};
 use words::{Declaration, Kind, declaration_of};
 
@@ -37,20 +37,6 @@ fn if_whole(name: &str, kind: Kind, whole: bool) -> Option<Declaration<'_>>
     }
 }
 
-/// Whether a text has white space.
-fn has_space(text: &str) -> bool
-    ensures { result ≡ list_any is_whitespace (chars text.now) }
-{
-    text.chars().any(|c| c.is_whitespace())
-}
-
-/// Whether a text can be a declared name: it is not empty, and has no white space.
-pub fn is_name(text: &str) -> bool
-    ensures { result ≡ is_name text.now }
-{
-    !text.is_empty() && !has_space(text)
-}
-
 /// The declaration between two commas, without the white space around it.
 fn part_of(part: &str) -> Option<Declaration<'_>>
     ensures { option_map as_declaration result ≡ part_of part.now }
@@ -67,7 +53,7 @@ pub fn begin_of(place: usize, part: &str) -> usize
 }
 
 /// Where the part after this one is, with a comma between.
-pub fn after_part(place: usize, part: &str) -> usize
+fn after_part(place: usize, part: &str) -> usize
     ensures { result ≡ after_part place part.now }
 {
     place.saturating_add(part.len()).saturating_add(1)
@@ -110,8 +96,8 @@ fn add<'a>(found: &mut Vec<Declaration<'a>>, one: Option<Declaration<'a>>) -> Re
     Ok(())
 }
 
-/// The parts of a text, between its commas, colons or the like.
-pub fn parts_between(alloc: Global, text: &str, mark: char) -> Result<Vec<&str>, AllocError>
+/// The parts of a text, between its commas or the like.
+fn parts_between(alloc: Global, text: &str, mark: char) -> Result<Vec<&str>, AllocError>
     requires ascii { mark < 128 }
     ensures { IfOk result (λ parts. texts_of parts.items ≡ slice_split (λ b. b == mark) text.now) }
 {

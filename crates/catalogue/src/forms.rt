@@ -1,25 +1,23 @@
 //! The form of a message, which the rule of a file chooses by numbers.
 
-ghost use Rattle.std.specs.Prelude.{◌≡◌, IfOk, pos, string_bytes};
+ghost use Rattle.std.specs.Prelude.{◌≡◌, IfOk, string_bytes};
 ghost use Rattle.std.specs.Option.{option_map};
-ghost use Rattle.std.specs.Ordering.{int_eq};
 ghost use Rattle.words.specs.Items.{texts_of};
-ghost use Rattle.catalogue.specs.Forms.{as_choice, as_sought, choice_at, choice_by, choice_of};
-ghost use Rattle.catalogue.specs.Forms.{choice_with, key_by, key_of_form, number_of, number_under};
-ghost use Rattle.catalogue.specs.Forms.{or_form, rule_of};
-ghost use Rattle.catalogue.specs.Rules.{as_test};
+ghost use Rattle.catalogue.specs.Forms.{as_choice, as_sought, choice_of, choice_with, key_by};
+ghost use Rattle.catalogue.specs.Forms.{key_of_form, or_form, rule_of};
+ghost use Rattle.plurals.specs.Values.{as_form};
 
 use crate::entries::Object;
-use crate::picks::last_named;
-use crate::rules::{Test, parts_of, rule_in, test_in};
-use interpolator::View;
+use crate::rules::{Counts, rule_in};
+use plurals::{Form, ParseError, parse};
 use std::alloc::{AllocError, Global};
 
 /// The form of a message that a rule chooses.
 #[derive(Clone, Copy, Debug)]
 pub struct Choice<'a> {
-    pub form: &'a str,
-    /// The name of a number that is missing: the form is then that of the test that names it.
+    pub form: Form<'a>,
+    /// The name of a number that is missing: the form is then the one before the `:` of the test
+    /// that needs it.
     pub lacks: Option<&'a str>,
 }
 
@@ -31,62 +29,7 @@ pub struct Sought<'a> {
     pub lacks: Option<&'a str>,
 }
 
-/// The whole number that a view has. A decimal or a float is none.
-fn number_of(view: &View<'_>) -> Option<i128>
-    ensures { result ≡ number_of view.now }
-{
-    match view {
-        View::Signed(number, _) => Some(*number),
-        _ => None,
-    }
-}
-
-/// The number under a name.
-fn number_under(objects: &[Object<'_>], name: &str) -> Option<i128>
-    ensures { result ≡ number_under objects.now name.now }
-{
-    match last_named(objects, name) {
-        Some(object) => number_of(&object.value),
-        None => None,
-    }
-}
-
-/// Whether a number is the one of a test.
-fn is_wanted(number: i128, wanted: u64) -> bool
-    ensures { result ≡ int_eq number (pos wanted) }
-{
-    number == i128::from(wanted)
-}
-
-/// What a test chooses by a number.
-fn choice_by<'a>(test: &Test<'a>, number: Option<i128>) -> Option<Choice<'a>>
-    ensures { option_map as_choice result ≡ choice_by (as_test test.now) number }
-{
-    let form = test.form;
-    match number {
-        None => Some(Choice {
-            form,
-            lacks: Some(test.name),
-        }),
-        Some(number) if is_wanted(number, test.number) => Some(Choice { form, lacks: None }),
-        Some(_) => None,
-    }
-}
-
-/// What a part of a rule chooses: a part that is no test is a form.
-fn choice_at<'a>(objects: &[Object<'_>], part: &'a str) -> Option<Choice<'a>>
-    ensures { option_map as_choice result ≡ choice_at objects.now part.now }
-{
-    match test_in(part) {
-        Some(test) => choice_by(&test, number_under(objects, test.name)),
-        None => Some(Choice {
-            form: part.trim(),
-            lacks: None,
-        }),
-    }
-}
-
-/// What a rule chooses: what the first of its parts does that chooses.
+/// What a rule chooses by the numbers of objects; nothing, if it is broken.
 fn choice_of<'a>(
     alloc: Global,
     objects: &[Object<'_>],
@@ -94,17 +37,21 @@ fn choice_of<'a>(
 ) -> Result<Option<Choice<'a>>, AllocError>
     ensures { IfOk result (λ choice. option_map as_choice choice ≡ choice_of objects.now rule.now) }
 {
-    let parts = parts_of(alloc, rule)?;
-    for part in &parts {
-        if let Some(choice) = choice_at(objects, part) {
-            return Ok(Some(choice));
-        }
+    let read = match parse(alloc, rule) {
+        Ok(read) => read,
+        Err(ParseError::Broken(_)) => return Ok(None),
+        Err(ParseError::NoMemory) => return Err(AllocError),
+    };
+    let numbers = Counts(objects);
+    let lacks = read.missing(&numbers);
+    match read.form(&numbers) {
+        Some(form) => Ok(Some(Choice { form, lacks })),
+        None => Ok(None),
     }
-    Ok(None)
 }
 
 /// The rule of some lines, on the first that has one.
-fn rule_of<'a>(lines: &[&'a str]) -> Option<&'a str>
+pub fn rule_of<'a>(lines: &[&'a str]) -> Option<&'a str>
     ensures { option_map (λ x. x.now) result ≡ rule_of (texts_of lines.now) }
 {
     for line in lines {
@@ -130,10 +77,24 @@ pub fn choice_in<'a>(
     }
 }
 
-/// A key with a form.
-pub fn key_of_form(alloc: Global, key: &str, form: &str) -> Result<String, AllocError>
-    ensures { IfOk result (λ whole. string_bytes whole ≡ key_of_form key.now form.now) }
+/// A form, as it ends a key.
+pub fn text_of_form(alloc: Global, form: Form<'_>) -> Result<String, AllocError>
+    ensures { IfOk result (λ text. string_bytes text ≡ as_form form.entry) }
 {
+    match form {
+        Form::Name(name) => String::from_str(alloc, name),
+        Form::Number(number) => {
+            let text = format!(in alloc; "{number}")?;
+            Ok(text)
+        }
+    }
+}
+
+/// A key with a form.
+fn key_of_form(alloc: Global, key: &str, form: Form<'_>) -> Result<String, AllocError>
+    ensures { IfOk result (λ whole. string_bytes whole ≡ key_of_form key.now (as_form form.entry)) }
+{
+    let form = text_of_form(alloc, form)?;
     let whole = format!(in alloc; "{key}.{form}")?;
     Ok(whole)
 }

@@ -12,7 +12,7 @@ use crate::examples::faults_of;
 use crate::files::Line;
 use crate::keys::is_first;
 use crate::reports::told_at;
-use crate::rules::broken_in;
+use crate::rules::wrong_in;
 use interpolator::{Error, Source, Template, explain_in};
 use std::alloc::Global;
 use std::collections::HashMap;
@@ -20,9 +20,6 @@ use std::collections::HashMap;
 /// What is reported of a broken declaration.
 const WHAT_IS_DECLARED: &str =
     "declarations are `(NAME, NAME:, NAME:., NAME:~, NAME[])`, each name once";
-
-/// What is reported of a broken rule.
-const WHAT_IS_A_RULE: &str = "a rule is `NAME == NUMBER ? FORM : .. : FORM`";
 
 /// What is reported of a rule that comes too late.
 const WHAT_IS_BEFORE: &str = "a rule stands once, before all messages";
@@ -89,7 +86,7 @@ pub fn told_of_message(
 }
 
 /// Reports what is wrong with the rule of a line, after others with these keys: it comes after
-/// another rule or a message, or is broken.
+/// another rule or a message, or is none.
 pub fn told_of_rule(
     alloc: Global,
     line: &Line<'_>,
@@ -103,8 +100,8 @@ pub fn told_of_rule(
     if !is_first(keys) {
         return told_at(alloc, line, 0, WHAT_IS_BEFORE);
     }
-    match broken_in(alloc, rule)? {
-        Some(place) => told_at(alloc, line, place, WHAT_IS_A_RULE),
+    match wrong_in(alloc, rule)? {
+        Some((place, what)) => told_at(alloc, line, place, what),
         None => Ok(String::new(alloc)),
     }
 }

@@ -12,14 +12,23 @@
 //! an indented `#` or `plural:` begins a key. Each fault is shown in its line, with the file, the
 //! line and the column; if there is any, no message is written.
 //!
-//! A line that begins with `plural:` is the rule of its file, as `plural: n == 0 ? zero : n == 1 ?
-//! one : other`. It stands once, before all messages. If the file has no line of the key `cart`,
-//! `catalogue FILE cart n:=1` writes the message of `cart.one`: the form is that of the first test
-//! whose number is the one of the word with its name, or else the last one. A test compares a name
-//! with a whole number below 2^64: a rule of `n % 10`, or of numbers between two, cannot be
-//! written. If the number of a test is missing, or a decimal has its name, the form is that of this
-//! test, and the missing number is reported; if no line has the form, that is. A check reports what
-//! is wrong with the rule, but not a key that lacks a form.
+//! A line that begins with `plural:` is the rule of its file, an expression as gettext and CLDR
+//! write them (the crate `plurals`). It stands once, before all messages:
+//!
+//! ```text
+//! plural: n == 1 ? one : other
+//! plural: n == 1 ? one : n >= 2 && n <= 4 ? few : other
+//! plural: n % 10 == 1 && n % 100 != 11 ? one : n % 10 >= 2 && n % 10 <= 4 ? few : many
+//! ```
+//!
+//! are those of English and Czech, and nearly that of Russian, whose `few` also wants `(n % 100 <
+//! 12 || n % 100 > 14)`. If the file has no line of the key `cart`, `catalogue FILE cart n:=1`
+//! writes the message of `cart.one`: the form is the name, or the number, to which the rule comes
+//! with the numbers of the words. If the number of a test is missing, or a decimal has its name,
+//! the form is the one before the `:`, and the missing number is reported; if no line has the form,
+//! that is. A negative number is none of those that a rule names, but has the last digits of its
+//! size: `n % 10 == 1` holds for -21, and `n == 1` does not for -1. A check reports what is wrong
+//! with the rule, and a key that lacks a form which the rule can choose.
 //!
 //! With `--line` or `--html` the values are written escaped. Then each value of each message has to
 //! stand where it may, of `--html` in text or between the quotes of an attribute; of each message
@@ -38,6 +47,7 @@ mod examples;
 mod files;
 mod forms;
 mod keys;
+mod lacks;
 mod line_faults;
 mod lines;
 mod messages;
@@ -50,6 +60,7 @@ mod rules;
 use checks::check;
 use files::File;
 use interpolator::{Error, Escape};
+use lacks::lacking_forms;
 use messages::{Answer, look_up};
 use places::misplaced;
 use std::alloc::Global;
@@ -225,6 +236,14 @@ fn told_of(alloc: Global, files: &[File], escape: Option<Escape>) -> Result<Stri
     Ok(told)
 }
 
+/// What a check reports: what is wrong with files, and the keys that lack a form.
+fn told_by_check(alloc: Global, files: &[File], escape: Option<Escape>) -> Result<String, Error> {
+    let mut told = told_of(alloc, files, escape)?;
+    let more = lacking_forms(alloc, files)?;
+    told.push_str(more.as_str())?;
+    Ok(told)
+}
+
 /// What is answered: all that is wrong with the files, or the message, or why there is none.
 fn answer_in(alloc: Global, wanted: &Wanted<'_>, files: &[File]) -> Result<Answer, Error> {
     if wanted.escape.is_some() {
@@ -268,7 +287,7 @@ fn check_files(rt: &HostRuntime, asked: &Asked<'_>) -> io::Result<u8> {
             None => status = REFUSED,
         }
     }
-    let told = told_of(rt.alloc(), files.as_slice(), asked.escape);
+    let told = told_by_check(rt.alloc(), files.as_slice(), asked.escape);
     match &told {
         Ok(told) if told.is_empty() => return Ok(status),
         Ok(told) => eprint!(rt; "{told}")?,

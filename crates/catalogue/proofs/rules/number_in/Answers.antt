@@ -1,9 +1,0 @@
-use Rattle.std.proofs.Common.{◌≡◌, true, rules, ◌∙◌}
-use Rattle.catalogue.specs.Rules.{is_numeral}
-use Rattle.catalogue.proofs.RuleLemmas.{number_parsed}
-use Rattle.catalogue.proofs.rules.number_in.Goals as goal
-
-pub returns : goal.returns
-returns c =
-    let is : is_numeral c.args.text.now ≡ true = search rules in
-    c.ok.ensures.value ∙ number_parsed c.args.text.now _ is c.parse.ensures.value.0
