@@ -11,12 +11,17 @@ name=catalogue
 usage='usage: catalogue [--line | --html] [--fallback FILE] [--] FILE KEY '
 usage+='[NAME=TEXT | NAME:=NUMBER | NAME:.=DECIMAL | NAME:~=FLOAT | NAME[]=ITEM,ITEM..] | '
 usage+='catalogue --check [--line | --html] [--] FILE..'
-wanted=165
+wanted=175
 . "$here/../../.ci/cases.sh"
 
 # message WANTED WORD..: a message, which goes to standard output, with status 0.
 message() {
     case_of file file 0 "$1"$'\n' '' "${@:2}"
+}
+
+# noted WANTED NOTE WORD..: a message, and a note on standard error, with status 0.
+noted() {
+    case_of file file 0 "$1"$'\n' "$2"$'\n' "${@:3}"
 }
 
 # wrong WANTED WORD..: a wrong use, which is told on standard error, with status 2.
@@ -51,8 +56,16 @@ message_cases() {
     wrong 'bad word: name' m.txt hello name
     wrong 'bad word: name:=x' m.txt hello name:=x
     wrong 'bad word: a[b:=x' m.txt bye name=Ann 'a[b:=x'
-    message 'Bye,   Ann.' m.txt bye a:b=1 'a[b=1' 'a[][]=1' =1 'a[b:=1' name=Ann
-    message 'Hello i!' m.txt hello a=1 b=2 c=3 d=4 e=5 f=6 g=7 h=8 name=i
+    noted 'Bye,   Ann.' "$(printf 'm.txt: no message uses `%s`\n' a:b 'a[b' 'a[]' '')" \
+        m.txt bye a:b=1 'a[b=1' 'a[][]=1' =1 'a[b:=1' name=Ann
+    noted 'Hello i!' "$(printf 'm.txt: no message uses `%s`\n' c d e f g h)" \
+        m.txt hello a=1 b=2 c=3 d=4 e=5 f=6 g=7 h=8 name=i
+    told $'m.txt: no message `helo`\ndid you mean `hello`?' m.txt helo name=1
+    told $'m.txt: no message `hlelo`\ndid you mean `hello`?' m.txt hlelo name=1
+    told $'m.txt: no message `tow`' m.txt tow
+    told $'m.txt: no message `lis`\ndid you mean `list`?' m.txt lis
+    told 'm.txt: no message ``' m.txt ''
+    told "m.txt: no message \`$(times 101 a)\`" m.txt "$(times 101 a)"
     case_of closed file 3 '' '' m.txt hello name=Zoë
     case_of file full 3 '' '' m.txt gone
 }
@@ -117,7 +130,7 @@ declared_cases() {
         'cart(name, n:, l[]) = {name}: {n:03} of {l:i(<{}>)(, )}' >declared.txt
     message 'Ann: -07 of <a>, <b>' declared.txt cart name=Ann n:=-7 'l[]=a,b'
     message 'Ann: 007 of ' declared.txt cart 'l[]=' n:=7 name=Ann
-    message 'Bob: 008 of <c>' declared.txt cart n:=7 'l[]=a,b' name=Ann x=1 n:=8 'l[]=c' name=Bob
+    noted 'Bob: 008 of <c>' 'declared.txt: no message uses `x`' declared.txt cart n:=7 'l[]=a,b' name=Ann x=1 n:=8 'l[]=c' name=Bob
     told 'declared.txt:3: `cart` wants `l[]=ITEM,ITEM`' declared.txt cart name=Ann n:=7 l=a
     told 'declared.txt:3: `cart` wants `n:=NUMBER`' declared.txt cart name=Ann n:=7 'l[]=a' n=8
     told 'declared.txt:3: `cart` wants `n:=NUMBER`' declared.txt cart name=Ann 'n[]=7'
@@ -241,7 +254,9 @@ form_cases() {
     told 'forms.txt:4: `cart` wants `n:=NUMBER`' forms.txt cart n:=1 n=1
     told 'forms.txt:4: `cart` wants `n:=NUMBER`' forms.txt cart n:.=1
     told 'forms.txt: no message `box` or `box.one`' forms.txt box n:=1
-    told 'forms.txt: no message `gone` or `gone.zero`' forms.txt gone
+    told $'forms.txt: no message `gone` or `gone.zero`\ndid you mean `one`?' forms.txt gone
+    told $'forms.txt: no message `crt` or `crt.one`\ndid you mean `cart`?' forms.txt crt n:=1
+    noted 'ein Artikel' 'forms.txt: no message uses `m`' forms.txt cart n:=1 m:=1
     wrong 'bad word: x' forms.txt cart n:=1 x
     wrong 'bad word: x' forms.txt box n:=5 x
     wrong 'bad word: name' m.txt gone name
@@ -448,6 +463,8 @@ refused_calls() {
     refusals_of 1 '' $'declared.txt:3: `cart` wants `n:=NUMBER`\n' declared.txt cart name=Ann 'n[]=7'
     refusals_of 1 '' $'de.txt: no message `gone`\nm.txt: no message `gone`\n' \
         --fallback m.txt de.txt gone
+    refusals_of 1 '' $'m.txt: no message `helo`\ndid you mean `hello`?\n' m.txt helo
+    refusals_of 0 $'Bye,   Ann.\n' $'m.txt: no message uses `z`\n' m.txt bye name=Ann z=1
     refusals_of 2 '' $'bad word: x\n' m.txt hello y=1 x z:=z
     refusals_of 2 '' "$usage"$'\n' m.txt
     refusals_of 3 '' $'none.txt: No such file or directory (os error 2)\n' none.txt hello

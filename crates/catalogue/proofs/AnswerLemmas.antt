@@ -13,7 +13,7 @@ use Rattle.catalogue.specs.Sound.{IsSoundOver}
 use Rattle.catalogue.specs.Objects.{IsGiven}
 use Rattle.catalogue.specs.declared.entries.Object.{Object}
 use Rattle.catalogue.specs.declared.messages.Answer.{Answer}
-use Rattle.catalogue.specs.declared.messages.Answer.TheVariants.{Message, Faults, BadWord}
+use Rattle.catalogue.specs.declared.messages.Answer.TheVariants.{Message, Faults, Absent, BadWord}
 use Rattle.catalogue.proofs.KindLemmas.{ByKind, MeansNone, SameFaults, none_fails}
 
 -- a fault that has a place, as a call told it, is the fault of what it means
@@ -36,6 +36,7 @@ module _ (by_kind : ByKind) (none : MeansNone) (same : SameFaults) (escape : Opt
       absurd (let no = none_fails by_kind none same escape format ds values held sound given are in
       let some = h.faulty in cc)
   replies_made (broken at) values held (Faults told) sound given are h = absurd sound
+  replies_made declared values held (Absent told) sound given are h = absurd h
   replies_made declared values held (BadWord w) sound given are h = absurd h
 
 -- what the line comes to is the answer
@@ -43,5 +44,6 @@ pub answers_line : {Y : Type 0} (escape : Option Escape) (files : List (List ℕ
     (key : List ℕ) (words : List (String Y)) (answer : Answer)
     → OfLine escape files key words answer → Answers escape files key words answer
 answers_line escape files key words (Message m) h = h
-answers_line escape files key words (Faults told) h = inr (inr h)
+answers_line escape files key words (Faults told) h = inr h
+answers_line escape files key words (Absent told) h = absurd h.replies
 answers_line escape files key words (BadWord w) h = absurd h.replies

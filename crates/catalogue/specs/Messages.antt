@@ -29,7 +29,7 @@ use Rattle.words.specs.declared.Kind.{Kind}
 use Rattle.words.specs.declared.Kind.TheVariants as kinds
 use Rattle.catalogue.specs.declared.entries.Object.{Object}
 use Rattle.catalogue.specs.declared.messages.Answer.{Answer}
-use Rattle.catalogue.specs.declared.messages.Answer.TheVariants.{Message, Faults, BadWord}
+use Rattle.catalogue.specs.declared.messages.Answer.TheVariants.{Message, Faults, Absent, BadWord}
 
 -- what values show in a message: escaped, if that is asked for
 abbrev pub escaped_by : {X : Type 0} → Option Escape → (shows : X → Trait → Spec → Shown)
@@ -55,6 +55,7 @@ IsMadeOrTold escape line format held (Message message) =
     Formats (message_means escape format held) (Ok message)
 IsMadeOrTold escape line format held (Faults told) =
     IsToldOf escape line format held (string_bytes told)
+IsMadeOrTold escape line format held (Absent told) = ⊥
 IsMadeOrTold escape line format held (BadWord word) = ⊥
 
 -- a message is made with what is picked of objects for what its line declares
@@ -84,6 +85,7 @@ Replies escape (Faults told) None line key declared format objects =
 Replies escape (Faults told) (Some name) line key declared format objects =
     string_bytes told ≡ told_of_lacking line key (name, kinds.Number)
 Replies escape (Message message) (Some name) line key declared format objects = ⊥
+Replies escape (Absent told) lacks line key declared format objects = ⊥
 Replies escape (BadWord word) lacks line key declared format objects = ⊥
 
 -- each word gives an object
@@ -133,5 +135,5 @@ module _ {Y : Type 0} (escape : Option Escape) (files : List (List ℕ × List �
   abbrev pub Answers : Answer → Type 0
   Answers (Message message) = OfLine (Message message)
   Answers (BadWord word) = OfWord (string_bytes word)
-  Answers (Faults told) =
-      OfFiles (string_bytes told) ⊎ OfKey (string_bytes told) ⊎ OfLine (Faults told)
+  Answers (Absent told) = OfKey (string_bytes told)
+  Answers (Faults told) = OfFiles (string_bytes told) ⊎ OfLine (Faults told)

@@ -30,6 +30,10 @@
 //! size: `n % 10 == 1` holds for -21, and `n == 1` does not for -1. A check reports what is wrong
 //! with the rule, and a key that lacks a form which the rule can choose.
 //!
+//! Beside a message, the words whose names no message, declaration or rule of the files uses are
+//! told on standard error. Below the report that a key is not there stands the nearest that is: at
+//! most a character inserted, removed or replaced for each three of the key.
+//!
 //! With `--line` or `--html` the values are written escaped. Then each value of each message has to
 //! stand where it may, of `--html` in text or between the quotes of an attribute; of each message
 //! the first that does not is shown after all other faults, and no message is written.
@@ -51,21 +55,25 @@ mod lacks;
 mod line_faults;
 mod lines;
 mod messages;
+mod nearest;
 mod objects;
 mod picks;
 mod places;
 mod reports;
 mod rules;
+mod unused;
 
 use checks::check;
 use files::File;
 use interpolator::{Error, Escape};
 use lacks::lacking_forms;
 use messages::{Answer, look_up};
+use nearest::nearest;
 use places::misplaced;
 use std::alloc::Global;
 use std::process::ExitCode;
 use std::{fs, io};
+use unused::unused;
 use words::program::{BAD_USE, FAULT, REFUSED, WRITTEN, arguments};
 
 const USAGE: &str = "usage: catalogue [--line | --html] [--fallback FILE] [--] FILE KEY \
@@ -207,13 +215,43 @@ fn tell_memory(rt: &HostRuntime) -> u8 {
     }
 }
 
-/// Writes an answer.
-fn tell(rt: &HostRuntime, answer: &Answer) -> io::Result<u8> {
-    match answer {
-        Answer::Message(message) => {
+/// Writes a message, and which words no message uses.
+fn tell_message(
+    rt: &HostRuntime,
+    message: &str,
+    files: &[File],
+    words: &[String],
+) -> io::Result<u8> {
+    match unused(rt.alloc(), files, words) {
+        Ok(told) => {
             println!(rt; "{message}")?;
+            if !told.is_empty() {
+                eprint!(rt; "{told}")?;
+            }
             Ok(WRITTEN)
         }
+        Err(error) => {
+            eprintln!(rt; "{error}")?;
+            Ok(FAULT)
+        }
+    }
+}
+
+/// Writes that a key is not there, and the key that may be meant.
+fn tell_absent(rt: &HostRuntime, absent: &str, files: &[File], key: &str) -> io::Result<u8> {
+    let near = nearest(rt.alloc(), files, key)?;
+    eprint!(rt; "{absent}")?;
+    if let Some(near) = near {
+        eprintln!(rt; "did you mean `{near}`?")?;
+    }
+    Ok(FAULT)
+}
+
+/// Writes an answer.
+fn tell(rt: &HostRuntime, answer: &Answer, files: &[File], wanted: &Wanted<'_>) -> io::Result<u8> {
+    match answer {
+        Answer::Message(message) => tell_message(rt, message.as_str(), files, wanted.values),
+        Answer::Absent(absent) => tell_absent(rt, absent.as_str(), files, wanted.key),
         Answer::Faults(faults) => {
             eprint!(rt; "{faults}")?;
             Ok(FAULT)
@@ -269,7 +307,7 @@ fn answer(rt: &HostRuntime, wanted: &Wanted<'_>) -> io::Result<u8> {
         files.push(file)?;
     }
     match answer_in(rt.alloc(), wanted, files.as_slice()) {
-        Ok(answer) => tell(rt, &answer),
+        Ok(answer) => tell(rt, &answer, files.as_slice(), wanted),
         Err(error) => {
             eprintln!(rt; "{error}")?;
             Ok(FAULT)

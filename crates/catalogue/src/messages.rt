@@ -43,6 +43,8 @@ pub enum Answer {
     Message(String),
     /// Everything that is wrong, fault by fault.
     Faults(String),
+    /// That no file has the key.
+    Absent(String),
     /// The first word that gives no value.
     BadWord(String),
 }
@@ -260,7 +262,7 @@ pub fn look_up(
             Some(found) => reply(alloc, escape, key, found, objects),
             None => {
                 let absent = told_of_absent(alloc, files, key, objects)?;
-                Ok(Answer::Faults(absent))
+                Ok(Answer::Absent(absent))
             }
         },
     }

@@ -1,4 +1,4 @@
-use Rattle.std.proofs.Common.{◌≡◌, inl, inr, length, map, arith, string_bytes, sym}
+use Rattle.std.proofs.Common.{◌≡◌, length, map, arith, string_bytes, sym}
 use Rattle.std.proofs.lemmas.Bool.Decides.{nat_tests}
 use Rattle.std.proofs.lemmas.Result.{IfOk-weaker}
 use Rattle.catalogue.specs.Files.{as_file}
@@ -35,14 +35,14 @@ returns-in-Some-clause-answers c =
 pub returns-clause-answers : goal.returns-clause-answers
 returns-clause-answers c =
     let clean : length (string_bytes c.in_ok-told.field-0.told) ≡ 0 = grind (arith, nat_tests) in
-    inr (inl (record {
+    record {
       sound = c.in_ok-told.ensures.sound clean;
       values = c.given-objects.result.now;
       given = rw (c.given-objects.ensures, c.in-Ok.is)
           (rw c.in-Ok.is at c.in_ok-values.ensures.given);
       none = sym (rw c.in-None.is at c.in_ok-told.ensures.found);
       says = c.in_ok-absent-in-None.ensures.told;
-    }))
+    }
 
 pub returns-in-Err-clause-answers : goal.returns-in-Err-clause-answers
 returns-in-Err-clause-answers c =
