@@ -45,7 +45,7 @@ impl Layout {
         let layout = Template::parse(alloc, text)?.escaped(alloc, Escape::Line)?;
         let line = layout.prepare_named(
             alloc,
-            &values!(level = "INFO", line:integer = 1u32, message = "ready"),
+            &values!(level = "INFO", line:integer = 1u32, message:debug_display = "ready"),
         )?;
         Ok(Layout { line })
     }
@@ -57,8 +57,11 @@ impl Layout {
             line,
             message,
         } = *record;
-        self.line
-            .write_named(alloc, out, &values!(level, line:integer, message))
+        self.line.write_named(
+            alloc,
+            out,
+            &values!(level, line:integer, message:debug_display),
+        )
     }
 }
 
