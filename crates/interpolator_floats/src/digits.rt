@@ -6,7 +6,7 @@ ghost use Rattle.interpolator_digits.specs.Decimals.{decimal_text, split_text, u
 ghost use Rattle.interpolator_digits.specs.Exponent.{nearest};
 ghost use Rattle.interpolator_floats.specs.Floats.{float_scale, float_text, float_units};
 
-use crate::parts::odd_parts;
+use crate::parts::{float_parts, odd_parts};
 use crate::powers::power;
 
 /// The digits of `whole`, after a point those of `part`, with zeros before them up to `places`,
@@ -80,6 +80,7 @@ fn split_count(count: u128, places: usize, zeros: usize) -> FloatDigits
 }
 
 /// What is before the point, and what is after it.
+#[inline(always)]
 #[tactic(auto, using(crate::proofs::FloatLemmas::cuts))]
 fn cut_at_point(mantissa: u64, down: u32) -> (u64, u64)
     requires { down ≤ 63 }
@@ -91,8 +92,33 @@ fn cut_at_point(mantissa: u64, down: u32) -> (u64, u64)
     (mantissa / step, mantissa % step)
 }
 
+/// As [`nearest_shifted`] of rest * unit, by a product of two words.
+#[inline(always)]
+#[tactic(auto, using(crate::proofs::FloatLemmas::part_steps))]
+fn nearest_part(rest: u64, unit: u64, down: u32) -> u64
+    requires short { rest < 2 ^ down }
+    requires unit { 0 < unit }
+    requires some { 0 < down }
+    requires near { down ≤ 63 }
+    ensures { result ≡ nearest (rest * unit) (2 ^ down) }
+{
+    let step = 1u64 << down;
+    let product = rest as u128 * unit as u128;
+    let units = (product / step as u128) as u64;
+    let left = (product % step as u128) as u64;
+    let other = step - left;
+    if left < other {
+        units
+    } else if other < left {
+        units + 1
+    } else {
+        units + units % 2
+    }
+}
+
 /// As [`split_count`] of a [`part_count`], with less than 64 bits after the point: the whole and
 /// the rest apart, which takes no division.
+#[inline(always)]
 #[tactic(auto, using(crate::proofs::FloatLemmas::near_steps))]
 fn near_digits(mantissa: u64, down: u32, places: usize, zeros: usize) -> FloatDigits
     requires some { 0 < down }
@@ -103,9 +129,9 @@ fn near_digits(mantissa: u64, down: u32, places: usize, zeros: usize) -> FloatDi
         ≡ units_text (places + zeros) (nearest (mantissa * 10 ^ places) (2 ^ down) * 10 ^ zeros) }
     ensures fits { result.part < 10 ^ result.places }
 {
-    let unit = power(places);
+    let unit = power(places) as u64;
     let (whole, rest) = cut_at_point(mantissa, down);
-    let part = nearest_shifted(rest as u128 * unit, down);
+    let part = nearest_part(rest, unit, down);
     if part == unit {
         return FloatDigits {
             whole: whole as u128 + 1,
@@ -116,13 +142,14 @@ fn near_digits(mantissa: u64, down: u32, places: usize, zeros: usize) -> FloatDi
     }
     FloatDigits {
         whole: whole as u128,
-        part,
+        part: part as u128,
         places,
         zeros,
     }
 }
 
 /// What a precision shows of mantissa * 2 ^ power steps of 2 ^ -1074, if 128 bits serve.
+#[inline(never)]
 #[tactic(auto, using(crate::proofs::FloatLemmas::digits))]
 pub fn short_digits(mantissa: u64, power: u32, precision: usize) -> Option<FloatDigits>
     requires short { mantissa < 2 ^ 53 }
@@ -155,6 +182,7 @@ pub fn short_digits(mantissa: u64, power: u32, precision: usize) -> Option<Float
 /// zeros, of a float whose odd mantissa is shifted by no more than 75 bits.
 ///
 /// It is the text of the decimal that the float is, without its sign.
+#[inline(always)]
 #[tactic(auto, using(crate::proofs::FloatLemmas::decimal_texts))]
 pub fn float_digits(x: f64, precision: usize) -> Option<FloatDigits>
     requires { IsTrue (float_is_finite x) }
@@ -163,6 +191,10 @@ pub fn float_digits(x: f64, precision: usize) -> Option<FloatDigits>
         ≡ decimal_text (Some precision) (float_scale x) (float_units x)) }
     ensures fits { IfSome result (λ shown. shown.part < 10 ^ shown.places) }
 {
+    let near = float_parts(x);
+    if 1011 <= near.power && near.power <= 1073 && 0 < precision && precision <= 19 {
+        return Some(near_digits(near.mantissa, 1074 - near.power, precision, 0));
+    }
     let parts = odd_parts(x);
     short_digits(parts.mantissa, parts.power, precision)
 }

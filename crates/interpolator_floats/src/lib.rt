@@ -18,10 +18,13 @@ mod exponent;
 mod parts;
 mod plain;
 mod powers;
+mod rounding;
 mod scale;
 mod shortest;
 #[cfg(test)]
 mod tests;
+mod units;
+mod whole;
 mod words;
 
 pub use choice::{

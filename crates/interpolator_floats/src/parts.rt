@@ -67,7 +67,7 @@ pub fn f32_parts(x: f32) -> FloatParts
 
 /// The number `mantissa * 2 ^ power` by an odd mantissa, if it is above zero.
 #[tactic(auto, using(crate::proofs::PartLemmas::odd_steps))]
-fn without_zero_bits(mantissa: u64, power: u32) -> (u64, u32)
+pub(crate) fn without_zero_bits(mantissa: u64, power: u32) -> (u64, u32)
     requires some { 0 < mantissa }
     requires low { power ≤ 2045 }
     ensures value { result.0 * 2 ^ result.1 ≡ mantissa * 2 ^ power }

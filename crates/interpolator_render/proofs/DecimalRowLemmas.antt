@@ -3,9 +3,15 @@ use Rattle.interpolator_render.proofs.ExponentRowLemmas.{digits_before}
 use Rattle.std.proofs.lemmas.Grind.{common_steps}
 use Rattle.std.proofs.Common.{eq-zero-or-pos, length-append, if◌then◌else◌, append_assoc, replicate}
 use Rattle.std.proofs.Common.{append-nil, unwrap_or, length, nat_lt, Option, false, arith, codes, ℕ}
+use Rattle.std.proofs.Common.{zero, suc, drop, ap, ◌∙◌, ◌*◌, ◌/◌, ◌%◌, pow-suc, inl, inr}
+use Rattle.std.proofs.Math.Nat.{pow-le-pow_right}
+use Rattle.std.specs.Fmt.{digit_glyph}
+use Rattle.interpolator_digits.proofs.DigitLemmas.{digit_text_one, digit_text_step, digit_text_zero}
+use Rattle.interpolator_digits.proofs.ExponentLemmas.{pow_some}
+use Rattle.interpolator_render.proofs.ExponentRowLemmas.{small_glyph}
 use Rattle.std.proofs.Common.{Bool, List, ◌++◌, ◌==◌, ◌≡◌, ◌<◌, ◌≤◌, ◌-◌, ◌+◌, ◌^◌, min, ◌∷◌, []}
 use Rattle.std.proofs.lemmas.Bool.{cases_lt}
-use Rattle.std.proofs.lemmas.List.{length-replicate}
+use Rattle.std.proofs.lemmas.List.{length-replicate, replicate-append-replicate}
 use Rattle.interpolator_render.specs.declared.view.Spec.{Spec}
 use Rattle.interpolator_digits.specs.Decimals.{placed, after_point, split_text, scaled_tail}
 use Rattle.interpolator_digits.specs.Decimals.{decimal_exponent_text, scale_of, shown_scaled}
@@ -19,6 +25,63 @@ use Rattle.interpolator_render.proofs.DigitBufferLemmas.{grown_twice}
 use Rattle.interpolator_digits.proofs.DigitLemmas.{length-digit_text-le}
 use Rattle.interpolator_render.proofs.ExponentRowLemmas.{decimal_digits, digits_row, two_digits}
 use Rattle.interpolator_render.proofs.NumberLemmas.{number_parts}
+
+-- ---- with a one before them
+
+zero_places : (places : ℕ) → placed places 0 ≡ replicate places 48
+zero_places places =
+    grind (arith, common_steps, placed_some, digit_text_zero, replicate-append-replicate)
+
+small_last : (places part : ℕ) → part < 10 →
+    placed places (part / 10) ++ digit_glyph false (part % 10) ∷ [] ≡ placed (suc places) part
+small_last places part h =
+    let none : part / 10 ≡ 0 = omega arith in
+    let same : part % 10 ≡ part = omega arith in
+    grind (arith, none, same, zero_places, placed_some, digit_text_one)
+
+more_last : (places part : ℕ) → 10 ≤ part → 0 < places →
+    placed places (part / 10) ++ digit_glyph false (part % 10) ∷ [] ≡ placed (suc places) part
+more_last places part h p =
+    grind (arith, placed_some, digit_text_step, length-append, append_assoc)
+
+placed_last : (places part : ℕ) → part < 10 ^ suc places →
+    placed places (part / 10) ++ digit_glyph false (part % 10) ∷ [] ≡ placed (suc places) part
+placed_last zero part f = small_last zero part (omega (arith, f))
+placed_last (suc k) part f = elim (eq-zero-or-pos (part - 9)) [
+  | inl z ↦ small_last (suc k) part (omega (arith, z))
+  | inr p ↦ more_last (suc k) part (omega (arith, p)) (omega arith)
+]
+
+-- a number's digits, with zeros before them up to a count, are those after a one
+led_text : (places part : ℕ) → part < 10 ^ places →
+    digit_text 10 false (10 ^ places + part) ≡ 49 ∷ placed places part
+led_text zero part f = grind (arith, digit_text_one, small_glyph, placed_none)
+led_text (suc k) part f =
+    let tens : 10 ^ suc k ≡ 10 ^ k * 10 = pow-suc 10 k in
+    let quotient : (10 ^ suc k + part) / 10 ≡ 10 ^ k + part / 10 = omega (arith, tens) in
+    let last : (10 ^ suc k + part) % 10 ≡ part % 10 = omega (arith, tens) in
+    let rest = led_text k (part / 10) (omega (arith, f, tens)) in
+    digit_text_step 10 (10 ^ suc k + part) false (omega arith) (omega (arith, tens, pow_some k))
+    ∙ (λ i. digit_text 10 false (quotient i) ++ digit_glyph false (last i) ∷ [])
+    ∙ ap (λ x. x ++ digit_glyph false (part % 10) ∷ []) rest
+    ∙ ap (λ x. 49 ∷ x) (placed_last k part f)
+
+pub led_pieces : (places part led : ℕ) (row all : Buffered) → part < 10 ^ places →
+    led ≡ 10 ^ places + part → all ≡ put_before (drop 1 (digit_text 10 false led)) row →
+    all ≡ put_before (placed places part) row
+led_pieces places part led row all f n a =
+    a ∙ ap (λ x. put_before (drop 1 x) row) (ap (digit_text 10 false) n ∙ led_text places part f)
+
+pub led_fits : (places part led : ℕ) → part < 10 ^ places → led ≡ 10 ^ places + part →
+    length (digit_text 10 false led) ≤ places + 1
+led_fits places part led f n =
+    let all = ap length (ap (digit_text 10 false) n ∙ led_text places part f) in
+    omega (arith, all, length-placed places part f)
+
+pub led_unit : (places : ℕ) → places ≤ 18 → 10 ^ places ≤ 10 ^ 18
+led_unit places h = pow-le-pow_right (omega arith) h
+
+pub ruleset led_steps = (led_pieces, led_fits, led_unit)
 
 -- ---- after the point
 

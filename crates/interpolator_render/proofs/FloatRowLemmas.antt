@@ -2,6 +2,8 @@
 use Rattle.std.proofs.Common.{◌≡◌, ℕ, zero, suc, ◌<◌, ◌≤◌, ◌-◌, ◌+◌, ◌*◌, ◌^◌, min, false, List, [], ◌∷◌}
 use Rattle.std.proofs.Common.{◌++◌, length, take, drop, replicate, if◌then◌else◌, ◌==◌, arith}
 use Rattle.std.proofs.Common.{append_assoc, append-nil, eq-zero-or-pos, inl, inr, None}
+use Rattle.std.proofs.Common.{Bool, ap, sym, refl, ◌∙◌, length-append}
+use Rattle.std.proofs.lemmas.List.{length-replicate}
 use Rattle.std.proofs.lemmas.Bool.Decides.{nat_tests}
 use Rattle.std.proofs.Math.Nat.{mul-le-mul_right}
 use Rattle.interpolator_digits.specs.Decimals.{decimal_text}
@@ -13,9 +15,14 @@ use Rattle.interpolator_floats.specs.LastDigits.{pointed_text}
 use Rattle.interpolator_floats.specs.ShortestDigits.{IsTrimmed}
 use Rattle.interpolator_floats.proofs.FormLemmas.{pow_less}
 use Rattle.interpolator_floats.proofs.PlainLemmas.{whole_plain}
+use Rattle.interpolator_render.specs.declared.view.Sign.TheVariants.{Unset}
+use Rattle.interpolator_render.specs.declared.view.Spec.{Spec}
 use Rattle.interpolator_render.specs.Forms.{is_far}
+use Rattle.interpolator_render.specs.Numbers.{sign_text}
+use Rattle.interpolator_render.specs.Padding.{padded_number, unset_spec}
 use Rattle.interpolator_render.proofs.DigitBufferLemmas.{grown_twice}
 use Rattle.interpolator_render.proofs.ExponentRowLemmas.{grown_alone}
+use Rattle.interpolator_render.proofs.NumberLemmas.{bare_body}
 
 -- ---- digits with zeros after them
 
@@ -29,12 +36,34 @@ pub tens_text : (digits up down : ℕ) (whole none after part : List ℕ) → Is
 tens_text digits up down whole none after part trim many w n p a =
     rw (w, n, p, a) (whole_plain digits up down trim (no_places digits up down trim (omega arith)))
 
+-- ---- alone
+
+pub whole_text : (digits up down : ℕ) → IsTrimmed digits up down → down ≡ 0
+    → digit_text 10 false digits ++ replicate up 48 ≡ decimal_text None down (digits * 10 ^ up)
+whole_text digits up down trim z =
+    ap (λ x. digit_text 10 false digits ++ x) (sym (append-nil (replicate up 48)))
+    ∙ whole_plain digits up down trim z
+
+pub part_text : (digits up down : ℕ) → up ≡ 0
+    → decimal_text None down digits ≡ decimal_text None down (digits * 10 ^ up)
+part_text digits up down z =
+    let one : digits ≡ digits * 10 ^ up = grind (arith, z) in ap (decimal_text None down) one
+
+pub unset_text : (spec : Spec) (negative : Bool) (body : List ℕ) → spec ≡ unset_spec
+    → padded_number spec (sign_text negative spec.sign) body ≡ sign_text negative Unset ++ body
+unset_text spec negative body e = bare_body spec negative body (ap (λ s. s.width) e)
+    (ap (λ s. s.zero) e) (ap (λ s. s.sign) e)
+
+pub ruleset bare_shortest = (whole_text, part_text)
+
 -- ---- exponents
 
 pub long_digits : (n : ℕ) → n < 2 ^ 64 → length (digit_text 10 false n) ≤ 20
 long_digits n h = grind (arith, length-digit_text-le)
 
 pub ruleset tail_steps = (long_digits, grown_twice)
+
+pub ruleset bare_tens = (long_digits, grown_twice, length-append, length-replicate)
 
 -- ---- around the point
 

@@ -1,16 +1,21 @@
 -- Floats under a trait and a spec: the sign, the word, and the digits.
 use Rattle.std.proofs.Common.{◌≡◌, ℕ, Bool, true, false, [], refl, arith, None, Some, rules}
-use Rattle.std.specs.Float.{Float, Format, nan, inf, fin, float_is_finite}
+use Rattle.std.proofs.Common.{◌++◌, ap, sym, ◌∙◌}
+use Rattle.std.specs.Float.{Float, Format, nan, inf, fin, float_is_finite, binary64}
 use lib.Ieee.{is_nan}
 use Rattle.interpolator_floats.specs.declared.shortest.Shortest.{Shortest}
 use Rattle.interpolator_floats.specs.Floats.{float_scale, float_units, float_word, has_minus}
-use Rattle.interpolator_floats.specs.ShortestDigits.{shortest}
+use Rattle.interpolator_floats.specs.ShortestDigits.{shortest, shortest_text}
 use Rattle.interpolator_render.specs.declared.view.Sign.{Sign}
 use Rattle.interpolator_render.specs.declared.view.Spec.{Spec}
+use Rattle.interpolator_render.specs.declared.view.Sign.TheVariants.{Unset}
 use Rattle.interpolator_render.specs.declared.view.Trait.{Trait}
+use Rattle.interpolator_render.specs.declared.view.Trait.TheVariants.{Display}
 use Rattle.interpolator_render.specs.Forms.{decimal_body, float_body, float_front, short_body, worded}
 use Rattle.interpolator_render.specs.Numbers.{IsShortAscii, sign_text}
-use Rattle.interpolator_render.specs.Texts.{padded_decimal, padded_float}
+use Rattle.interpolator_render.specs.Padding.{unset_spec}
+use Rattle.interpolator_render.specs.Texts.{has_text, padded_decimal, padded_float}
+use Rattle.interpolator_render.proofs.NumberLemmas.{bare_body}
 
 -- ---- sign and word
 
@@ -65,3 +70,20 @@ places_shown format t spec (inf s) places f p = absurd (grind arith)
 places_shown format t spec (fin s m k) places f p = grind arith
 
 pub ruleset float_texts = (word_shown, short_shown, places_shown)
+
+-- under the spec that sets nothing
+
+pub plain_word : (x : Float) → float_is_finite x ≡ false
+    → padded_float unset_spec x (worded Display (float_word x))
+    ≡ padded_float unset_spec x (float_body binary64 Display None x)
+plain_word x f = word_shown binary64 Display unset_spec x f
+
+pub plain_shown : (x : Float) (shown : Shortest) (negative : Bool) → float_is_finite x ≡ true
+    → shown ≡ shortest binary64 x → negative ≡ has_minus x
+    → has_text (sign_text negative Unset ++ shortest_text shown)
+    ≡ padded_float unset_spec x (float_body binary64 Display None x)
+plain_shown x shown negative f d n =
+    ap has_text (sym (bare_body unset_spec negative (shortest_text shown) refl refl refl))
+    ∙ short_shown binary64 Display unset_spec x shown negative f refl d n
+
+pub ruleset plain_texts = (plain_word, plain_shown)

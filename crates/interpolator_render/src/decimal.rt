@@ -20,12 +20,16 @@ use crate::number::is_bare;
 use crate::number_form::NumberForm;
 use crate::number_parts::sign_str;
 use crate::number_row::{fill_byte, fits_buffer, put_around, put_sign};
+use crate::scientific::power;
 use crate::text_write::{Refusal, TextWrite};
 use crate::view::{Sign, Spec};
 
-/// Writes a number by exactly `places` digits.
-#[inline(always)]
-fn put_placed(buffer: &mut DigitBuffer, part: u128, places: usize)
+/// How many digits after a one 64 bits have room for.
+const MOST_LED: usize = 18;
+
+/// Writes a number by exactly `places` digits, with zeros before its own.
+#[inline(never)]
+fn put_many_placed(buffer: &mut DigitBuffer, part: u128, places: usize)
     requires fits { part < 10 ^ places }
     requires room { places ≤ buffer.old.before }
     ensures { buffer.new ≡ put_before (placed places part) buffer.old }
@@ -38,6 +42,22 @@ fn put_placed(buffer: &mut DigitBuffer, part: u128, places: usize)
     let count = buffer.len() - after;
     let missing = places - count;
     buffer.put_zeros(missing);
+}
+
+/// As [`put_many_placed`]: with a one before them, few digits are those of a word but its first.
+#[inline(always)]
+#[tactic(auto, using(crate::proofs::DecimalRowLemmas::led_steps))]
+fn put_placed(buffer: &mut DigitBuffer, part: u128, places: usize)
+    requires fits { part < 10 ^ places }
+    requires room { places < buffer.old.before }
+    ensures { buffer.new ≡ put_before (placed places part) buffer.old }
+{
+    if places > MOST_LED {
+        put_many_placed(buffer, part, places);
+        return;
+    }
+    let led = power(places) as u64 + part as u64;
+    let _one = buffer.put_low_decimal(led as u128);
 }
 
 /// Writes the digits after the point, and the point if there are any.
@@ -147,7 +167,7 @@ fn put_in_parts<W: TextWrite>(
 
 /// Writes units of 10 ^ -scale after a minus if they are negative, and nothing around them.
 #[inline(never)]
-fn put_bare_decimal<W: TextWrite>(
+pub(crate) fn put_bare_decimal<W: TextWrite>(
     out: &mut W,
     negative: bool,
     units: u64,
@@ -191,15 +211,20 @@ pub(crate) fn put_digits<W: TextWrite>(
 {
     let after = shown.places.saturating_add(shown.zeros);
     if after <= BUFFER_WIDTH && fits_buffer(spec) {
-        put_in_row(out, spec, negative, shown)
-    } else {
-        put_in_parts(out, spec, negative, shown)
+        return put_in_row(out, spec, negative, shown);
     }
+    let copy = DecimalDigits {
+        whole: shown.whole,
+        part: shown.part,
+        places: shown.places,
+        zeros: shown.zeros,
+    };
+    put_in_parts(out, spec, negative, copy)
 }
 
 /// Writes units of 10 ^ -scale after a sign.
 #[inline(never)]
-fn put_any_units<W: TextWrite>(
+pub(crate) fn put_any_units<W: TextWrite>(
     out: &mut W,
     spec: &Spec,
     negative: bool,
@@ -221,7 +246,7 @@ fn put_any_units<W: TextWrite>(
 
 /// As [`put_any_units`], with a short way for a short number alone.
 #[inline(always)]
-pub(crate) fn put_units<W: TextWrite>(
+fn put_units<W: TextWrite>(
     out: &mut W,
     spec: &Spec,
     negative: bool,

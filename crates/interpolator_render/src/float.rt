@@ -1,28 +1,35 @@
 //! Floats that are finite, written by their digits.
-ghost use Rattle.std.specs.Prelude.{◌≡◌, ◌*◌, ◌^◌, ◌<◌, ◌≤◌, IsTrue, None, Some, false, length};
+ghost use Rattle.std.specs.Prelude.{◌≡◌, ◌*◌, ◌^◌, ◌<◌, ◌≤◌, ◌++◌, IsTrue, None, Some, false, length};
+ghost use Rattle.std.specs.Prelude.{replicate};
 ghost use Rattle.std.specs.Float.{float_is_finite};
 ghost use Rattle.std.specs.Str.{IsAscii};
+ghost use Rattle.interpolator_digits.specs.Characters.{zero_digit};
 ghost use Rattle.interpolator_digits.specs.Decimals.{decimal_exponent_text, decimal_text};
+ghost use Rattle.interpolator_digits.specs.Digits.{digit_text};
 ghost use Rattle.interpolator_floats.specs.ExponentTexts.{scientific_text, signed_tail};
 ghost use Rattle.interpolator_floats.specs.Floats.{float_scale, float_units};
 ghost use Rattle.interpolator_floats.specs.LastDigits.{pointed_text};
 ghost use Rattle.interpolator_floats.specs.ShortestDigits.{IsTrimmed, shortest_exponent_text};
 ghost use Rattle.interpolator_floats.specs.ShortestDigits.{shortest_text};
+ghost use Rattle.interpolator_render.specs.declared.view.Sign.TheVariants.{Unset};
 ghost use Rattle.interpolator_render.specs.DigitBuffers.{put_before};
 ghost use Rattle.interpolator_render.specs.Forms.{debugged, is_far};
 ghost use Rattle.interpolator_render.specs.Numbers.{sign_text};
 ghost use Rattle.interpolator_render.specs.Padding.{padded_number};
 ghost use Rattle.interpolator_render.specs.Written.{Puts};
 
-use crate::decimal::{point_str, put_digits, put_units};
-use crate::decimal_digits::{DecimalDigits, decimal_digits};
+use crate::decimal::{point_str, put_any_units, put_bare_decimal, put_digits};
+use crate::decimal_digits::{DecimalDigits, GREATEST_SHORT_SCALE, decimal_digits};
 use crate::decimal_parts::{DecimalParts, put_padded_decimal};
 use crate::digit_buffer::DigitBuffer;
 use crate::digits::digit_str;
 use crate::exponent::mark;
+use crate::layout::put_ascii;
+use crate::number::is_bare;
 use crate::number_parts::sign_str;
+use crate::number_row::put_sign;
 use crate::text_write::{Refusal, TextWrite};
-use crate::view::Spec;
+use crate::view::{Sign, Spec};
 use interpolator_floats::{
     ExactDigits, ExponentDigits, MOST_DIGITS, Shortest, exact_digits, exponent_digits,
     float_digits, scientific_digits, units_exponent,
@@ -67,9 +74,9 @@ fn put_tens<W: TextWrite>(
     put_padded_decimal(out, spec, number)
 }
 
-/// Writes shortest digits as a decimal, all of them.
+/// Writes shortest digits as a decimal under any spec, all of them.
 #[inline(never)]
-pub(crate) fn put_shortest<W: TextWrite>(
+fn put_around_shortest<W: TextWrite>(
     out: &mut W,
     spec: &Spec,
     negative: bool,
@@ -81,9 +88,73 @@ pub(crate) fn put_shortest<W: TextWrite>(
         (shortest_text shown)) result (W.written out.new) }
 {
     if shown.up <= MOST_TENS {
-        put_units(out, spec, negative, shown_units(shown), shown.down)
+        put_any_units(out, spec, negative, shown_units(shown), shown.down)
     } else {
         put_tens(out, spec, negative, shown)
+    }
+}
+
+/// Writes a whole number and zeros after it, after a minus if it is negative, and nothing around
+/// them.
+#[inline(never)]
+#[tactic(auto, using(crate::proofs::FloatRowLemmas::bare_tens))]
+fn put_bare_tens<W: TextWrite>(
+    out: &mut W,
+    negative: bool,
+    digits: u64,
+    tens: usize,
+) -> Result<(), Refusal>
+    requires { tens ≤ 40 }
+    ensures { Puts (W.written out.old)
+        (sign_text negative Unset ++ (digit_text 10 false digits ++ replicate tens zero_digit))
+        result (W.written out.new) }
+{
+    let mut buffer = DigitBuffer::new(b'0');
+    buffer.pad_before(tens);
+    buffer.put_decimal(digits as u128);
+    put_sign(&mut buffer, negative, Sign::Unset);
+    put_ascii(out, buffer.as_str())
+}
+
+/// Writes shortest digits as a decimal, all of them, after a minus if they are negative, and nothing
+/// around them.
+#[inline(always)]
+#[tactic(auto, using(crate::proofs::FloatRowLemmas::bare_shortest))]
+pub(crate) fn put_bare_shortest<W: TextWrite>(
+    out: &mut W,
+    negative: bool,
+    shown: Shortest,
+) -> Result<(), Refusal>
+    requires { IsTrimmed shown.digits shown.up shown.down }
+    ensures { Puts (W.written out.old) (sign_text negative Unset ++ shortest_text shown)
+        result (W.written out.new) }
+{
+    if shown.down == 0 && shown.up <= 40 {
+        return put_bare_tens(out, negative, shown.digits, shown.up as usize);
+    }
+    if shown.up == 0 && shown.down <= GREATEST_SHORT_SCALE {
+        return put_bare_decimal(out, negative, shown.digits, shown.down as usize);
+    }
+    put_around_shortest(out, &Spec::default(), negative, shown)
+}
+
+/// Writes shortest digits as a decimal, all of them.
+#[inline(always)]
+pub(crate) fn put_shortest<W: TextWrite>(
+    out: &mut W,
+    spec: &Spec,
+    negative: bool,
+    shown: Shortest,
+) -> Result<(), Refusal>
+    requires trimmed { IsTrimmed shown.digits shown.up shown.down }
+    requires plain { spec.now.precision ≡ None }
+    ensures { Puts (W.written out.old) (padded_number spec.now (sign_text negative spec.now.sign)
+        (shortest_text shown)) result (W.written out.new) }
+{
+    if is_bare(spec) {
+        put_bare_shortest(out, negative, shown)
+    } else {
+        put_around_shortest(out, spec, negative, shown)
     }
 }
 

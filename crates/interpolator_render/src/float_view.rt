@@ -7,12 +7,14 @@ ghost use Rattle.interpolator_floats.specs.ShortestDigits.{IsTrimmed};
 ghost use Rattle.interpolator_render.specs.Forms.{decimal_body, float_body, float_front, short_body};
 ghost use Rattle.interpolator_render.specs.Forms.{worded};
 ghost use Rattle.interpolator_render.specs.Numbers.{IsShortAscii};
-ghost use Rattle.interpolator_render.specs.Padding.{padded_number};
+ghost use Rattle.interpolator_render.specs.declared.view.Trait.TheVariants.{Display};
+ghost use Rattle.interpolator_render.specs.Padding.{padded_number, unset_spec};
 ghost use Rattle.interpolator_render.specs.Texts.{Renders, padded_decimal, padded_float};
 ghost use Rattle.interpolator_render.specs.Written.{Puts};
 
 use crate::float::{
-    put_debugged, put_places, put_places_exponent, put_shortest, put_shortest_exponent,
+    put_bare_shortest, put_debugged, put_places, put_places_exponent, put_shortest,
+    put_shortest_exponent,
 };
 use crate::number_parts::{NumberParts, put_padded, sign_str};
 use crate::text_write::{Refusal, TextWrite, refused};
@@ -95,7 +97,7 @@ fn render_shortest<W: TextWrite>(
 }
 
 /// Writes a float at a precision.
-#[inline(never)]
+#[inline(always)]
 fn render_places<W: TextWrite>(
     out: &mut W,
     wanted: Trait,
@@ -137,6 +139,19 @@ pub(crate) fn render_float<W: TextWrite>(
         Some(places) => render_places(out, wanted, spec, x, places),
         None => render_shortest(out, wanted, spec, is_negative(x), shortest_digits(x)),
     }
+}
+
+/// Writes a float displayed plainly.
+#[inline(never)]
+#[tactic(auto, using(crate::proofs::FloatViewLemmas::plain_texts))]
+pub(crate) fn render_plain_float<W: TextWrite>(out: &mut W, x: f64) -> Result<(), RenderFault>
+    ensures { Renders (padded_float unset_spec x (float_body binary64 Display None x))
+        (W.written out.old) result (W.written out.new) }
+{
+    if let Some(text) = word(x) {
+        return render_word(out, Trait::Display, &Spec::default(), x, text);
+    }
+    refused(put_bare_shortest(out, is_negative(x), shortest_digits(x)))
 }
 
 /// Writes a float of 32 bits. At a precision it is the float of 64 bits with the same value.

@@ -18,7 +18,7 @@ use crate::copies::{put_between, put_between_spaces, put_in_block};
 use crate::decimal::put_decimal;
 use crate::decimal_exponent::put_decimal_exponent;
 use crate::digits::GREATEST_U64;
-use crate::float_view::{render_f32, render_float};
+use crate::float_view::{render_f32, render_float, render_plain_float};
 use crate::layout::{fill_before, put_text};
 use crate::number::{put_bare, put_bare_signed, put_integer, put_natural, put_number};
 use crate::number_form::{NumberForm, number_form, sign_and_magnitude};
@@ -260,6 +260,9 @@ pub fn render<W: TextWrite>(
         if let View::Decimal { units, scale } = view {
             return refused(put_decimal(out, spec, units, scale));
         }
+        if let View::Float(number) = view {
+            return render_float(out, wanted, spec, number);
+        }
     }
     render_any(out, view, wanted, spec)
 }
@@ -300,12 +303,16 @@ pub fn render_plainly<W: TextWrite>(out: &mut W, view: View<'_>) -> Result<(), R
 }
 
 /// As [`render_plainly`], for every view.
+#[tactic(auto, unfolding(crate::specs::Texts::view_text))]
 #[inline(never)]
 fn render_unset<W: TextWrite>(out: &mut W, view: View<'_>) -> Result<(), RenderFault>
     requires { IsInRange (shown_by view) }
     ensures { Renders (view_text (shown_by view.entry) Display unset_spec) (W.written out.old) result
         (W.written out.new) }
 {
+    if let View::Float(number) = view {
+        return render_plain_float(out, number);
+    }
     render(out, view, Trait::Display, &Spec::default())
 }
 

@@ -4,12 +4,12 @@ use Rattle.interpolator_floats.proofs.digits.near_digits.Goals as goal
 
 pub returns-then-part-unit-clause-text : goal.returns-then-part-unit-clause-text
 returns-then-part-unit-clause-text c =
-    next_text c.args.mantissa c.args.places c.args.down c.args.zeros _ _ c.nearest_shifted-part.result c.requires.point
+    next_text c.args.mantissa c.args.places c.args.down c.args.zeros _ _ c.nearest_part-part.result c.requires.point
     c.cut_at_point-whole.ensures.whole c.cut_at_point-whole.ensures.rest (search rules) (search rules)
 
 pub returns-clause-text : goal.returns-clause-text
 returns-clause-text c =
-    near_text c.args.mantissa c.args.places c.args.down c.args.zeros _ _ c.nearest_shifted-part.result c.requires.point
+    near_text c.args.mantissa c.args.places c.args.down c.args.zeros _ _ c.nearest_part-part.result c.requires.point
     c.cut_at_point-whole.ensures.whole c.cut_at_point-whole.ensures.rest (search rules)
     (below_unit _ c.args.places c.args.down _ c.cut_at_point-whole.ensures.short (search rules) (search rules))
 

@@ -1,6 +1,6 @@
 use Rattle.std.proofs.Common.{arith, rules}
 use Rattle.interpolator_floats.proofs.UnitLemmas.{few_zeros, zero_off, zeros_joined}
-use Rattle.interpolator_floats.proofs.shortest.without_zeros.Goals as goal
+use Rattle.interpolator_floats.proofs.whole.without_zeros.Goals as goal
 
 pub loop-digits-init : goal.loop-digits-init
 loop-digits-init c = record {

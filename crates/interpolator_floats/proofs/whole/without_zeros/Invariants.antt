@@ -1,5 +1,5 @@
 use Rattle.std.proofs.Common.{◌≡◌, ◌*◌, ◌^◌, ◌<◌}
-use Rattle.interpolator_floats.proofs.shortest.without_zeros.Given as goal
+use Rattle.interpolator_floats.proofs.whole.without_zeros.Given as goal
 
 abbrev pub invariant-loop-digits : goal.invariant-loop-digits
 invariant-loop-digits l = record {
