@@ -4,5 +4,7 @@ pub mod MeaningLemmas
 pub mod RowLemmas
 -- of this crate alone
 mod LoanLemmas
+mod NameLemmas
+mod PairLemmas
 mod SlotLemmas
 mod SlotNameLemmas

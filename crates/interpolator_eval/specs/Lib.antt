@@ -11,4 +11,5 @@ pub mod SlotNames
 pub mod Contexts
 pub mod Escaping
 pub mod NameMaps
+pub mod Names
 pub mod Rows
