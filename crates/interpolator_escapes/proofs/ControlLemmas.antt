@@ -40,10 +40,12 @@ use Rattle.interpolator_escapes.specs.Formats.{JoinStands, ForestStands, Stands,
 use Rattle.interpolator_escapes.specs.FormatParts.{view_parts, found_parts, parts_after}
 use Rattle.interpolator_escapes.specs.FormatParts.{items_parts, list_parts}
 use Rattle.interpolator_escapes.specs.FormatParts.{value_parts, node_parts, join_parts, item_parts}
-use Rattle.interpolator_escapes.specs.FormatParts.{forest_parts}
+use Rattle.interpolator_escapes.specs.FormatParts.{forest_parts, escaped_value}
+use Rattle.interpolator_escapes.specs.Wholes.{escaped_text}
+use Rattle.interpolator_escapes.specs.declared.escape.Escape.TheVariants.{Line}
 use Rattle.interpolator_escapes.proofs.FormatLemmas.{copies_stay, fill_stays}
 use Rattle.interpolator_escapes.proofs.FormatPartLemmas.{whole-append, escaped_parts}
-use Rattle.interpolator_escapes.proofs.KeepLemmas.{control_read, value_controls}
+use Rattle.interpolator_escapes.proofs.KeepLemmas.{control_read, control_stays, value_controls}
 
 -- a text without controls
 abbrev NoControl : List ℕ → Type 0
@@ -207,14 +209,17 @@ quiet_found ps None h = quiet_nothing
 quiet_found ps (Some x) h = h x
 
 module _ {X : Type 0} (shows : X → Trait → Spec → Shown) where
+  abbrev Of : X → Trait → Spec → List Part
+  Of = escaped_value Line shows
+
   quiet_value : (t : Trait) (spec : Spec) (o : Option X)
-      → Quiet (value_parts line_escape shows t spec o)
+      → Quiet (value_parts line_escape Of t spec o)
   quiet_value t spec o = quiet_found _ o (λ x. quiet_view (view_text (shows x t spec) t spec))
 
   mutual
     node_quiet : (x : Node) (e : Environment X) (s t : Unit {0})
         → NodeStands control_step everywhere s x t → NodeNone x
-        → Quiet (node_parts line_escape shows e x)
+        → Quiet (node_parts line_escape Of e x)
     node_quiet (node place end kind None item join) e s t h n = quiet_nothing
     node_quiet (node place end kind (Some (text_content from cs)) item join) e s t h n =
         quiet_literal cs n.0
@@ -226,35 +231,44 @@ module _ {X : Type 0} (shows : X → Trait → Spec → Shown) where
         item join) e s t h n =
         quiet_found _ (slots_under e name) (λ x. quiet_found _ (items x)
         (λ xs. quiet_list s spec
-        (items_parts (join_parts line_escape shows e join) (item_parts line_escape shows e item)
+        (items_parts (join_parts line_escape Of e join) (item_parts line_escape Of e item)
         (chosen_items range xs)) (is_some spec.width) refl h.2
-        (quiet_items (join_parts line_escape shows e join) (item_parts line_escape shows e item)
+        (quiet_items (join_parts line_escape Of e join) (item_parts line_escape Of e item)
         (join_quiet join e s h.1 n.2) (λ y. item_quiet item e s y h.0 n.1)
         (chosen_items range xs))))
 
     join_quiet : (b : Branch) (e : Environment X) (s : Unit {0})
         → JoinStands control_step everywhere s b → BranchNone b
-        → Quiet (join_parts line_escape shows e b)
+        → Quiet (join_parts line_escape Of e b)
     join_quiet no_branch e s h n = quiet_nothing
     join_quiet (branch xs) e s h n = forest_quiet xs e s s h n
 
     item_quiet : (b : Branch) (e : Environment X) (s : Unit {0}) (x : Slots X)
         → ItemStands control_step everywhere s b → BranchNone b
-        → Quiet (item_parts line_escape shows e b x)
+        → Quiet (item_parts line_escape Of e b x)
     item_quiet no_branch e s x h n =
         quiet_value traits.Display plain_spec (slot_at traits.Display (values_of x))
     item_quiet (branch xs) e s x h n = forest_quiet xs (bind e x) s s h n
 
     forest_quiet : (xs : Forest) (e : Environment X) (s t : Unit {0})
         → ForestStands control_step everywhere s xs t → ForestNone xs
-        → Quiet (forest_parts line_escape shows e xs)
+        → Quiet (forest_parts line_escape Of e xs)
     forest_quiet no_nodes e s t h n = quiet_nothing
     forest_quiet (nodes_and x xs) e s t h n =
         quiet_both _ _ (node_quiet x e s h.0 h.1 n.0) (forest_quiet xs e h.0 t h.2 n.1)
 
   pub line_stays : (e : Environment X) (a : At) → Stands control_step everywhere tt a tt
-      → NoControl a.text → (means (escaped_shows line_escape shows) e a).fault ≡ None
-      → NoControl (text_of (means (escaped_shows line_escape shows) e a).text)
+      → NoControl a.text → (means (escaped_shows Line shows) e a).fault ≡ None
+      → NoControl (text_of (means (escaped_shows Line shows) e a).text)
   line_stays e a h none ok =
-      rw (escaped_parts line_escape shows e a ok)
+      rw (escaped_parts Line shows e a ok)
       (forest_quiet (as_forest (nodes a)) e tt tt h (clear a none)).none
+
+-- an escaped text has no control, wherever it stands
+pub controls_quiet : (text : ViewText) (t : Trait) (spec : Spec) (cs : List ℕ) (s : Unit {0})
+    → view_text (escaped_text line_escape text) t spec ≡ has_text cs → Stays control_step s cs
+unfolding view_text
+controls_quiet (has_text ds) t spec cs s e =
+    let same : flat_map line_escape ds ≡ cs = cc in rw (← same) (control_stays s ds)
+controls_quiet has_no_text t spec cs s e = absurd (cc)
+controls_quiet has_failed t spec cs s e = absurd (cc)

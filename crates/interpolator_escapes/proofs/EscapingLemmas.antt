@@ -9,7 +9,7 @@ use Rattle.interpolator_render.specs.declared.view.Trait.{Trait}
 use Rattle.interpolator_render.specs.declared.view.Spec.{Spec}
 use Rattle.interpolator_escapes.specs.Escapes.{escape_of, escaped, line_escape, json_escape}
 use Rattle.interpolator_escapes.specs.Escapes.{is_control}
-use Rattle.interpolator_escapes.specs.Formats.{escaped_text}
+use Rattle.interpolator_escapes.specs.Wholes.{escaped_text}
 use Rattle.interpolator_escapes.specs.Passing.{layers, or_refused}
 use Rattle.interpolator_escapes.specs.EscapingWriters.{escaping_written, way_of}
 use Rattle.interpolator_escapes.specs.declared.escape.Escape.{Escape}

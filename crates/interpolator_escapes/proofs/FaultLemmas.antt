@@ -1,11 +1,16 @@
 -- An escape changes no fault.
 use Rattle.std.proofs.Common.{◌≡◌, ℕ, Bool, true, false, List, [], ◌∷◌, refl, ap, sym, ◌∙◌, arith}
-use Rattle.std.proofs.Common.{Option, Some, None, is_some}
+use Rattle.std.proofs.Common.{Option, Some, None, is_some, if◌then◌else◌}
+use Rattle.std.specs.Float.{Float, Format, nan, inf, fin, float_is_finite}
 use Rattle.interpolator_render.specs.declared.view.Trait.{Trait}
 use Rattle.interpolator_render.specs.declared.view.Trait.TheVariants as traits
 use Rattle.interpolator_render.specs.declared.view.Spec.{Spec}
 use Rattle.interpolator_render.specs.Texts.{ViewText, has_text, has_no_text, has_failed, view_text}
-use Rattle.interpolator_render.specs.Views.{Shown}
+use Rattle.interpolator_render.specs.Forms.{float_body}
+use Rattle.interpolator_render.specs.Texts.{padded_float}
+use Rattle.interpolator_render.specs.Views.{Shown, signed_number, unsigned_number, truth_value}
+use Rattle.interpolator_render.specs.Views.{decimal_number, float_number, one_character, some_text}
+use Rattle.interpolator_render.specs.Views.{plain_text, nothing_implemented, failure}
 use Rattle.interpolator_syntax.specs.At.{At, text_of}
 use Rattle.interpolator_syntax.specs.Faults.{Fault}
 use Rattle.interpolator_syntax.specs.Nodes.{Node, node, Branch, no_branch, branch, as_forest}
@@ -25,7 +30,16 @@ use Rattle.interpolator_eval.specs.Meaning.Meanings.{items_after, items_mean, un
 use Rattle.interpolator_eval.specs.Meaning.Meanings.{listed_means}
 use Rattle.interpolator_eval.specs.Meaning.Meanings.{and_closed, node_means, join_branch_means}
 use Rattle.interpolator_eval.specs.Meaning.Meanings.{item_branch_means, forest_means, means}
-use Rattle.interpolator_escapes.specs.Formats.{escaped_text, escaped_shows}
+use Rattle.interpolator_escapes.specs.Escapes.{csv_escape, escape_of, json_escape}
+use Rattle.interpolator_escapes.specs.Fields.{field_text, field_view, record_shows}
+use Rattle.interpolator_escapes.specs.Formats.{escaped_shows}
+use Rattle.interpolator_escapes.specs.Plain.{is_debug}
+use Rattle.interpolator_escapes.specs.Wholes.{escaped_text, is_whole, json_null, whole_text}
+use Rattle.interpolator_escapes.specs.Wholes.{whole_view}
+use Rattle.interpolator_escapes.specs.declared.escape.Escape.{Escape}
+use Rattle.interpolator_escapes.specs.declared.escape.Escape.TheVariants.{Line, Html, Csv, Json}
+use Rattle.interpolator_escapes.specs.declared.escape.Escape.TheVariants.{Shell}
+use Rattle.interpolator_escapes.proofs.WholeLemmas.{plain_shown}
 
 -- a text is there, or why it is not
 abbrev without_text : ViewText → ViewText
@@ -135,6 +149,8 @@ module _ {X : Type 0} (shows others : X → Trait → Spec → Shown)
       forest_fault no_nodes e = refl
       forest_fault (nodes_and x xs) e = chain_fault _ _ _ _ (node_fault x e) (forest_fault xs e)
 
+-- ---- what is written of a value
+
 escaped_alike : (escape : ℕ → List ℕ) (v : ViewText) (t : Trait) (spec : Spec)
     → without_text (view_text (escaped_text escape v) t spec) ≡ without_text v
 unfolding view_text
@@ -142,10 +158,115 @@ escaped_alike escape (has_text cs) t spec = refl
 escaped_alike escape has_no_text t spec = refl
 escaped_alike escape has_failed t spec = refl
 
-pub escaped_fault : (escape : ℕ → List ℕ) {X : Type 0} (shows : X → Trait → Spec → Shown)
+-- a float has a text under debug
+float_alike : (format : Format) (x : Float) (spec : Spec)
+    → without_text (view_text (float_number format x) traits.Debug spec) ≡ has_text []
+unfolding view_text
+float_alike format x spec = of_body spec x spec.precision
+  where
+    of_body : (spec : Spec) (x : Float) (precision : Option ℕ)
+        → without_text (padded_float spec x (float_body format traits.Debug precision x))
+        ≡ has_text []
+    of_body spec nan None = refl
+    of_body spec nan (Some places) = refl
+    of_body spec (inf s) None = refl
+    of_body spec (inf s) (Some places) = refl
+    of_body spec (fin s m e) None = refl
+    of_body spec (fin s m e) (Some places) = refl
+
+number_alike : (format : Format) (x : Float) (spec : Spec) (b : Bool)
+    → without_text (view_text (whole_view (if b then None else Some json_null)
+    (float_number format x) spec) traits.Debug spec)
+    ≡ without_text (view_text (float_number format x) traits.Debug spec)
+number_alike format x spec true =
+    escaped_alike json_escape (view_text (float_number format x) traits.Debug spec) traits.Debug spec
+number_alike format x spec false =
+    ap without_text (plain_shown json_null traits.Debug spec) ∙ sym (float_alike format x spec)
+
+debug_alike : (shown : Shown) (spec : Spec)
+    → without_text (view_text (escaped_text json_escape (view_text shown traits.Debug spec))
+    traits.Debug spec) ≡ without_text (view_text shown traits.Debug spec)
+debug_alike shown spec =
+    escaped_alike json_escape (view_text shown traits.Debug spec) traits.Debug spec
+
+whole_alike : (shown : Shown) (spec : Spec)
+    → without_text (view_text (whole_view (whole_text shown) shown spec) traits.Debug spec)
+    ≡ without_text (view_text shown traits.Debug spec)
+unfolding view_text
+whole_alike (some_text text) spec = refl
+whole_alike (plain_text text) spec = refl
+whole_alike (one_character c) spec = refl
+whole_alike (float_number format x) spec = number_alike format x spec (float_is_finite x)
+whole_alike (signed_number z bits) spec = debug_alike (signed_number z bits) spec
+whole_alike (unsigned_number n) spec = debug_alike (unsigned_number n) spec
+whole_alike (truth_value truth) spec = debug_alike (truth_value truth) spec
+whole_alike (decimal_number units scale) spec = debug_alike (decimal_number units scale) spec
+whole_alike nothing_implemented spec = debug_alike nothing_implemented spec
+whole_alike failure spec = debug_alike failure spec
+
+pub debug_is : (escape : Escape) (t : Trait) → is_whole escape t ≡ true
+    → (escape ≡ Json) × (t ≡ traits.Debug)
+debug_is Json traits.Debug w = (refl, refl)
+debug_is Json t w = absurd (cc)
+debug_is Line t w = absurd (cc)
+debug_is Html t w = absurd (cc)
+debug_is Csv t w = absurd (cc)
+debug_is Shell t w = absurd (cc)
+
+shown_alike : (escape : Escape) (shown : Shown) (t : Trait) (spec : Spec) (b : Bool)
+    → is_whole escape t ≡ b
+    → without_text (view_text (if b then whole_view (whole_text shown) shown spec
+    else escaped_text (escape_of escape) (view_text shown t spec)) t spec)
+    ≡ without_text (view_text shown t spec)
+shown_alike escape shown t spec true w =
+    let is = debug_is escape t w in rw is.1 (whole_alike shown spec)
+shown_alike escape shown t spec false w =
+    escaped_alike (escape_of escape) (view_text shown t spec) t spec
+
+pub escaped_fault : (escape : Escape) {X : Type 0} (shows : X → Trait → Spec → Shown)
     (e : Environment X) (a : At)
     → (means (escaped_shows escape shows) e a).fault ≡ (means shows e a).fault
 escaped_fault escape shows e a =
     forest_fault (escaped_shows escape shows) shows
-    (λ x t spec. escaped_alike escape (view_text (shows x t spec) t spec) t spec)
+    (λ x t spec. shown_alike escape (shows x t spec) t spec (is_whole escape t) refl)
     (as_forest (nodes a)) e
+
+-- ---- whole fields
+
+plain_alike : (shown : Shown) (spec : Spec)
+    → without_text (view_text (escaped_text csv_escape (view_text shown traits.Debug spec))
+    traits.Debug spec) ≡ without_text (view_text shown traits.Debug spec)
+plain_alike shown spec =
+    escaped_alike csv_escape (view_text shown traits.Debug spec) traits.Debug spec
+
+field_alike : (shown : Shown) (spec : Spec)
+    → without_text (view_text (field_view (field_text shown) shown spec) traits.Debug spec)
+    ≡ without_text (view_text shown traits.Debug spec)
+unfolding view_text
+field_alike (some_text text) spec = refl
+field_alike (plain_text text) spec = refl
+field_alike (one_character c) spec = refl
+field_alike (float_number format x) spec = plain_alike (float_number format x) spec
+field_alike (signed_number z bits) spec = plain_alike (signed_number z bits) spec
+field_alike (unsigned_number n) spec = plain_alike (unsigned_number n) spec
+field_alike (truth_value truth) spec = plain_alike (truth_value truth) spec
+field_alike (decimal_number units scale) spec = plain_alike (decimal_number units scale) spec
+field_alike nothing_implemented spec = plain_alike nothing_implemented spec
+field_alike failure spec = plain_alike failure spec
+
+under_debug : (t : Trait) → is_debug t ≡ true → t ≡ traits.Debug
+under_debug traits.Debug h = refl
+under_debug t h = absurd (cc)
+
+record_alike : (shown : Shown) (t : Trait) (spec : Spec) (b : Bool) → is_debug t ≡ b
+    → without_text (view_text (if b then field_view (field_text shown) shown spec
+    else escaped_text csv_escape (view_text shown t spec)) t spec)
+    ≡ without_text (view_text shown t spec)
+record_alike shown t spec true h = rw (under_debug t h) (field_alike shown spec)
+record_alike shown t spec false h = escaped_alike csv_escape (view_text shown t spec) t spec
+
+pub record_fault : {X : Type 0} (shows : X → Trait → Spec → Shown) (e : Environment X) (a : At)
+    → (means (record_shows shows) e a).fault ≡ (means shows e a).fault
+record_fault shows e a =
+    forest_fault (record_shows shows) shows
+    (λ x t spec. record_alike (shows x t spec) t spec (is_debug t) refl) (as_forest (nodes a)) e

@@ -1,7 +1,7 @@
 -- The structure of what a format means is that of the format.
 use Rattle.std.proofs.Common.{◌≡◌, ℕ, Bool, true, false, List, [], ◌∷◌, ◌++◌, refl, ap, arith}
 use Rattle.std.proofs.Common.{Option, Some, None, is_some, replicate, zero, suc, ◌+◌}
-use Rattle.std.proofs.Common.{flat_map}
+use Rattle.std.proofs.Common.{flat_map, if◌then◌else◌}
 use Rattle.std.proofs.lemmas.List.{map-append}
 use Rattle.std.specs.Char.{len_utf8}
 use Rattle.interpolator_render.specs.declared.view.Trait.{Trait}
@@ -31,12 +31,17 @@ use Rattle.interpolator_eval.specs.Meaning.Meanings.{items_mean}
 use Rattle.interpolator_eval.specs.Meaning.Meanings.{under_name, listed_means, and_closed}
 use Rattle.interpolator_eval.specs.Meaning.Meanings.{node_means, join_branch_means}
 use Rattle.interpolator_eval.specs.Meaning.Meanings.{item_branch_means, forest_means, means}
+use Rattle.interpolator_escapes.specs.Escapes.{escape_of}
+use Rattle.interpolator_escapes.specs.Parts.{MayStand}
 use Rattle.interpolator_escapes.specs.Readers.{Token, structure_of, state_after, read, KeepsPlaces}
+use Rattle.interpolator_escapes.specs.Readers.{KeepsPlain}
 use Rattle.interpolator_escapes.specs.Formats.{shows_nothing, Stays, StayInPlaces, FillStays}
 use Rattle.interpolator_escapes.specs.Formats.{NodeStands, ItemStands}
-use Rattle.interpolator_escapes.specs.Formats.{JoinStands, ForestStands, Stands, escaped_text}
+use Rattle.interpolator_escapes.specs.Formats.{JoinStands, ForestStands, Stands}
 use Rattle.interpolator_escapes.specs.Formats.{escaped_shows}
 use Rattle.interpolator_escapes.specs.Formats.{structure_from}
+use Rattle.interpolator_escapes.specs.Wholes.{escaped_text, is_whole, whole_text, whole_view}
+use Rattle.interpolator_escapes.specs.declared.escape.Escape.{Escape}
 use Rattle.interpolator_escapes.proofs.ReaderLemmas.{structure-append, state-append, read-append}
 use Rattle.interpolator_escapes.proofs.ReaderLemmas.{value_state, value_read, structure-content}
 
@@ -48,7 +53,7 @@ pub text_of_placed_from : (cs : List ℕ) (p : ℕ) → text_of (placed_from p c
 text_of_placed_from [] p = refl
 text_of_placed_from (c ∷ cs) p = ap (λ ds. c ∷ ds) (text_of_placed_from cs (p + len_utf8 c))
 
-module _ {S : Type 0} (step : S → ℕ → S × List Token) (is_place : S → Bool) where
+module _ {S : Type 0} (step : S → ℕ → S × List Token) (is_place : S → Trait → Spec → Bool) where
   abbrev After : S → List ℕ → S
   After s cs = state_after step s cs
 
@@ -193,7 +198,8 @@ module _ {S : Type 0} (step : S → ℕ → S × List Token) (is_place : S → B
       view_same s t q has_no_text h none = absurd (cc)
       view_same s t q has_failed h none = absurd (cc)
 
-      value_same : (s : S) (t : Trait) (spec : Spec) (q : ℕ) (o : Option X) → is_place s ≡ true
+      value_same : (s : S) (t : Trait) (spec : Spec) (q : ℕ) (o : Option X)
+          → is_place s t spec ≡ true
           → Same s s (value_means shows t spec q o) (value_means Empty t spec q o)
       unfolding view_text
       value_same s t spec q None h = λ none. absurd (cc)
@@ -267,45 +273,52 @@ module _ {S : Type 0} (step : S → ℕ → S × List Token) (is_place : S → B
 -- ---- escaped values
 
 -- an escaped text leaves the reader in its place, and has no structure
-module _ {S : Type 0} (step : S → ℕ → S × List Token) (is_place : S → Bool) (escape : ℕ → List ℕ)
-    (quiet : (s : S) (ds : List ℕ) → is_place s ≡ true → Stays step s (flat_map escape ds)) where
-  text_stays : (s : S) (ds cs : List ℕ) → has_text (flat_map escape ds) ≡ has_text cs
-      → is_place s ≡ true → Stays step s cs
-  text_stays s ds cs e h =
-      let same : flat_map escape ds ≡ cs = cc in
-      rw (← same) (quiet s ds h)
-
-  view_stays : (text : ViewText) (t : Trait) (spec : Spec) (cs : List ℕ) (s : S)
-      → view_text (escaped_text escape text) t spec ≡ has_text cs → is_place s ≡ true
-      → Stays step s cs
-  unfolding view_text
-  view_stays (has_text ds) t spec cs s e h = text_stays s ds cs e h
-  view_stays has_no_text t spec cs s e h = absurd (cc)
-  view_stays has_failed t spec cs s e h = absurd (cc)
-
-  shows_stay : {X : Type 0} (shows : X → Trait → Spec → Shown)
-      → StayInPlaces step is_place (escaped_shows escape shows)
-  shows_stay shows x t spec cs s e h =
-      view_stays (view_text (shows x t spec) t spec) t spec cs s e h
-
-  pub quiet_structure : {X : Type 0} (shows : X → Trait → Spec → Shown) (e : Environment X) (a : At)
-      (s t : S) → Stands step is_place s a t → (means (escaped_shows escape shows) e a).fault ≡ None
-      → structure_from step s (means (escaped_shows escape shows) e a)
-      ≡ structure_from step s (means shows_nothing e a)
-  quiet_structure shows e a s t h none =
-      same_structure step is_place (escaped_shows escape shows) (shows_stay shows) e a s t h none
-
-module _ {S : Type 0} (step : S → ℕ → S × List Token) (is_place : S → Bool) (escape : ℕ → List ℕ)
-    (keeps : KeepsPlaces step is_place escape) where
-  keeps_quiet : (s : S) (ds : List ℕ) → is_place s ≡ true → Stays step s (flat_map escape ds)
-  keeps_quiet s ds h = (
-    value_state step is_place escape keeps s ds h,
-    rw (value_read step is_place escape keeps s ds h) (structure-content ds),
+module _ {S : Type 0} (step : S → ℕ → S × List Token) (is_place : S → Trait → Spec → Bool)
+    (escape : ℕ → List ℕ) (keeps : KeepsPlaces step is_place escape)
+    (plain : KeepsPlain step is_place escape) where
+  pub text_quiet : (s : S) (ds : List ℕ) → MayStand is_place s ds
+      → Stays step s (flat_map escape ds)
+  text_quiet s ds h = (
+    value_state step is_place escape keeps plain s ds h,
+    rw (value_read step is_place escape keeps plain s ds h) (structure-content ds),
   )
 
-  pub escaped_structure : {X : Type 0} (shows : X → Trait → Spec
-      → Shown) (e : Environment X) (a : At)
-      (s t : S) → Stands step is_place s a t → (means (escaped_shows escape shows) e a).fault ≡ None
-      → structure_from step s (means (escaped_shows escape shows) e a)
-      ≡ structure_from step s (means shows_nothing e a)
-  escaped_structure = quiet_structure step is_place escape keeps_quiet
+  pub view_quiet : (text : ViewText) (t : Trait) (spec : Spec) (cs : List ℕ) (s : S)
+      → ((ds : List ℕ) → text ≡ has_text ds → MayStand is_place s ds)
+      → view_text (escaped_text escape text) t spec ≡ has_text cs → Stays step s cs
+  unfolding view_text
+  view_quiet (has_text ds) t spec cs s h e =
+      let same : flat_map escape ds ≡ cs = cc in rw (← same) (text_quiet s ds (h ds refl))
+  view_quiet has_no_text t spec cs s h e = absurd (cc)
+  view_quiet has_failed t spec cs s h e = absurd (cc)
+
+-- so do values, if those do whose characters are escaped, and those that are written whole
+module _ {S : Type 0} (step : S → ℕ → S × List Token) (is_place : S → Trait → Spec → Bool)
+    (escape : Escape)
+    (quiet : (text : ViewText) (t : Trait) (spec : Spec) (cs : List ℕ) (s : S)
+    → is_whole escape t ≡ false → is_place s t spec ≡ true
+    → view_text (escaped_text (escape_of escape) text) t spec ≡ has_text cs → Stays step s cs)
+    (whole : (shown : Shown) (t : Trait) (spec : Spec) (cs : List ℕ) (s : S)
+    → is_whole escape t ≡ true → is_place s t spec ≡ true
+    → view_text (whole_view (whole_text shown) shown spec) t spec ≡ has_text cs → Stays step s cs)
+  where
+    shown_stays : (shown : Shown) (t : Trait) (spec : Spec) (cs : List ℕ) (s : S) (b : Bool)
+        → is_whole escape t ≡ b
+        → view_text (if b then whole_view (whole_text shown) shown spec
+        else escaped_text (escape_of escape) (view_text shown t spec)) t spec ≡ has_text cs
+        → is_place s t spec ≡ true → Stays step s cs
+    shown_stays shown t spec cs s true w e h = whole shown t spec cs s w h e
+    shown_stays shown t spec cs s false w e h = quiet (view_text shown t spec) t spec cs s w h e
+
+    shows_stay : {X : Type 0} (shows : X → Trait → Spec → Shown)
+        → StayInPlaces step is_place (escaped_shows escape shows)
+    shows_stay shows x t spec cs s e h =
+        shown_stays (shows x t spec) t spec cs s (is_whole escape t) refl e h
+
+    pub escaped_structure : {X : Type 0} (shows : X → Trait → Spec → Shown) (e : Environment X)
+        (a : At) (s t : S) → Stands step is_place s a t
+        → (means (escaped_shows escape shows) e a).fault ≡ None
+        → structure_from step s (means (escaped_shows escape shows) e a)
+        ≡ structure_from step s (means shows_nothing e a)
+    escaped_structure shows e a s t h none =
+        same_structure step is_place (escaped_shows escape shows) (shows_stay shows) e a s t h none

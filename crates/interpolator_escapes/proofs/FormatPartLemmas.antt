@@ -1,6 +1,8 @@
 -- What a format means is its parts, and each value of them stands in a place.
 use Rattle.std.proofs.Common.{◌≡◌, ℕ, Bool, true, false, List, [], ◌∷◌, ◌++◌, refl, ap, sym, ◌∙◌}
 use Rattle.std.proofs.Common.{Option, Some, None, is_some, replicate, arith, flat_map, append-nil}
+use Rattle.std.proofs.Common.{if◌then◌else◌, inl}
+use Rattle.std.specs.Float.{float_is_finite}
 use Rattle.std.proofs.lemmas.List.{map-append}
 use Rattle.std.proofs.lemmas.List.Concat.{flat_map-append}
 use Rattle.interpolator_render.specs.declared.view.Trait.{Trait}
@@ -8,7 +10,9 @@ use Rattle.interpolator_render.specs.declared.view.Trait.TheVariants as traits
 use Rattle.interpolator_render.specs.declared.view.Spec.{Spec}
 use Rattle.interpolator_render.specs.Padding.{fill_of, padded_text}
 use Rattle.interpolator_render.specs.Texts.{ViewText, has_text, has_no_text, has_failed, view_text}
-use Rattle.interpolator_render.specs.Views.{Shown}
+use Rattle.interpolator_render.specs.Views.{Shown, signed_number, unsigned_number, truth_value}
+use Rattle.interpolator_render.specs.Views.{decimal_number, float_number, one_character, some_text}
+use Rattle.interpolator_render.specs.Views.{plain_text, nothing_implemented, failure}
 use Rattle.interpolator_syntax.specs.At.{At, text_of}
 use Rattle.interpolator_syntax.specs.Faults.{Fault}
 use Rattle.interpolator_syntax.specs.Nodes.{Node, node, Branch, no_branch, branch, as_forest}
@@ -29,19 +33,27 @@ use Rattle.interpolator_eval.specs.Meaning.Meanings.{padded_list, items_after, i
 use Rattle.interpolator_eval.specs.Meaning.Meanings.{under_name, listed_means, and_closed}
 use Rattle.interpolator_eval.specs.Meaning.Meanings.{node_means, join_branch_means}
 use Rattle.interpolator_eval.specs.Meaning.Meanings.{item_branch_means, forest_means, means}
-use Rattle.interpolator_escapes.specs.Readers.{Token, state_after, read, KeepsPlaces}
+use Rattle.interpolator_escapes.specs.Escapes.{escape_of, json_escape}
+use Rattle.interpolator_escapes.specs.Readers.{Token, state_after, read, KeepsPlaces, KeepsPlain}
 use Rattle.interpolator_escapes.specs.Parts.{Part, literal, value, part_text, assembled, InPlaces}
-use Rattle.interpolator_escapes.specs.Parts.{read_parts}
+use Rattle.interpolator_escapes.specs.Parts.{read_parts, MayStand}
 use Rattle.interpolator_escapes.specs.Formats.{Stays, FillStays, NodeStands, ItemStands}
-use Rattle.interpolator_escapes.specs.Formats.{JoinStands, ForestStands, Stands, escaped_text}
+use Rattle.interpolator_escapes.specs.Formats.{JoinStands, ForestStands, Stands}
 use Rattle.interpolator_escapes.specs.Formats.{escaped_shows}
 use Rattle.interpolator_escapes.specs.FormatParts.{as_it_is, view_parts, found_parts, parts_after}
 use Rattle.interpolator_escapes.specs.FormatParts.{items_parts, padded_parts, list_parts}
 use Rattle.interpolator_escapes.specs.FormatParts.{value_parts, node_parts, join_parts, item_parts}
-use Rattle.interpolator_escapes.specs.FormatParts.{forest_parts, parts_of}
+use Rattle.interpolator_escapes.specs.FormatParts.{forest_parts, parts_of, parts_by, plain_value}
+use Rattle.interpolator_escapes.specs.FormatParts.{escaped_value, string_parts, whole_parts}
+use Rattle.interpolator_escapes.specs.Wholes.{escaped_text, is_whole, json_null, json_string}
+use Rattle.interpolator_escapes.specs.Wholes.{whole_text, whole_view}
+use Rattle.interpolator_escapes.specs.declared.escape.Escape.{Escape}
+use Rattle.interpolator_escapes.specs.declared.escape.Escape.TheVariants.{Line, Html, Csv, Json}
+use Rattle.interpolator_escapes.specs.declared.escape.Escape.TheVariants.{Shell}
 use Rattle.interpolator_escapes.proofs.FormatLemmas.{text_of_placed_at, text_of_placed_from}
 use Rattle.interpolator_escapes.proofs.FormatLemmas.{copies_stay, fill_stays}
 use Rattle.interpolator_escapes.proofs.ReaderLemmas.{parts_read}
+use Rattle.interpolator_escapes.proofs.WholeLemmas.{plain_shown}
 
 -- ---- the text of a meaning
 
@@ -121,14 +133,14 @@ module _ (escape : ℕ → List ℕ) where
       items_say [] = says_nothing
       items_say (x ∷ xs) = says_both (item x) _ (each x) _ (says x) (after_says xs)
 
-  -- `others` shows the text of what `shows` does, escaped
-  module _ {X : Type 0} (shows others : X → Trait → Spec → Shown)
+  -- what a value shows has the text of its parts
+  module _ {X : Type 0} (of_value : X → Trait → Spec → List Part)
+      (shows : X → Trait → Spec → Shown)
       (each : (x : X) (t : Trait) (spec : Spec) (q : ℕ)
-      → Says (view_means t q (view_text (others x t spec) t spec))
-      (view_parts (view_text (shows x t spec) t spec)))
+      → Says (view_means t q (view_text (shows x t spec) t spec)) (of_value x t spec))
     where
       value_says : (t : Trait) (spec : Spec) (q : ℕ) (o : Option X)
-          → Says (value_means others t spec q o) (value_parts escape shows t spec o)
+          → Says (value_means shows t spec q o) (value_parts escape of_value t spec o)
       value_says t spec q None = says_fault _ _ _ refl
       value_says t spec q (Some x) = each x t spec q
 
@@ -156,7 +168,7 @@ module _ (escape : ℕ → List ℕ) where
 
       mutual
         node_says : (x : Node) (e : Environment X)
-            → Says (node_means others e x) (node_parts escape shows e x)
+            → Says (node_means shows e x) (node_parts escape of_value e x)
         node_says (node place end kind None item join) e = says_nothing
         node_says (node place end kind (Some (text_content from cs)) item join) e =
             record { text = λ none. text_of_placed_from cs from ∙ sym (append-nil cs) }
@@ -173,21 +185,21 @@ module _ (escape : ℕ → List ℕ) where
             (join_says join e) (λ y. item_says item e q y)))
 
         join_says : (b : Branch) (e : Environment X)
-            → Says (join_branch_means others e b) (join_parts escape shows e b)
+            → Says (join_branch_means shows e b) (join_parts escape of_value e b)
         join_says no_branch e = says_nothing
         join_says (branch xs) e = forest_says xs e
 
         item_says : (b : Branch) (e : Environment X) (q : ℕ) (x : Slots X)
-            → Says (item_branch_means others e b q x) (item_parts escape shows e b x)
+            → Says (item_branch_means shows e b q x) (item_parts escape of_value e b x)
         item_says no_branch e q x =
             value_says traits.Display plain_spec q (slot_at traits.Display (values_of x))
         item_says (branch xs) e q x = forest_says xs (bind e x)
 
         forest_says : (xs : Forest) (e : Environment X)
-            → Says (forest_means others e xs) (forest_parts escape shows e xs)
+            → Says (forest_means shows e xs) (forest_parts escape of_value e xs)
         forest_says no_nodes e = says_nothing
         forest_says (nodes_and x xs) e =
-            says_both (node_means others e x) _ _ _ (node_says x e) (forest_says xs e)
+            says_both (node_means shows e x) _ _ _ (node_says x e) (forest_says xs e)
 
   view_escaped : (v : ViewText) (t : Trait) (spec : Spec) (q : ℕ)
       → Says (view_means t q (view_text (escaped_text escape v) t spec)) (view_parts v)
@@ -199,15 +211,70 @@ module _ (escape : ℕ → List ℕ) where
   view_escaped has_no_text t spec q = says_fault _ _ _ refl
   view_escaped has_failed t spec q = says_fault _ _ _ refl
 
-  -- the text of an escaped format is its parts, each value escaped
-  pub escaped_parts : {X : Type 0} (shows : X → Trait → Spec → Shown) (e : Environment X) (a : At)
-      → (means (escaped_shows escape shows) e a).fault ≡ None
-      → text_of (means (escaped_shows escape shows) e a).text
-      ≡ assembled escape (parts_of escape shows e a)
-  escaped_parts shows e a =
-      (forest_says shows (escaped_shows escape shows)
-      (λ x t spec q. view_escaped (view_text (shows x t spec) t spec) t spec q)
-      (as_forest (nodes a)) e).text
+-- ---- of an escaped format
+
+text_says : (text : List ℕ) (ps : List Part) (t : Trait) (spec : Spec) (q : ℕ)
+    → assembled json_escape ps ≡ text
+    → Says json_escape (view_means t q (view_text (plain_text text) t spec)) ps
+text_says text ps t spec q e =
+    rw (plain_shown text t spec) (record { text = λ none. text_of_placed_at q text ∙ sym e })
+
+float_says : (shown : Shown) (t : Trait) (spec : Spec) (q : ℕ) (b : Bool)
+    → Says json_escape
+    (view_means t q (view_text (whole_view (if b then None else Some json_null) shown spec) t spec))
+    (if b then view_parts (view_text shown traits.Debug spec) else value json_null ∷ [])
+float_says shown t spec q true =
+    view_escaped json_escape (view_text shown traits.Debug spec) t spec q
+float_says shown t spec q false = text_says json_null (value json_null ∷ []) t spec q refl
+
+-- a whole value has the text of its parts
+whole_says : (shown : Shown) (t : Trait) (spec : Spec) (q : ℕ)
+    → Says json_escape
+    (view_means t q (view_text (whole_view (whole_text shown) shown spec) t spec))
+    (whole_parts shown spec)
+whole_says (some_text text) t spec q = text_says (json_string text) (string_parts text) t spec q refl
+whole_says (plain_text text) t spec q =
+    text_says (json_string text) (string_parts text) t spec q refl
+whole_says (one_character c) t spec q =
+    text_says (json_string (c ∷ [])) (string_parts (c ∷ [])) t spec q refl
+whole_says (float_number format x) t spec q =
+    float_says (float_number format x) t spec q (float_is_finite x)
+whole_says (signed_number z bits) t spec q =
+    view_escaped json_escape (view_text (signed_number z bits) traits.Debug spec) t spec q
+whole_says (unsigned_number n) t spec q =
+    view_escaped json_escape (view_text (unsigned_number n) traits.Debug spec) t spec q
+whole_says (truth_value truth) t spec q =
+    view_escaped json_escape (view_text (truth_value truth) traits.Debug spec) t spec q
+whole_says (decimal_number units scale) t spec q =
+    view_escaped json_escape (view_text (decimal_number units scale) traits.Debug spec) t spec q
+whole_says nothing_implemented t spec q =
+    view_escaped json_escape (view_text nothing_implemented traits.Debug spec) t spec q
+whole_says failure t spec q =
+    view_escaped json_escape (view_text failure traits.Debug spec) t spec q
+
+shown_says : (escape : Escape) (shown : Shown) (t : Trait) (spec : Spec) (q : ℕ) (b : Bool)
+    → is_whole escape t ≡ b
+    → Says (escape_of escape)
+    (view_means t q (view_text (if b then whole_view (whole_text shown) shown spec
+    else escaped_text (escape_of escape) (view_text shown t spec)) t spec))
+    (if b then whole_parts shown spec else view_parts (view_text shown t spec))
+shown_says escape shown t spec q false e =
+    view_escaped (escape_of escape) (view_text shown t spec) t spec q
+shown_says Json shown t spec q true e = whole_says shown t spec q
+shown_says Line shown t spec q true e = absurd (cc)
+shown_says Html shown t spec q true e = absurd (cc)
+shown_says Csv shown t spec q true e = absurd (cc)
+shown_says Shell shown t spec q true e = absurd (cc)
+
+-- the text of an escaped format is its parts, each value escaped
+pub escaped_parts : (escape : Escape) {X : Type 0} (shows : X → Trait → Spec → Shown)
+    (e : Environment X) (a : At) → (means (escaped_shows escape shows) e a).fault ≡ None
+    → text_of (means (escaped_shows escape shows) e a).text
+    ≡ assembled (escape_of escape) (parts_by escape shows e a)
+escaped_parts escape shows e a =
+    (forest_says (escape_of escape) (escaped_value escape shows) (escaped_shows escape shows)
+    (λ x t spec q. shown_says escape (shows x t spec) t spec q (is_whole escape t) refl)
+    (as_forest (nodes a)) e).text
 
 -- ---- of a plain format
 
@@ -225,14 +292,15 @@ view_plain has_failed t q = says_fault as_it_is _ _ _ refl
 
 pub plain_parts : {X : Type 0} (shows : X → Trait → Spec → Shown) (e : Environment X) (a : At)
     → (means shows e a).fault ≡ None
-    → text_of (means shows e a).text ≡ assembled as_it_is (parts_of as_it_is shows e a)
+    → text_of (means shows e a).text
+    ≡ assembled as_it_is (parts_of as_it_is (plain_value shows) e a)
 plain_parts shows e a =
-    (forest_says as_it_is shows shows
+    (forest_says as_it_is (plain_value shows) shows
     (λ x t spec q. view_plain (view_text (shows x t spec) t spec) t q) (as_forest (nodes a)) e).text
 
 -- ---- places
 
-module _ {S : Type 0} (step : S → ℕ → S × List Token) (is_place : S → Bool) where
+module _ {S : Type 0} (step : S → ℕ → S × List Token) (is_place : S → Trait → Spec → Bool) where
   abbrev Held : S → List Part → Type 0
   Held s ps = InPlaces step is_place s ps
 
@@ -243,9 +311,9 @@ module _ {S : Type 0} (step : S → ℕ → S × List Token) (is_place : S → B
   after_parts s (value cs ∷ ps) = after_parts s ps
 
   -- each value stands in a place, if the reader is at s before the parts; it is at t after them
-  record Leads (s t : S) (ps : List Part) : Type 0 where
-    held : Held s ps
-    end : after_parts s ps ≡ t
+  pub record Leads (s t : S) (ps : List Part) : Type 0 where
+    pub held : Held s ps
+    pub end : after_parts s ps ≡ t
 
   leads_nothing : (s : S) → Leads s s []
   leads_nothing s = record { held = tt; end = refl }
@@ -303,63 +371,83 @@ module _ {S : Type 0} (step : S → ℕ → S × List Token) (is_place : S → B
     found_leads s ps None h = leads_nothing s
     found_leads s ps (Some x) h = h x
 
-    module _ {X : Type 0} (shows : X → Trait → Spec → Shown) where
-      view_leads : (s : S) (v : ViewText) → is_place s ≡ true → Leads s s (view_parts v)
-      view_leads s (has_text cs) h = record { held = (h, tt); end = refl }
-      view_leads s has_no_text h = leads_nothing s
-      view_leads s has_failed h = leads_nothing s
+    module _ {X : Type 0} (of_value : X → Trait → Spec → List Part)
+        (each : (x : X) (t : Trait) (spec : Spec) (s : S) → is_place s t spec ≡ true
+        → Leads s s (of_value x t spec))
+      where
+        value_leads : (s : S) (t : Trait) (spec : Spec) (o : Option X) → is_place s t spec ≡ true
+            → Leads s s (value_parts escape of_value t spec o)
+        value_leads s t spec o h = found_leads s _ o (λ x. each x t spec s h)
 
-      value_leads : (s : S) (t : Trait) (spec : Spec) (o : Option X) → is_place s ≡ true
-          → Leads s s (value_parts escape shows t spec o)
-      value_leads s t spec o h =
-          found_leads s _ o (λ x. view_leads s (view_text (shows x t spec) t spec) h)
+        mutual
+          node_leads : (x : Node) (e : Environment X) (s t : S) → NodeStands step is_place s x t
+              → Leads s t (node_parts escape of_value e x)
+          node_leads (node place end kind None item join) e s t h = stays_by s t h
+          node_leads (node place end kind (Some (text_content from cs)) item join) e s t h =
+              record { held = tt; end = sym h }
+          node_leads (node place end kind (Some (fault_content f)) item join) e s t h =
+              stays_by s t h
+          node_leads (node place end kind (Some (argument_content start name spec (target_value w) q))
+              item join) e s t h =
+              rw h.1 (found_leads s _ (slots_under e name)
+              (λ x. value_leads s w spec (slot_at w (values_of x)) h.0))
+          node_leads (node place end kind (Some (argument_content start name spec (target_list range)
+              q)) item join) e s t h =
+              rw h.3 (found_leads s _ (slots_under e name) (λ x. found_leads s _ (items x)
+              (λ xs. leads_list s spec
+              (items_parts (join_parts escape of_value e join) (item_parts escape of_value e item)
+              (chosen_items range xs)) (is_some spec.width) refl h.2
+              (items_lead s (join_parts escape of_value e join) (item_parts escape of_value e item)
+              (join_leads join e s h.1) (λ y. item_leads item e s y h.0)
+              (chosen_items range xs)))))
 
-      mutual
-        node_leads : (x : Node) (e : Environment X) (s t : S) → NodeStands step is_place s x t
-            → Leads s t (node_parts escape shows e x)
-        node_leads (node place end kind None item join) e s t h = stays_by s t h
-        node_leads (node place end kind (Some (text_content from cs)) item join) e s t h =
-            record { held = tt; end = sym h }
-        node_leads (node place end kind (Some (fault_content f)) item join) e s t h =
-            stays_by s t h
-        node_leads (node place end kind (Some (argument_content start name spec (target_value w) q))
-            item join) e s t h =
-            rw h.1 (found_leads s _ (slots_under e name)
-            (λ x. value_leads s w spec (slot_at w (values_of x)) h.0))
-        node_leads (node place end kind (Some (argument_content start name spec (target_list range)
-            q)) item join) e s t h =
-            rw h.3 (found_leads s _ (slots_under e name) (λ x. found_leads s _ (items x)
-            (λ xs. leads_list s spec
-            (items_parts (join_parts escape shows e join) (item_parts escape shows e item)
-            (chosen_items range xs)) (is_some spec.width) refl h.2
-            (items_lead s (join_parts escape shows e join) (item_parts escape shows e item)
-            (join_leads join e s h.1) (λ y. item_leads item e s y h.0)
-            (chosen_items range xs)))))
+          join_leads : (b : Branch) (e : Environment X) (s : S) → JoinStands step is_place s b
+              → Leads s s (join_parts escape of_value e b)
+          join_leads no_branch e s h = leads_nothing s
+          join_leads (branch xs) e s h = forest_leads xs e s s h
 
-        join_leads : (b : Branch) (e : Environment X) (s : S) → JoinStands step is_place s b
-            → Leads s s (join_parts escape shows e b)
-        join_leads no_branch e s h = leads_nothing s
-        join_leads (branch xs) e s h = forest_leads xs e s s h
+          item_leads : (b : Branch) (e : Environment X) (s : S) (x : Slots X)
+              → ItemStands step is_place s b → Leads s s (item_parts escape of_value e b x)
+          item_leads no_branch e s x h =
+              value_leads s traits.Display plain_spec (slot_at traits.Display (values_of x)) h
+          item_leads (branch xs) e s x h = forest_leads xs (bind e x) s s h
 
-        item_leads : (b : Branch) (e : Environment X) (s : S) (x : Slots X)
-            → ItemStands step is_place s b → Leads s s (item_parts escape shows e b x)
-        item_leads no_branch e s x h =
-            value_leads s traits.Display plain_spec (slot_at traits.Display (values_of x)) h
-        item_leads (branch xs) e s x h = forest_leads xs (bind e x) s s h
+          forest_leads : (xs : Forest) (e : Environment X) (s t : S)
+              → ForestStands step is_place s xs t → Leads s t (forest_parts escape of_value e xs)
+          forest_leads no_nodes e s t h = stays_by s t h
+          forest_leads (nodes_and x xs) e s t h =
+              leads_both s h.0 t _ _ (node_leads x e s h.0 h.1) (forest_leads xs e h.0 t h.2)
 
-        forest_leads : (xs : Forest) (e : Environment X) (s t : S)
-            → ForestStands step is_place s xs t → Leads s t (forest_parts escape shows e xs)
-        forest_leads no_nodes e s t h = stays_by s t h
-        forest_leads (nodes_and x xs) e s t h =
-            leads_both s h.0 t _ _ (node_leads x e s h.0 h.1) (forest_leads xs e h.0 t h.2)
+  -- a text leads to where it was, if it may stand there
+  pub view_leads : (s : S) (v : ViewText)
+      → ((cs : List ℕ) → v ≡ has_text cs → MayStand is_place s cs) → Leads s s (view_parts v)
+  view_leads s (has_text cs) h = record { held = (h cs refl, tt); end = refl }
+  view_leads s has_no_text h = leads_nothing s
+  view_leads s has_failed h = leads_nothing s
 
-    -- so the values come back, each in its place
-    pub format_read : (keeps : KeepsPlaces step is_place escape) {X : Type 0}
-        (shows : X → Trait → Spec → Shown) (e : Environment X) (a : At) (s t : S)
-        → Stands step is_place s a t → (means (escaped_shows escape shows) e a).fault ≡ None
-        → read step s (text_of (means (escaped_shows escape shows) e a).text)
-        ≡ read_parts step s (parts_of escape shows e a)
-    format_read keeps shows e a s t h none =
-        rw (escaped_parts escape shows e a none)
-        (parts_read step is_place escape keeps s (parts_of escape shows e a)
-        (forest_leads shows (as_forest (nodes a)) e s t h).held)
+  -- so the values come back, each in its place
+  module _ (escape : Escape) (keeps : KeepsPlaces step is_place (escape_of escape))
+      (plain : KeepsPlain step is_place (escape_of escape))
+      (inner : (s : S) (t : Trait) (spec : Spec) → is_whole escape t ≡ false
+      → is_place s t spec ≡ true → is_place s traits.Display plain_spec ≡ true)
+      (whole : (shown : Shown) (s : S) (t : Trait) (spec : Spec) → is_whole escape t ≡ true
+      → is_place s t spec ≡ true → Leads s s (whole_parts shown spec))
+    where
+      shown_leads : (shown : Shown) (t : Trait) (spec : Spec) (s : S) (b : Bool)
+          → is_whole escape t ≡ b → is_place s t spec ≡ true
+          → Leads s s (if b then whole_parts shown spec else view_parts (view_text shown t spec))
+      shown_leads shown t spec s true w h = whole shown s t spec w h
+      shown_leads shown t spec s false w h =
+          view_leads s (view_text shown t spec) (λ cs e. inl (inner s t spec w h))
+
+      pub format_read : {X : Type 0} (shows : X → Trait → Spec → Shown) (e : Environment X) (a : At)
+          (s t : S) → Stands step is_place s a t
+          → (means (escaped_shows escape shows) e a).fault ≡ None
+          → read step s (text_of (means (escaped_shows escape shows) e a).text)
+          ≡ read_parts step s (parts_by escape shows e a)
+      format_read shows e a s t h none =
+          rw (escaped_parts escape shows e a none)
+          (parts_read step is_place (escape_of escape) keeps plain s (parts_by escape shows e a)
+          (forest_leads (escape_of escape) (escaped_value escape shows)
+          (λ x t spec s h. shown_leads (shows x t spec) t spec s (is_whole escape t) refl h)
+          (as_forest (nodes a)) e s t h).held)

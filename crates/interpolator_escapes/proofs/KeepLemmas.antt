@@ -2,7 +2,7 @@
 use Rattle.std.proofs.Common.{◌≡◌, ℕ, true, false, List, [], ◌∷◌, refl, arith, ◌<◌}
 use Rattle.std.proofs.Common.{◌/◌, ◌%◌, ◌*◌, ◌+◌, ◌==◌, ◌||◌, nat_lt, if◌then◌else◌, Bool}
 use Rattle.std.specs.Char.{digit_value, digit_char}
-use Rattle.std.proofs.Common.{codes, filter, flat_map, ◌∙◌}
+use Rattle.std.proofs.Common.{filter, flat_map, ◌∙◌, ◌++◌, ap}
 use Rattle.std.proofs.lemmas.Bool.Decides.{nat_tests}
 use Rattle.std.proofs.lemmas.List.Elements.{filter-append}
 use Rattle.std.proofs.lemmas.Str.{digit_value-digit_char}
@@ -10,11 +10,11 @@ use Rattle.interpolator_escapes.specs.Escapes.{hex_digit, two_digits, four_digit
 use Rattle.interpolator_escapes.specs.Escapes.{line_escape}
 use Rattle.interpolator_escapes.specs.Escapes.{control_escape}
 use Rattle.interpolator_escapes.specs.Escapes.{html_escape, csv_escape, json_escape, shell_escape}
-use Rattle.interpolator_escapes.specs.Readers.{KeepsPlaces, state_after, read, content}
-use Rattle.interpolator_escapes.specs.Readers.{structure_of}
-use Rattle.interpolator_escapes.specs.Escapes.{escaped}
+use Rattle.interpolator_escapes.specs.Plain.{is_plain}
+use Rattle.interpolator_escapes.specs.Readers.{KeepsPlaces, KeepsPlain, state_after, read, content}
+use Rattle.interpolator_escapes.specs.Readers.{Token, structure_of}
 use Rattle.interpolator_escapes.specs.Formats.{Stays}
-use Rattle.interpolator_escapes.specs.Lines.{control_step, everywhere}
+use Rattle.interpolator_escapes.specs.Lines.{control_step}
 use Rattle.interpolator_escapes.specs.Lines.{line_step, is_line_place, in_line}
 use Rattle.interpolator_escapes.specs.Lines.{after_slash, in_code, code_step}
 use Rattle.interpolator_escapes.specs.Html.{html_step, is_html_place, in_base, in_text, in_value}
@@ -25,7 +25,7 @@ use Rattle.interpolator_escapes.specs.Html.{in_name, after_name, before_value, i
 use Rattle.interpolator_escapes.specs.Html.{in_raw, raw_opened, raw_closing, lost}
 use Rattle.interpolator_escapes.specs.Csv.{csv_step, is_csv_place, field_start, bare, quoted}
 use Rattle.interpolator_escapes.specs.Csv.{quote_seen}
-use Rattle.interpolator_escapes.specs.Json.{json_step, is_json_place, between, in_string}
+use Rattle.interpolator_escapes.specs.Json.{JsonState, json_step, is_json_place, between, in_string}
 use Rattle.interpolator_escapes.specs.Json.{after_slash as json_slash, in_code as json_code}
 use Rattle.interpolator_escapes.specs.Json.{code_step as json_code_step}
 use Rattle.interpolator_escapes.specs.Shell.{shell_step, is_shell_place, outside}
@@ -110,11 +110,17 @@ line_keeps in_line c h =
 line_keeps after_slash c h = absurd (cc)
 line_keeps (in_code left n) c h = absurd (cc)
 
+pub line_plain : KeepsPlain line_step is_line_place line_escape
+line_plain s c h p = line_keeps s c h
+
 pub csv_keeps : KeepsPlaces csv_step is_csv_place csv_escape
 csv_keeps quoted c h = grind (arith, nat_tests)
 csv_keeps field_start c h = absurd (cc)
 csv_keeps bare c h = absurd (cc)
 csv_keeps quote_seen c h = absurd (cc)
+
+pub csv_plain : KeepsPlain csv_step is_csv_place csv_escape
+csv_plain s c h p = csv_keeps s c h
 
 json_digit : (left n d : ℕ) → d < 16
     → json_step (json_code left n) (hex_digit d) ≡ json_code_step left (n * 16 + d)
@@ -156,11 +162,49 @@ json_keeps between c h = absurd (cc)
 json_keeps json_slash c h = absurd (cc)
 json_keeps (json_code left n) c h = absurd (cc)
 
+-- a plain character is none that is escaped
+pub plain_other : (c n : ℕ) (b : Bool) → (c == n) ≡ b → is_plain n ≡ false → is_plain c ≡ true
+    → (c == n) ≡ false
+plain_other c n false e h p = e
+plain_other c n true e h p =
+    let same : c ≡ n = grind (arith, nat_tests) in
+    let plain : is_plain n ≡ true = rw same at p in absurd (cc)
+
+plain_high : (c : ℕ) → is_plain c ≡ true → nat_lt c 32 ≡ false
+plain_high c p = grind (arith, nat_tests)
+
+pub plain_escape : (c : ℕ) → is_plain c ≡ true → json_escape c ≡ c ∷ []
+plain_escape c p =
+    rw (
+      plain_other c 92 (c == 92) refl refl p,
+      plain_other c 34 (c == 34) refl refl p,
+      plain_other c 10 (c == 10) refl refl p,
+      plain_other c 13 (c == 13) refl refl p,
+      plain_other c 9 (c == 9) refl refl p,
+      plain_other c 60 (c == 60) refl refl p,
+      plain_high c p,
+    ) refl
+
+between_step : (c : ℕ) → is_plain c ≡ true → json_step between c ≡ (between, content c ∷ [])
+between_step c p = rw (plain_other c 34 (c == 34) refl refl p, p) refl
+
+pub json_plain : KeepsPlain json_step is_json_place json_escape
+json_plain between c h p =
+    let one = between_step c p in
+    rw (plain_escape c p)
+    (ap (λ (r : JsonState × List Token). r.0) one, ap (λ (r : JsonState × List Token). r.1 ++ []) one)
+json_plain in_string c h p = absurd (cc)
+json_plain json_slash c h p = absurd (cc)
+json_plain (json_code left n) c h p = absurd (cc)
+
 pub shell_keeps : KeepsPlaces shell_step is_shell_place shell_escape
 shell_keeps shell_quoted c h = grind (arith, nat_tests)
 shell_keeps outside c h = absurd (cc)
 shell_keeps shell_slash c h = absurd (cc)
 shell_keeps elsewhere c h = absurd (cc)
+
+pub shell_plain : KeepsPlain shell_step is_shell_place shell_escape
+shell_plain s c h p = shell_keeps s c h
 
 -- ---- pages
 
@@ -189,6 +233,9 @@ html_keeps (in_raw element) c h = absurd (cc)
 html_keeps (raw_opened element) c h = absurd (cc)
 html_keeps (raw_closing element rest) c h = absurd (cc)
 html_keeps lost c h = absurd (cc)
+
+pub html_plain : KeepsPlain html_step is_html_place html_escape
+html_plain s c h p = html_keeps s c h
 
 -- ---- controls
 
@@ -236,9 +283,8 @@ pub control_read : (s : Unit {0}) (cs : List ℕ)
 control_read s [] = refl
 control_read s (c ∷ cs) = grind (arith, control_read s cs)
 
-pub controls_quiet : (s : Unit {0}) (ds : List ℕ) → everywhere s ≡ true
-    → Stays control_step s (flat_map line_escape ds)
-controls_quiet s ds h = (
+pub control_stays : (s : Unit {0}) (ds : List ℕ) → Stays control_step s (flat_map line_escape ds)
+control_stays s ds = (
   control_state s (flat_map line_escape ds),
   control_read s (flat_map line_escape ds) ∙ value_controls ds,
 )

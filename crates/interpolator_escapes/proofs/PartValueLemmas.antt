@@ -3,7 +3,6 @@ use Rattle.std.proofs.Common.{◌≡◌, ℕ, Bool, true, false, List, [], ◌�
 use Rattle.std.proofs.Common.{Option, Some, None, is_some, append-nil}
 use Rattle.interpolator_render.specs.declared.view.Trait.{Trait}
 use Rattle.interpolator_render.specs.declared.view.Spec.{Spec}
-use Rattle.interpolator_render.specs.Views.{Shown}
 use Rattle.interpolator_syntax.specs.At.{At}
 use Rattle.interpolator_syntax.specs.Nodes.{Node, node, Branch, no_branch, branch, as_forest}
 use Rattle.interpolator_syntax.specs.Nodes.{Forest, no_nodes, nodes_and, nodes}
@@ -70,10 +69,10 @@ module _ (f g : ℕ → List ℕ) where
   alike_list spec ps qs false e h = rw e h
   alike_list spec ps qs true e h = rw e (alike_padded spec ps qs h)
 
-  module _ {X : Type 0} (shows : X → Trait → Spec → Shown) where
+  module _ {X : Type 0} (of_value : X → Trait → Spec → List Part) where
     mutual
       node_alike : (x : Node) (e : Environment X)
-          → Alike (node_parts f shows e x) (node_parts g shows e x)
+          → Alike (node_parts f of_value e x) (node_parts g of_value e x)
       node_alike (node place end kind None item join) e = alike_itself []
       node_alike (node place end kind (Some (text_content from cs)) item join) e =
           alike_itself (literal cs ∷ [])
@@ -85,30 +84,30 @@ module _ (f g : ℕ → List ℕ) where
           q)) item join) e =
           alike_found _ _ (slots_under e name) (λ x. alike_found _ _ (items x)
           (λ xs. alike_list spec
-          (items_parts (join_parts f shows e join) (item_parts f shows e item)
+          (items_parts (join_parts f of_value e join) (item_parts f of_value e item)
           (chosen_items range xs))
-          (items_parts (join_parts g shows e join) (item_parts g shows e item)
+          (items_parts (join_parts g of_value e join) (item_parts g of_value e item)
           (chosen_items range xs)) (is_some spec.width) refl
-          (alike_items (join_parts f shows e join) (join_parts g shows e join)
-          (item_parts f shows e item) (item_parts g shows e item) (join_alike join e)
+          (alike_items (join_parts f of_value e join) (join_parts g of_value e join)
+          (item_parts f of_value e item) (item_parts g of_value e item) (join_alike join e)
           (λ y. item_alike item e y) (chosen_items range xs))))
 
       join_alike : (b : Branch) (e : Environment X)
-          → Alike (join_parts f shows e b) (join_parts g shows e b)
+          → Alike (join_parts f of_value e b) (join_parts g of_value e b)
       join_alike no_branch e = alike_itself []
       join_alike (branch xs) e = forest_alike xs e
 
       item_alike : (b : Branch) (e : Environment X) (x : Slots X)
-          → Alike (item_parts f shows e b x) (item_parts g shows e b x)
+          → Alike (item_parts f of_value e b x) (item_parts g of_value e b x)
       item_alike no_branch e x = alike_itself _
       item_alike (branch xs) e x = forest_alike xs (bind e x)
 
       forest_alike : (xs : Forest) (e : Environment X)
-          → Alike (forest_parts f shows e xs) (forest_parts g shows e xs)
+          → Alike (forest_parts f of_value e xs) (forest_parts g of_value e xs)
       forest_alike no_nodes e = alike_itself []
       forest_alike (nodes_and x xs) e =
           alike_both _ _ _ _ (node_alike x e) (forest_alike xs e)
 
     pub same_values : (e : Environment X) (a : At)
-        → values_in (parts_of f shows e a) ≡ values_in (parts_of g shows e a)
+        → values_in (parts_of f of_value e a) ≡ values_in (parts_of g of_value e a)
     same_values e a = (forest_alike (as_forest (nodes a)) e).same

@@ -18,7 +18,7 @@ use Rattle.interpolator_syntax.specs.SpecTexts.{plain_spec}
 use Rattle.interpolator_render.proofs.LayoutLemmas.{first_size-append}
 use Rattle.interpolator_render.proofs.RenderingLemmas.{plain_text as displayed_plainly}
 use Rattle.interpolator_render.proofs.WrittenLemmas.{may_refuse}
-use Rattle.interpolator_escapes.specs.Formats.{escaped_text}
+use Rattle.interpolator_escapes.specs.Wholes.{escaped_text}
 use Rattle.interpolator_escapes.specs.Passing.{HasWhole, HasFront, LacksEnd, NextGoesOver, got_of}
 use Rattle.interpolator_escapes.specs.Passing.{or_refused}
 

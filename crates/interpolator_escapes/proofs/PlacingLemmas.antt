@@ -56,7 +56,7 @@ module _ {S : Type 0} (step : S → ℕ → S × List Token) (s : S) (c : ℕ) w
   pub quiet : has_structure (step s c).1 ≡ false → structure_of ((step s c).1 ++ []) ≡ []
   quiet h = quiet_tokens (step s c).1 h
 
-module _ {S : Type 0} (step : S → ℕ → S × List Token) (is_place : S → Bool) where
+module _ {S : Type 0} (step : S → ℕ → S × List Token) (is_place : S → Trait → Spec → Bool) where
   -- ---- pieces leave a reader in one state
 
   node_once : (x : Node) (s t u : S) → NodeStands step is_place s x t
@@ -79,8 +79,9 @@ module _ {S : Type 0} (step : S → ℕ → S × List Token) (is_place : S → B
 
   -- ---- what fails does not stand
 
-  place_or_not : (s : S) → is_place s ≡ false → is_place s ≡ true → ⊥
-  place_or_not s h k = absurd (cc)
+  place_or_not : (s : S) (t : Trait) (spec : Spec) → is_place s t spec ≡ false
+      → is_place s t spec ≡ true → ⊥
+  place_or_not s t spec h k = absurd (cc)
 
   mutual
     node_fails : (x : Node) (s t : S) (m : Misplaced) → NodeFails step is_place s x m
@@ -90,7 +91,7 @@ module _ {S : Type 0} (step : S → ℕ → S × List Token) (is_place : S → B
     node_fails (node place end kind (Some (fault_content g)) item join) s t m f h = f
     node_fails (node place end kind (Some (argument_content start name spec (target_value w) q))
         item join) s t m f h =
-        place_or_not s f.0 h.0
+        place_or_not s w spec f.0 h.0
     node_fails (node place end kind (Some (argument_content start name spec (target_list range) q))
         item join) s t m (inl f) h =
         item_fails item place s m f h.0
@@ -103,7 +104,7 @@ module _ {S : Type 0} (step : S → ℕ → S × List Token) (is_place : S → B
 
     item_fails : (b : Branch) (place : ℕ) (s : S) (m : Misplaced)
         → ItemFails step is_place place s b m → ItemStands step is_place s b → ⊥
-    item_fails no_branch place s m f h = place_or_not s f.0 h
+    item_fails no_branch place s m f h = place_or_not s Display plain_spec f.0 h
     item_fails (branch xs) place s m (inl f) h = forest_fails xs s s m f h
     item_fails (branch xs) place s m (inr f) h = f.2 (forest_once xs s f.0 s f.1 h)
 
@@ -137,7 +138,7 @@ module _ {S : Type 0} (step : S → ℕ → S × List Token) (is_place : S → B
 
 -- ---- a list, by its parts
 
-module _ {S : Type 0} (step : S → ℕ → S × List Token) (is_place : S → Bool) (s : S)
+module _ {S : Type 0} (step : S → ℕ → S × List Token) (is_place : S → Trait → Spec → Bool) (s : S)
     (place end : ℕ) (kind : PieceKind) (start : ℕ) (name : List ℕ) (spec : Spec)
     (range : Option Range) (q : ℕ) (item join : Branch) where
   abbrev ListPlaced : Result (Unit {0}) PlaceError → Type 0
@@ -164,12 +165,12 @@ module _ {S : Type 0} (step : S → ℕ → S × List Token) (is_place : S → B
 
 -- ---- a stored piece, by its form
 
-named : (f : List ℕ → Content) (o : Option (List ℕ)) → IsSome (option_map f o)
+pub named : (f : List ℕ → Content) (o : Option (List ℕ)) → IsSome (option_map f o)
     → (name : List ℕ) × (option_map f o ≡ Some (f name))
 named f None h = absurd (cc)
 named f (Some name) h = (name, refl)
 
-range_of : (form : Form) → is_list_form form ≡ true
+pub range_of : (form : Form) → is_list_form form ≡ true
     → (range : Option Range) × (form ≡ forms.List range)
 range_of (forms.List range) h = (range, refl)
 range_of forms.Text h = absurd (cc)
@@ -177,7 +178,7 @@ range_of forms.Plain h = absurd (cc)
 range_of (forms.Value t) h = absurd (cc)
 range_of (forms.Broken fault) h = absurd (cc)
 
-module _ {S : Type 0} (step : S → ℕ → S × List Token) (is_place : S → Bool) (bs : List ℕ)
+module _ {S : Type 0} (step : S → ℕ → S × List Token) (is_place : S → Trait → Spec → Bool) (bs : List ℕ)
     (x : Piece) (s : S) where
   abbrev Told : S → Result (Unit {0}) PlaceError → Type 0
   Told t answer = NodePlaced step is_place s (node_of bs x) t answer
@@ -202,22 +203,25 @@ module _ {S : Type 0} (step : S → ℕ → S × List Token) (is_place : S → B
       (branch_of bs (out-Piece x).item) (branch_of bs (out-Piece x).join)
 
   value_answer : (name : List ℕ) (spec : Spec) (w : Trait) (answer : Result (Unit {0}) PlaceError)
-      → Placed (is_place s ≡ true) (ValueFails step is_place place_of s) answer
+      → Placed (is_place s w spec ≡ true) (ValueFails step is_place place_of s w spec) answer
       → NodePlaced step is_place s (holding name spec (target_value w)) s answer
   value_answer name spec w (Ok a) h = (h, refl)
   value_answer name spec w (Err (errors.Misplaced m)) h = h
   value_answer name spec w (Err errors.NoMemory) h = tt
 
   module _ (held : IsSome (content_of bs x)) where
-    pub value_told : (w : Trait) (answer : Result (Unit {0}) PlaceError)
-        → (detail_of x).form ≡ forms.Value w
-        → Placed (is_place s ≡ true) (ValueFails step is_place place_of s) answer → Told s answer
-    value_told w answer form h =
+    pub value_told : (w : Trait) (spec : Spec) (answer : Result (Unit {0}) PlaceError)
+        → (detail_of x).form ≡ forms.Value w → spec ≡ (detail_of x).spec
+        → Placed (is_place s w spec ≡ true) (ValueFails step is_place place_of s w spec) answer
+        → Told s answer
+    value_told w spec answer form same h =
         let n = named _ _ (rw form at held) in
-        rw (node_of_out bs x, form, n.1) (value_answer n.0 (detail_of x).spec w answer h)
+        rw (node_of_out bs x, form, n.1)
+        (value_answer n.0 (detail_of x).spec w answer (rw same at h))
 
     pub plain_told : (answer : Result (Unit {0}) PlaceError) → (detail_of x).form ≡ forms.Plain
-        → Placed (is_place s ≡ true) (ValueFails step is_place place_of s) answer → Told s answer
+        → Placed (is_place s Display plain_spec ≡ true)
+        (ValueFails step is_place place_of s Display plain_spec) answer → Told s answer
     plain_told answer form h =
         let n = named _ _ (rw form at held) in
         rw (node_of_out bs x, form, n.1) (value_answer n.0 plain_spec Display answer h)
@@ -310,7 +314,7 @@ module _ (bs : List ℕ) (x : Piece) (held : IsSome (content_of bs x)) where
 
 -- ---- a whole text
 
-module _ {S : Type 0} (step : S → ℕ → S × List Token) (is_place : S → Bool) where
+module _ {S : Type 0} (step : S → ℕ → S × List Token) (is_place : S → Trait → Spec → Bool) where
   -- what fails does not stand, whatever state it ends in
   pub refused : (s u : S) (xs : Forest) (e : PlaceError)
       → ForestPlaced step is_place s xs u (Err e)

@@ -1,6 +1,6 @@
 -- A record of texts between quotes is read as these texts.
 use Rattle.std.proofs.Common.{◌≡◌, ℕ, List, [], ◌∷◌, ◌++◌, refl, ap, append_assoc, append-nil}
-use Rattle.std.proofs.Common.{flat_map, map, sym, ◌∙◌}
+use Rattle.std.proofs.Common.{flat_map, map, sym, ◌∙◌, inl}
 use Rattle.interpolator_escapes.specs.Csv.{csv_step, is_csv_place, field_start, quoted, quote_seen}
 use Rattle.interpolator_escapes.specs.Escapes.{csv_escape}
 use Rattle.interpolator_escapes.specs.Languages.{read_by}
@@ -8,11 +8,11 @@ use Rattle.interpolator_escapes.specs.Readers.{Token, content, read}
 use Rattle.interpolator_escapes.specs.Records.{fields_after, fields_of, quoted_field}
 use Rattle.interpolator_escapes.specs.Records.{quoted_record}
 use Rattle.interpolator_escapes.specs.declared.escape.Escape.TheVariants.{Csv}
-use Rattle.interpolator_escapes.proofs.KeepLemmas.{csv_keeps}
+use Rattle.interpolator_escapes.proofs.KeepLemmas.{csv_keeps, csv_plain}
 use Rattle.interpolator_escapes.proofs.ReaderLemmas.{read-append, value_state, value_read}
 
 -- the text of a field goes to the front of the first one after it
-content_first : (text : List ℕ) (ts : List Token) (texts : List (List ℕ))
+pub content_first : (text : List ℕ) (ts : List Token) (texts : List (List ℕ))
     → fields_of ts ≡ [] ∷ texts → fields_of (map content text ++ ts) ≡ text ∷ texts
 content_first [] ts texts h = h
 content_first (c ∷ text) ts texts h = rw (content_first text ts texts h) refl
@@ -26,8 +26,8 @@ field_read : (text cs : List ℕ)
 field_read text cs =
     rw (
       read-append csv_step quoted (flat_map csv_escape text) (34 ∷ cs),
-      value_state csv_step is_csv_place csv_escape csv_keeps quoted text refl,
-      value_read csv_step is_csv_place csv_escape csv_keeps quoted text refl,
+      value_state csv_step is_csv_place csv_escape csv_keeps csv_plain quoted text (inl refl),
+      value_read csv_step is_csv_place csv_escape csv_keeps csv_plain quoted text (inl refl),
     ) refl
 
 field_first : (text cs : List ℕ) (texts : List (List ℕ)) → fields_of (Behind cs) ≡ [] ∷ texts

@@ -22,7 +22,8 @@ use Rattle.interpolator_eval.specs.Meaning.Meanings.{means}
 use Rattle.interpolator_escapes.specs.Escapes.{csv_escape}
 use Rattle.interpolator_escapes.specs.Formats.{escaped_shows}
 use Rattle.interpolator_escapes.specs.FormatParts.{view_parts, found_parts, parts_after}
-use Rattle.interpolator_escapes.specs.FormatParts.{items_parts, value_parts, parts_of}
+use Rattle.interpolator_escapes.specs.FormatParts.{items_parts, value_parts, parts_by}
+use Rattle.interpolator_escapes.specs.FormatParts.{escaped_value}
 use Rattle.interpolator_escapes.specs.Languages.{read_by}
 use Rattle.interpolator_escapes.specs.Parts.{Part, literal, assembled}
 use Rattle.interpolator_escapes.specs.Records.{fields_after, fields_of, quoted_record}
@@ -31,15 +32,18 @@ use Rattle.interpolator_escapes.specs.declared.escape.Escape.TheVariants.{Csv}
 use Rattle.interpolator_escapes.proofs.FormatPartLemmas.{whole-append, escaped_parts}
 use Rattle.interpolator_escapes.proofs.RecordLemmas.{last_read}
 
-take_all : {A : Type 0} (xs : List A) → take (length xs) xs ≡ xs
+pub take_all : {A : Type 0} (xs : List A) → take (length xs) xs ≡ xs
 take_all [] = refl
 take_all (x ∷ xs) = ap (λ ys. x ∷ ys) (take_all xs)
 
 module _ {X : Type 0} (shows : X → Trait → Spec → Shown) where
+  abbrev Of : X → Trait → Spec → List Part
+  Of = escaped_value Csv shows
+
   -- an item
   abbrev ItemParts : Slots X → List Part
   ItemParts item =
-      value_parts csv_escape shows Display plain_spec (slot_at Display (values_of item)) ++ []
+      value_parts csv_escape Of Display plain_spec (slot_at Display (values_of item)) ++ []
 
   -- what comes between two
   abbrev Border : List Part
@@ -52,7 +56,7 @@ module _ {X : Type 0} (shows : X → Trait → Spec → Shown) where
   abbrev Quoted : List Part → List Part
   Quoted ps = literal (34 ∷ []) ∷ (ps ++ literal (34 ∷ []) ∷ [])
 
-  row_parts : (e : Environment X) → parts_of csv_escape shows e (outermost row_format)
+  row_parts : (e : Environment X) → parts_by Csv shows e (outermost row_format)
       ≡ Quoted (found_parts
       (λ found. found_parts (λ xs. RowParts (chosen_items None xs)) (items found))
       (slots_under e (codes "row")))
@@ -62,7 +66,7 @@ module _ {X : Type 0} (shows : X → Trait → Spec → Shown) where
 
   found_row : (e : Environment X) (found : Slots X) (xs : List (Slots X))
       → slots_under e (codes "row") ≡ Some found → items found ≡ Some xs
-      → parts_of csv_escape shows e (outermost row_format) ≡ Quoted (RowParts xs)
+      → parts_by Csv shows e (outermost row_format) ≡ Quoted (RowParts xs)
   found_row e found xs h j = rw (row_parts e, h, j, take_all xs) refl
 
   -- ---- their text
@@ -75,7 +79,7 @@ module _ {X : Type 0} (shows : X → Trait → Spec → Shown) where
   view_text_of has_no_text = refl
   view_text_of has_failed = refl
 
-  slot_text : (o : Option X) → Text (value_parts csv_escape shows Display plain_spec o)
+  slot_text : (o : Option X) → Text (value_parts csv_escape Of Display plain_spec o)
       ≡ flat_map csv_escape (displayed shows o)
   slot_text None = refl
   slot_text (Some x) = view_text_of (view_text (shows x Display plain_spec) Display plain_spec)
@@ -83,7 +87,7 @@ module _ {X : Type 0} (shows : X → Trait → Spec → Shown) where
   item_whole : (item : Slots X)
       → Text (ItemParts item) ≡ flat_map csv_escape (item_text shows item)
   item_whole item =
-      let ps = value_parts csv_escape shows Display plain_spec (slot_at Display (values_of item)) in
+      let ps = value_parts csv_escape Of Display plain_spec (slot_at Display (values_of item)) in
       ap Text (append-nil ps) ∙ slot_text (slot_at Display (values_of item))
 
   field_text : (item : Slots X) (rest : List Part) (texts : List (List ℕ))
@@ -113,10 +117,10 @@ module _ {X : Type 0} (shows : X → Trait → Spec → Shown) where
 
   pub row_read : (e : Environment X) (found x : Slots X) (xs : List (Slots X))
       → slots_under e (codes "row") ≡ Some found → items found ≡ Some (x ∷ xs)
-      → (means (escaped_shows csv_escape shows) e (outermost row_format)).fault ≡ None
-      → fields_of (read_by Csv (text_of (means (escaped_shows csv_escape shows) e (outermost row_format)).text))
+      → (means (escaped_shows Csv shows) e (outermost row_format)).fault ≡ None
+      → fields_of (read_by Csv (text_of (means (escaped_shows Csv shows) e (outermost row_format)).text))
       ≡ map (item_text shows) (x ∷ xs)
   row_read e found x xs h j none =
-      ap (λ cs. fields_of (read_by Csv cs)) (escaped_parts csv_escape shows e (outermost row_format) none
+      ap (λ cs. fields_of (read_by Csv cs)) (escaped_parts Csv shows e (outermost row_format) none
       ∙ ap Text (found_row e found (x ∷ xs) h j) ∙ row_text x xs)
       ∙ last_read (item_text shows x) (map (item_text shows) xs)

@@ -1,5 +1,7 @@
 -- Reading CSV: records and fields, which may stand between quotes.
 use Rattle.std.specs.Prelude.{ℕ, List, [], ◌∷◌, ◌==◌, ◌||◌, if◌then◌else◌, Bool, true, false}
+use Rattle.interpolator_render.specs.declared.view.Spec.{Spec}
+use Rattle.interpolator_render.specs.declared.view.Trait.{Trait}
 use Rattle.interpolator_escapes.specs.Readers.{Token, content, structure}
 
 -- where a reader is: at a field's beginning, in a field without quotes, between quotes, or after a
@@ -26,6 +28,9 @@ csv_step quoted c = if c == 34 then (quote_seen, []) else (quoted, content c ∷
 csv_step quote_seen c = if c == 34 then (quoted, content c ∷ []) else bare_step c
 
 -- a value may stand between quotes
-abbrev pub is_csv_place : CsvState → Bool
-is_csv_place quoted = true
-is_csv_place _ = false
+abbrev pub is_between_quotes : CsvState → Bool
+is_between_quotes quoted = true
+is_between_quotes _ = false
+
+abbrev pub is_csv_place : CsvState → Trait → Spec → Bool
+is_csv_place s t spec = is_between_quotes s

@@ -1,12 +1,14 @@
 -- What a format without a fault means, in parts: literals, and what its values show.
 use Rattle.std.specs.Prelude.{ℕ, ◌-◌, is_some, if◌then◌else◌, length, replicate}
 use Rattle.std.specs.Prelude.{List, [], ◌∷◌, ◌++◌, Option, Some, None}
+use Rattle.std.specs.Float.{float_is_finite}
 use Rattle.interpolator_render.specs.declared.view.Trait.{Trait}
-use Rattle.interpolator_render.specs.declared.view.Trait.TheVariants.{Display}
+use Rattle.interpolator_render.specs.declared.view.Trait.TheVariants.{Debug, Display}
 use Rattle.interpolator_render.specs.declared.view.Spec.{Spec}
 use Rattle.interpolator_render.specs.Padding.{fill_of, fill_before, missing_to}
 use Rattle.interpolator_render.specs.Texts.{ViewText, has_text, has_no_text, has_failed, view_text}
-use Rattle.interpolator_render.specs.Views.{Shown}
+use Rattle.interpolator_render.specs.Views.{Shown, some_text, plain_text, one_character}
+use Rattle.interpolator_render.specs.Views.{float_number}
 use Rattle.interpolator_syntax.specs.At.{At}
 use Rattle.interpolator_syntax.specs.Nodes.{Node, node, Branch, no_branch, branch, as_forest}
 use Rattle.interpolator_syntax.specs.Nodes.{Forest, no_nodes, nodes_and, nodes}
@@ -16,7 +18,10 @@ use Rattle.interpolator_syntax.specs.SpecTexts.{plain_spec}
 use Rattle.interpolator_eval.specs.Slots.{Slots, values_of, items, slot_at}
 use Rattle.interpolator_eval.specs.Meaning.Choices.{chosen_items}
 use Rattle.interpolator_eval.specs.Meaning.Environments.{Environment, slots_under, bind}
+use Rattle.interpolator_escapes.specs.Escapes.{escape_of}
 use Rattle.interpolator_escapes.specs.Parts.{Part, literal, value, assembled}
+use Rattle.interpolator_escapes.specs.Wholes.{is_whole, json_null}
+use Rattle.interpolator_escapes.specs.declared.escape.Escape.{Escape}
 
 -- a character as it is
 abbrev pub as_it_is : ℕ → List ℕ
@@ -27,6 +32,30 @@ abbrev pub view_parts : ViewText → List Part
 view_parts (has_text cs) = value cs ∷ []
 view_parts has_no_text = []
 view_parts has_failed = []
+
+-- the parts of what is written whole: quotes are literals
+abbrev pub string_parts : List ℕ → List Part
+string_parts text = literal (34 ∷ []) ∷ value text ∷ literal (34 ∷ []) ∷ []
+
+abbrev pub whole_parts : Shown → Spec → List Part
+whole_parts (some_text text) spec = string_parts text
+whole_parts (plain_text text) spec = string_parts text
+whole_parts (one_character c) spec = string_parts (c ∷ [])
+whole_parts (float_number format x) spec =
+    if float_is_finite x then view_parts (view_text (float_number format x) Debug spec)
+    else value json_null ∷ []
+whole_parts shown spec = view_parts (view_text shown Debug spec)
+
+-- the parts of what a value shows, and of what is written of it
+abbrev pub plain_value : {X : Type 0} → (shows : X → Trait → Spec → Shown) → X → Trait → Spec
+    → List Part
+plain_value shows x t spec = view_parts (view_text (shows x t spec) t spec)
+
+abbrev pub escaped_value : {X : Type 0} → Escape → (shows : X → Trait → Spec → Shown) → X → Trait
+    → Spec → List Part
+escaped_value escape shows x t spec =
+    if is_whole escape t then whole_parts (shows x t spec) spec
+    else view_parts (view_text (shows x t spec) t spec)
 
 -- the parts of what was found
 abbrev pub found_parts : {A : Type 0} → (A → List Part) → Option A → List Part
@@ -56,10 +85,11 @@ module _ (escape : ℕ → List ℕ) where
   abbrev pub list_parts : Spec → List Part → List Part
   list_parts spec parts = if is_some spec.width then padded_parts spec parts else parts
 
-  module _ {X : Type 0} (shows : X → Trait → Spec → Shown) where
+  -- by the parts of what a value shows
+  module _ {X : Type 0} (of_value : X → Trait → Spec → List Part) where
     -- a value
     abbrev pub value_parts : Trait → Spec → Option X → List Part
-    value_parts t spec slot = found_parts (λ x. view_parts (view_text (shows x t spec) t spec)) slot
+    value_parts t spec slot = found_parts (λ x. of_value x t spec) slot
 
     -- what was found under a name, as a value or a list, by the parts of the join and of an item
     abbrev pub target_parts : Target → Spec → (join : List Part) → (Slots X → List Part) → Slots X
@@ -104,3 +134,8 @@ module _ (escape : ℕ → List ℕ) where
     -- a text
     abbrev pub parts_of : Environment X → At → List Part
     parts_of e a = forest_parts e (as_forest (nodes a))
+
+-- of a text whose values are escaped
+abbrev pub parts_by : {X : Type 0} → Escape → (shows : X → Trait → Spec → Shown) → Environment X
+    → At → List Part
+parts_by escape shows e a = parts_of (escape_of escape) (escaped_value escape shows) e a

@@ -1,29 +1,34 @@
 -- Where the values of a format stand, by its pieces alone.
 use Rattle.std.specs.Prelude.{◌≡◌, ℕ, Bool, true, ⊤, List, [], ◌∷◌, Option, Some, None}
+use Rattle.std.specs.Prelude.{if◌then◌else◌}
 use Rattle.interpolator_render.specs.declared.view.Trait.{Trait}
+use Rattle.interpolator_render.specs.declared.view.Trait.TheVariants.{Display}
 use Rattle.interpolator_render.specs.declared.view.Spec.{Spec}
 use Rattle.interpolator_render.specs.Padding.{fill_of}
-use Rattle.interpolator_render.specs.Texts.{ViewText, has_text, has_no_text, has_failed, view_text}
-use Rattle.interpolator_render.specs.Views.{Shown, plain_text, nothing_implemented, failure}
-use Rattle.std.specs.List.{flat_map}
+use Rattle.interpolator_render.specs.Texts.{has_text, view_text}
+use Rattle.interpolator_render.specs.Views.{Shown, plain_text}
 use Rattle.interpolator_eval.specs.Meaning.Meanings.{Meaning}
 use Rattle.interpolator_syntax.specs.At.{At, text_of}
 use Rattle.interpolator_syntax.specs.Nodes.{Node, node, Branch, no_branch, branch, as_forest}
 use Rattle.interpolator_syntax.specs.Nodes.{Forest, no_nodes, nodes_and, nodes}
 use Rattle.interpolator_syntax.specs.Nodes.{text_content, argument_content, fault_content}
 use Rattle.interpolator_syntax.specs.Nodes.{target_value, target_list}
+use Rattle.interpolator_syntax.specs.SpecTexts.{plain_spec}
+use Rattle.interpolator_escapes.specs.Escapes.{escape_of}
 use Rattle.interpolator_escapes.specs.Readers.{Token, structure_of, state_after, read}
+use Rattle.interpolator_escapes.specs.Wholes.{escaped_text, is_whole, whole_text, whole_view}
+use Rattle.interpolator_escapes.specs.declared.escape.Escape.{Escape}
 
--- a view's text, escaped: after it was cut and padded
-abbrev pub escaped_text : (escape : ℕ → List ℕ) → ViewText → Shown
-escaped_text escape (has_text cs) = plain_text (flat_map escape cs)
-escaped_text escape has_no_text = nothing_implemented
-escaped_text escape has_failed = failure
+-- what is shown in place of what a view shows: its text escaped, or a whole value
+abbrev pub escaped_view : Escape → Shown → Trait → Spec → Shown
+escaped_view escape shown t spec =
+    if is_whole escape t then whole_view (whole_text shown) shown spec
+    else escaped_text (escape_of escape) (view_text shown t spec)
 
--- values whose texts are escaped
-abbrev pub escaped_shows : {X : Type 0} → (escape : ℕ → List ℕ) → (shows : X → Trait → Spec → Shown)
+-- values that are written so
+abbrev pub escaped_shows : {X : Type 0} → Escape → (shows : X → Trait → Spec → Shown)
     → X → Trait → Spec → Shown
-escaped_shows escape shows x t spec = escaped_text escape (view_text (shows x t spec) t spec)
+escaped_shows escape shows x t spec = escaped_view escape (shows x t spec) t spec
 
 -- every value shows the empty text
 abbrev pub shows_nothing : {X : Type 0} → X → Trait → Spec → Shown
@@ -43,12 +48,12 @@ module _ {S : Type 0} (step : S → ℕ → S × List Token) where
   FillStays s spec None = ⊤
   FillStays s spec (Some width) = Stays s (fill_of spec ∷ [])
 
-  module _ (is_place : S → Bool) where
+  module _ (is_place : S → Trait → Spec → Bool) where
     -- the texts of values leave the reader where it is, in each place
     abbrev pub StayInPlaces : {X : Type 0} → (shows : X → Trait → Spec → Shown) → Type 0
     StayInPlaces {X} shows =
         (x : X) (t : Trait) (spec : Spec) (cs : List ℕ) (s : S)
-        → view_text (shows x t spec) t spec ≡ has_text cs → is_place s ≡ true → Stays s cs
+        → view_text (shows x t spec) t spec ≡ has_text cs → is_place s t spec ≡ true → Stays s cs
 
     abbrev mutual
       -- each value of a piece stands in a place, if the reader is at s before the piece; it is at t
@@ -60,14 +65,14 @@ module _ {S : Type 0} (step : S → ℕ → S × List Token) where
       NodeStands s (node place end kind (Some (fault_content f)) item join) t = t ≡ s
       NodeStands s (node place end kind (Some (argument_content start name spec (target_value w) q))
           item join) t =
-          (is_place s ≡ true) × (t ≡ s)
+          (is_place s w spec ≡ true) × (t ≡ s)
       NodeStands s (node place end kind (Some (argument_content start name spec (target_list range)
           q)) item join) t =
           ItemStands s item × JoinStands s join × FillStays s spec spec.width × (t ≡ s)
 
       -- an item leaves the reader where it was, and so does what is between two
       pub ItemStands : S → Branch → Type 0
-      ItemStands s no_branch = is_place s ≡ true
+      ItemStands s no_branch = is_place s Display plain_spec ≡ true
       ItemStands s (branch xs) = ForestStands s xs s
 
       pub JoinStands : S → Branch → Type 0

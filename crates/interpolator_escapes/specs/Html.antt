@@ -2,6 +2,8 @@
 use Rattle.std.specs.Prelude.{ℕ, ◌+◌, List, [], ◌∷◌, ◌++◌, ◌==◌, ◌||◌, ◌&&◌, if◌then◌else◌, Bool}
 use Rattle.std.specs.Prelude.{true, false, codes, map, nat_lt, take}
 use Rattle.std.specs.Str.{bytes_eq}
+use Rattle.interpolator_render.specs.declared.view.Spec.{Spec}
+use Rattle.interpolator_render.specs.declared.view.Trait.{Trait}
 use Rattle.interpolator_escapes.specs.Readers.{Token, content, structure}
 
 -- ---- words and characters
@@ -273,10 +275,13 @@ html_step opened c = open_step c
 html_step s c = (markup_after s c, structure c ∷ [])
 
 -- a value may stand in text, and in the value of an attribute that is a text, between quotes
-abbrev pub is_html_place : HtmlState → Bool
-is_html_place (in_base in_text) = true
-is_html_place (in_base (in_value quote element plain)) = true
-is_html_place _ = false
+abbrev pub is_text_or_value : HtmlState → Bool
+is_text_or_value (in_base in_text) = true
+is_text_or_value (in_base (in_value quote element plain)) = true
+is_text_or_value _ = false
+
+abbrev pub is_html_place : HtmlState → Trait → Spec → Bool
+is_html_place s t spec = is_text_or_value s
 
 -- a reader at the beginning of a page
 abbrev pub html_start : HtmlState

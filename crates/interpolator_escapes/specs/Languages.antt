@@ -1,5 +1,7 @@
 -- The reader of each escape, and what it reads.
 use Rattle.std.specs.Prelude.{ℕ, Bool, List, ⊤}
+use Rattle.interpolator_render.specs.declared.view.Spec.{Spec}
+use Rattle.interpolator_render.specs.declared.view.Trait.{Trait}
 use Rattle.interpolator_syntax.specs.At.{At}
 use Rattle.interpolator_escapes.specs.Readers.{Token, read}
 use Rattle.interpolator_escapes.specs.Parts.{Part, read_parts}
@@ -17,7 +19,7 @@ use Rattle.interpolator_escapes.specs.declared.escape.Escape.TheVariants.{Shell}
 pub record Language : Type 1 where
   pub State : Type 0
   pub step : State → ℕ → State × List Token
-  pub is_place : State → Bool
+  pub is_place : State → Trait → Spec → Bool
   pub start : State
 
 -- the reader that an escape is for

@@ -1,6 +1,9 @@
 -- The definitions that the contracts cite.
 pub mod Escapes
+pub mod Plain
 pub mod Readers
+pub mod Wholes
+pub mod Growth
 pub mod Lines
 pub mod Html
 pub mod Csv
@@ -11,6 +14,8 @@ pub mod Formats
 pub mod FormatParts
 pub mod Languages
 pub mod Records
+pub mod Fields
+pub mod RecordFormats
 pub mod WorkedParts
 pub mod EscapedFormats
 pub mod Search
@@ -18,5 +23,6 @@ pub mod Passing
 pub mod EscapingWriters
 pub mod CodeHtml
 pub mod CodeReaders
+pub mod CodeRecords
 pub mod PlaceTexts
 pub mod Placing

@@ -2,6 +2,8 @@
 use Rattle.std.specs.Prelude.{ℕ, ◌+◌, ◌-◌, ◌*◌, List, [], ◌∷◌, ◌==◌, if◌then◌else◌, Bool, true}
 use Rattle.std.specs.Prelude.{false}
 use Rattle.std.specs.Char.{digit_value}
+use Rattle.interpolator_render.specs.declared.view.Spec.{Spec}
+use Rattle.interpolator_render.specs.declared.view.Trait.{Trait}
 use Rattle.interpolator_escapes.specs.Escapes.{is_control}
 use Rattle.interpolator_escapes.specs.Readers.{Token, content, structure}
 
@@ -37,9 +39,12 @@ abbrev pub line_step : LineState → ℕ → LineState × List Token
 line_step s c = if is_control c then (in_line, structure c ∷ []) else line_character s c
 
 -- a value may stand anywhere but in an escape of the text around it
-abbrev pub is_line_place : LineState → Bool
-is_line_place in_line = true
-is_line_place _ = false
+abbrev pub is_between_escapes : LineState → Bool
+is_between_escapes in_line = true
+is_between_escapes _ = false
+
+abbrev pub is_line_place : LineState → Trait → Spec → Bool
+is_line_place s t spec = is_between_escapes s
 
 -- ---- controls alone, wherever they stand
 
@@ -48,5 +53,5 @@ abbrev pub control_step : Unit {0} → ℕ → Unit {0} × List Token
 control_step s c = (s, if is_control c then structure c ∷ [] else content c ∷ [])
 
 -- a value may stand anywhere
-abbrev pub everywhere : Unit {0} → Bool
-everywhere s = true
+abbrev pub everywhere : Unit {0} → Trait → Spec → Bool
+everywhere s t spec = true

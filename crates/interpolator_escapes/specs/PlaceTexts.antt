@@ -28,5 +28,5 @@ abbrev pub places_text : Escape → List ℕ
 places_text Line = codes "anywhere"
 places_text Html = codes "in text, or between the quotes of an attribute that is a text"
 places_text Csv = codes "between double quotes"
-places_text Json = codes "in a string"
+places_text Json = codes "in a string, or under `?` between strings"
 places_text Shell = codes "between single quotes, with nothing but words before it"

@@ -3,12 +3,15 @@
 use Rattle.std.specs.Prelude.{◌≡◌, ◌⊎◌, ℕ, Bool, false, true, ⊤, List, Result, Ok, Err}
 use Rattle.std.specs.Prelude.{Some, None}
 use Rattle.interpolator_render.specs.declared.view.Spec.{Spec}
+use Rattle.interpolator_render.specs.declared.view.Trait.{Trait}
+use Rattle.interpolator_render.specs.declared.view.Trait.TheVariants.{Display}
 use Rattle.interpolator_eval.specs.Meaning.Meanings.{Meaning}
 use Rattle.interpolator_syntax.specs.At.{At, text_of}
 use Rattle.interpolator_syntax.specs.Nodes.{Node, node, Branch, no_branch, branch, as_forest}
 use Rattle.interpolator_syntax.specs.Nodes.{Forest, no_nodes, nodes_and, nodes}
 use Rattle.interpolator_syntax.specs.Nodes.{text_content, argument_content, fault_content}
 use Rattle.interpolator_syntax.specs.Nodes.{target_value, target_list}
+use Rattle.interpolator_syntax.specs.SpecTexts.{plain_spec}
 use Rattle.interpolator_escapes.specs.Readers.{Token, read, structure_of}
 use Rattle.interpolator_escapes.specs.Formats.{NodeStands, ItemStands, JoinStands, ForestStands}
 use Rattle.interpolator_escapes.specs.Formats.{FillStays, Stands}
@@ -41,10 +44,11 @@ abbrev pub IfMisplaced : {A : Type 0} → Result A PlaceError → (Misplaced →
 IfMisplaced (Err (errors.Misplaced m)) fails = fails m
 IfMisplaced _ fails = ⊤
 
-module _ {S : Type 0} (step : S → ℕ → S × List Token) (is_place : S → Bool) where
+module _ {S : Type 0} (step : S → ℕ → S × List Token) (is_place : S → Trait → Spec → Bool) where
   -- a value, or a list, at `place` is not in a place
-  abbrev pub ValueFails : ℕ → S → Misplaced → Type 0
-  ValueFails place s m = (is_place s ≡ false) × (m ≡ record { place = place; why = Value })
+  abbrev pub ValueFails : ℕ → S → Trait → Spec → Misplaced → Type 0
+  ValueFails place s t spec m =
+      (is_place s t spec ≡ false) × (m ≡ record { place = place; why = Value })
 
   -- the pieces of a group stand, but leave the reader elsewhere
   abbrev pub EndsElsewhere : ℕ → Why → S → Forest → Misplaced → Type 0
@@ -66,7 +70,7 @@ module _ {S : Type 0} (step : S → ℕ → S × List Token) (is_place : S → B
     NodeFails s (node place end kind (Some (fault_content f)) item join) m = ⊥
     NodeFails s (node place end kind (Some (argument_content start name spec (target_value w) q))
         item join) m =
-        ValueFails place s m
+        ValueFails place s w spec m
     NodeFails s (node place end kind (Some (argument_content start name spec (target_list range) q))
         item join) m =
         ItemFails place s item m
@@ -76,7 +80,7 @@ module _ {S : Type 0} (step : S → ℕ → S × List Token) (is_place : S → B
 
     -- of the item of a list at `place`
     pub ItemFails : ℕ → S → Branch → Misplaced → Type 0
-    ItemFails place s no_branch m = ValueFails place s m
+    ItemFails place s no_branch m = ValueFails place s Display plain_spec m
     ItemFails place s (branch xs) m = ForestFails s xs m ⊎ EndsElsewhere place Item s xs m
 
     -- of its join
@@ -97,8 +101,8 @@ module _ {S : Type 0} (step : S → ℕ → S × List Token) (is_place : S → B
   -- where a reader is at t that began at s
   abbrev pub IsEnding : (s t : S) → Ending → Type 0
   IsEnding s t Beginning = t ≡ s
-  IsEnding s t Place = (t ≡ s → ⊥) × (is_place t ≡ true)
-  IsEnding s t Elsewhere = (t ≡ s → ⊥) × (is_place t ≡ false)
+  IsEnding s t Place = (t ≡ s → ⊥) × (is_place t Display plain_spec ≡ true)
+  IsEnding s t Elsewhere = (t ≡ s → ⊥) × (is_place t Display plain_spec ≡ false)
 
   -- all values of a text stand, and a reader ends there
   abbrev pub Ends : S → At → Ending → Type 0

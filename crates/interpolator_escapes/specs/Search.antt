@@ -1,6 +1,6 @@
 -- First bytes, by which the search for characters that are escaped goes.
-use Rattle.std.specs.Prelude.{◌≡◌, ◌<◌, ℕ, Bool, false, List, ◌==◌, ◌||◌, nat_lt, get_or, bit_xor}
-use Rattle.std.specs.Prelude.{bit_or, if◌then◌else◌}
+use Rattle.std.specs.Prelude.{◌≡◌, ◌<◌, ◌+◌, ◌%◌, ℕ, Bool, false, List, ◌==◌, ◌||◌, nat_lt, get_or}
+use Rattle.std.specs.Prelude.{bit_or, bit_xor, if◌then◌else◌}
 use Rattle.std.specs.Int.{w64, trailing_zeros}
 use Rattle.interpolator_escapes.specs.declared.escape.Escape.{Escape}
 use Rattle.interpolator_escapes.specs.declared.escape.Escape.TheVariants.{Line, Html, Csv, Json}
@@ -21,13 +21,25 @@ may_begin_escaped Shell byte = byte == 39
 abbrev pub first_mark : (marks count : ℕ) → ℕ
 first_mark marks count = if marks == 0 then count else trailing_zeros w64 marks
 
--- one of these bytes, or of a few others, which a test in fewer steps does not tell from them
-abbrev pub is_suspect : Escape → ℕ → Bool
-is_suspect Line byte = nat_lt byte 32 || nat_lt 126 byte || (byte == 92)
-is_suspect Html byte = (bit_or byte 2 == 62) || (bit_or byte 5 == 39)
-is_suspect Csv byte = may_begin_escaped Csv byte
-is_suspect Json byte = nat_lt (bit_xor byte 2) 33 || (bit_or byte 96 == 124)
-is_suspect Shell byte = may_begin_escaped Shell byte
+-- 255, if a test holds
+abbrev pub doubt_if : Bool → ℕ → ℕ
+doubt_if is_told other = if is_told then 255 else other
+
+-- how far a byte is to be doubted, in few steps
+abbrev pub doubt : Escape → ℕ → ℕ
+doubt Line byte = doubt_if (byte == 92) ((byte + 224) % 256)
+doubt Html byte = doubt_if ((bit_or byte 2 == 62) || (bit_or byte 5 == 39)) 0
+doubt Csv byte = doubt_if (byte == 34) 0
+doubt Json byte = doubt_if (bit_or byte 96 == 124) (bit_xor byte 253)
+doubt Shell byte = doubt_if (byte == 39) 0
+
+-- the greatest doubt of a byte with which none of these characters begins
+abbrev pub most_plain : Escape → ℕ
+most_plain Line = 94
+most_plain Html = 0
+most_plain Csv = 0
+most_plain Json = 222
+most_plain Shell = 0
 
 -- none does with one of so many bytes in front
 abbrev pub ArePlain : Escape → List ℕ → ℕ → Type 0

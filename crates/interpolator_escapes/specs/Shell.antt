@@ -1,5 +1,7 @@
 -- Reading a command of a POSIX shell: words, single quotes and backslashes.
 use Rattle.std.specs.Prelude.{ℕ, List, [], ◌∷◌, ◌==◌, ◌||◌, if◌then◌else◌, Bool, true, false}
+use Rattle.interpolator_render.specs.declared.view.Spec.{Spec}
+use Rattle.interpolator_render.specs.declared.view.Trait.{Trait}
 use Rattle.interpolator_escapes.specs.Readers.{Token, content, structure}
 
 -- where a reader is: outside of quotes, after a backslash there, between single quotes, or from a
@@ -27,6 +29,9 @@ shell_step single_quoted c = if c == 39 then (outside, []) else (single_quoted, 
 shell_step elsewhere c = (elsewhere, structure c ∷ [])
 
 -- a value may stand between single quotes
-abbrev pub is_shell_place : ShellState → Bool
-is_shell_place single_quoted = true
-is_shell_place _ = false
+abbrev pub is_single_quoted : ShellState → Bool
+is_single_quoted single_quoted = true
+is_single_quoted _ = false
+
+abbrev pub is_shell_place : ShellState → Trait → Spec → Bool
+is_shell_place s t spec = is_single_quoted s

@@ -12,7 +12,8 @@ pub enum Escape {
     /// A CSV field between double quotes, by RFC 4180: each double quote twice.
     Csv,
     /// A string of JSON, between its double quotes: these, `\` and the controls below U+0020 after
-    /// a backslash. `<` is written `\u003c`, so that the text may stand in a page.
+    /// a backslash. `<` is written `\u003c`, so that the text may stand in a page. Between strings, and
+    /// under `?` alone, a whole value: a text with its quotes, a number, `true`, `false` or `null`.
     Json,
     /// A word of a POSIX shell between single quotes: these as `'\''`.
     Shell,

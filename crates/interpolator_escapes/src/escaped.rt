@@ -1,11 +1,13 @@
 //! Texts, written escaped.
 ghost use Rattle.std.specs.Prelude.{◌≡◌, ◌<◌, ◌∷◌, ◌++◌, []};
+ghost use Rattle.std.specs.List.{flat_map};
 ghost use Rattle.std.specs.Str.{chars};
 ghost use Rattle.interpolator_render.specs.Written.{Puts, Writes};
 ghost use Rattle.interpolator_escapes.specs.Escapes.{escape_of, escaped, line_escape, html_escape};
 ghost use Rattle.interpolator_escapes.specs.Escapes.{csv_escape, json_escape, shell_escape};
 ghost use Rattle.interpolator_escapes.specs.Escapes.{hex_digit, two_digits, four_digits};
 ghost use Rattle.interpolator_escapes.specs.Escapes.{is_control, control_escape};
+ghost use Rattle.interpolator_escapes.specs.Wholes.{json_null, json_string};
 
 use crate::escape::Escape;
 use crate::search::split_escaped;
@@ -213,11 +215,36 @@ fn put_runs<W: TextWrite>(out: &mut W, escape: Escape, text: &str) -> Result<(),
         (W.written out.new) }
 {
     let mut rest = text;
-    while let Some((run, c, after)) = split_escaped(escape, rest) {
+    while let Some((run, c, after)) = split_escaped(escape, rest, rest.len() == text.len()) {
         put_run(out, escape, run, c)?;
         rest = after;
     }
     put_text(out, rest)
+}
+
+/// Writes a text escaped as a string of JSON, and the quote after it.
+#[tactic(auto, using(interpolator_render::proofs::LayoutLemmas::run_outcomes))]
+fn put_to_quote<W: TextWrite>(out: &mut W, text: &str) -> Result<(), Refusal>
+    ensures { Writes (W.written out.old) (flat_map json_escape (chars text.now) ++ 34 ∷ []) result
+        (W.written out.new) }
+{
+    put_escaped(out, Escape::Json, text)?;
+    put_char(out, '"')
+}
+
+/// Writes a text as a string of JSON, with its quotes.
+pub(crate) fn put_json_string<W: TextWrite>(out: &mut W, text: &str) -> Result<(), Refusal>
+    ensures { Writes (W.written out.old) (json_string (chars text.now)) result (W.written out.new) }
+{
+    put_char(out, '"')?;
+    put_to_quote(out, text)
+}
+
+/// Writes `null`.
+pub(crate) fn put_json_null<W: TextWrite>(out: &mut W) -> Result<(), Refusal>
+    ensures { Writes (W.written out.old) json_null result (W.written out.new) }
+{
+    put_text(out, "null")
 }
 
 /// Writes a text escaped. A run of characters that are not escaped is written by one call, so a

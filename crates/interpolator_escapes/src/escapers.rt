@@ -1,11 +1,10 @@
 //! The escapes as types, by which a format is written.
-ghost use Rattle.interpolator_render.specs.Texts.{view_text};
-ghost use Rattle.interpolator_escapes.specs.Escapes.{csv_escape, html_escape, json_escape};
-ghost use Rattle.interpolator_escapes.specs.Escapes.{line_escape, shell_escape};
-ghost use Rattle.interpolator_escapes.specs.Formats.{escaped_text};
+ghost use Rattle.interpolator_escapes.specs.Formats.{escaped_view};
+ghost use Rattle.interpolator_escapes.specs.declared.escape.Escape.TheVariants.{Csv, Html, Json};
+ghost use Rattle.interpolator_escapes.specs.declared.escape.Escape.TheVariants.{Line, Shell};
 
 use crate::escape::Escape;
-use crate::views::{put_text_view, put_view};
+use crate::views::{put_characters, put_text_view, put_view};
 use interpolator_eval::Escaper;
 use interpolator_render::{RenderFault, Spec, TextWrite, Trait, View};
 
@@ -25,7 +24,7 @@ pub struct JsonEscaper;
 pub struct ShellEscaper;
 
 impl Escaper for LineEscaper {
-    ghost shown = { λ shown t spec. escaped_text line_escape (view_text shown t spec) };
+    ghost shown = { escaped_view Line };
 
     #[inline(always)]
     fn put<W: TextWrite>(
@@ -34,7 +33,7 @@ impl Escaper for LineEscaper {
         wanted: Trait,
         spec: &Spec,
     ) -> Result<(), RenderFault> {
-        put_view(out, Escape::Line, view, wanted, spec)
+        put_characters(out, Escape::Line, view, wanted, spec)
     }
 
     #[inline(always)]
@@ -44,12 +43,12 @@ impl Escaper for LineEscaper {
 
     #[inline(always)]
     fn put_plainly<W: TextWrite>(out: &mut W, view: View<'_>) -> Result<(), RenderFault> {
-        put_view(out, Escape::Line, view, Trait::Display, &Spec::default())
+        put_characters(out, Escape::Line, view, Trait::Display, &Spec::default())
     }
 }
 
 impl Escaper for HtmlEscaper {
-    ghost shown = { λ shown t spec. escaped_text html_escape (view_text shown t spec) };
+    ghost shown = { escaped_view Html };
 
     #[inline(always)]
     fn put<W: TextWrite>(
@@ -58,7 +57,7 @@ impl Escaper for HtmlEscaper {
         wanted: Trait,
         spec: &Spec,
     ) -> Result<(), RenderFault> {
-        put_view(out, Escape::Html, view, wanted, spec)
+        put_characters(out, Escape::Html, view, wanted, spec)
     }
 
     #[inline(always)]
@@ -68,12 +67,12 @@ impl Escaper for HtmlEscaper {
 
     #[inline(always)]
     fn put_plainly<W: TextWrite>(out: &mut W, view: View<'_>) -> Result<(), RenderFault> {
-        put_view(out, Escape::Html, view, Trait::Display, &Spec::default())
+        put_characters(out, Escape::Html, view, Trait::Display, &Spec::default())
     }
 }
 
 impl Escaper for CsvEscaper {
-    ghost shown = { λ shown t spec. escaped_text csv_escape (view_text shown t spec) };
+    ghost shown = { escaped_view Csv };
 
     #[inline(always)]
     fn put<W: TextWrite>(
@@ -82,7 +81,7 @@ impl Escaper for CsvEscaper {
         wanted: Trait,
         spec: &Spec,
     ) -> Result<(), RenderFault> {
-        put_view(out, Escape::Csv, view, wanted, spec)
+        put_characters(out, Escape::Csv, view, wanted, spec)
     }
 
     #[inline(always)]
@@ -92,12 +91,12 @@ impl Escaper for CsvEscaper {
 
     #[inline(always)]
     fn put_plainly<W: TextWrite>(out: &mut W, view: View<'_>) -> Result<(), RenderFault> {
-        put_view(out, Escape::Csv, view, Trait::Display, &Spec::default())
+        put_characters(out, Escape::Csv, view, Trait::Display, &Spec::default())
     }
 }
 
 impl Escaper for JsonEscaper {
-    ghost shown = { λ shown t spec. escaped_text json_escape (view_text shown t spec) };
+    ghost shown = { escaped_view Json };
 
     #[inline(always)]
     fn put<W: TextWrite>(
@@ -116,12 +115,12 @@ impl Escaper for JsonEscaper {
 
     #[inline(always)]
     fn put_plainly<W: TextWrite>(out: &mut W, view: View<'_>) -> Result<(), RenderFault> {
-        put_view(out, Escape::Json, view, Trait::Display, &Spec::default())
+        put_characters(out, Escape::Json, view, Trait::Display, &Spec::default())
     }
 }
 
 impl Escaper for ShellEscaper {
-    ghost shown = { λ shown t spec. escaped_text shell_escape (view_text shown t spec) };
+    ghost shown = { escaped_view Shell };
 
     #[inline(always)]
     fn put<W: TextWrite>(
@@ -130,7 +129,7 @@ impl Escaper for ShellEscaper {
         wanted: Trait,
         spec: &Spec,
     ) -> Result<(), RenderFault> {
-        put_view(out, Escape::Shell, view, wanted, spec)
+        put_characters(out, Escape::Shell, view, wanted, spec)
     }
 
     #[inline(always)]
@@ -140,6 +139,6 @@ impl Escaper for ShellEscaper {
 
     #[inline(always)]
     fn put_plainly<W: TextWrite>(out: &mut W, view: View<'_>) -> Result<(), RenderFault> {
-        put_view(out, Escape::Shell, view, Trait::Display, &Spec::default())
+        put_characters(out, Escape::Shell, view, Trait::Display, &Spec::default())
     }
 }

@@ -4,7 +4,7 @@ ghost use Rattle.std.specs.Str.{chars};
 ghost use Rattle.interpolator_render.specs.Texts.{Renders, view_text};
 ghost use Rattle.interpolator_render.specs.Views.{IsInRange, shown_by};
 ghost use Rattle.interpolator_escapes.specs.Escapes.{escape_of, escaped};
-ghost use Rattle.interpolator_escapes.specs.Formats.{escaped_text};
+ghost use Rattle.interpolator_escapes.specs.Wholes.{escaped_text};
 ghost use Rattle.interpolator_escapes.specs.Passing.{HasFront, HasWhole, LacksEnd, NextGoesOver};
 ghost use Rattle.interpolator_escapes.specs.Passing.{got, or_refused};
 

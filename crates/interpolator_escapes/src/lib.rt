@@ -19,6 +19,7 @@ mod escape;
 mod escaped;
 mod escapers;
 mod escaping;
+mod fields;
 pub mod laws;
 mod misplaced;
 pub mod place_laws;
@@ -26,7 +27,12 @@ mod place_text;
 mod placing;
 #[cfg(test)]
 mod placing_tests;
+mod plain;
 pub mod readers;
+pub mod record_laws;
+#[cfg(test)]
+mod record_tests;
+mod records;
 mod search;
 mod taken;
 #[cfg(test)]
@@ -40,7 +46,9 @@ pub use ending::Ending;
 pub use escape::Escape;
 pub use escaped::put_escaped;
 pub use escapers::{CsvEscaper, HtmlEscaper, JsonEscaper, LineEscaper, ShellEscaper};
+pub use fields::RecordEscaper;
 pub use misplaced::{Misplaced, PlaceError, Why};
 pub use place_text::places_of;
 pub use placing::check_stands;
+pub use records::{check_record, check_record_pieces};
 pub use views::{put_text_view, put_view};

@@ -61,7 +61,7 @@ pub fn places_of(escape: Escape) -> &'static str
         Escape::Line => "anywhere",
         Escape::Html => "in text, or between the quotes of an attribute that is a text",
         Escape::Csv => "between double quotes",
-        Escape::Json => "in a string",
+        Escape::Json => "in a string, or under `?` between strings",
         Escape::Shell => "between single quotes, with nothing but words before it",
     }
 }

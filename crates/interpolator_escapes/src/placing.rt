@@ -2,8 +2,10 @@
 ghost use Rattle.std.specs.Prelude.{◌≡◌, ◌↔◌, ◌<◌, ◌∷◌, [], IfOk, IsTrue, length, true};
 ghost use Rattle.std.specs.Str.{chars};
 ghost use Rattle.interpolator_render.specs.Padding.{fill_of};
+ghost use Rattle.interpolator_render.specs.declared.view.Trait.TheVariants.{Display};
 ghost use Rattle.interpolator_syntax.specs.At.{outermost};
 ghost use Rattle.interpolator_syntax.specs.Nodes.{as_forest, nodes};
+ghost use Rattle.interpolator_syntax.specs.SpecTexts.{plain_spec};
 ghost use Rattle.interpolator_pieces.specs.Stored.{branch_of, detail_of, forest_whole, node_of};
 ghost use Rattle.interpolator_pieces.specs.Stored.{node_whole, nodes_of};
 ghost use Rattle.interpolator_pieces.specs.StoredLists.{is_list_form};
@@ -21,7 +23,7 @@ use crate::ending::Ending;
 use crate::misplaced::{Misplaced, PlaceError, Why};
 use crate::readers::Reader;
 use interpolator_pieces::{Form, Piece, form_of, spec_of, text_of};
-use interpolator_render::Spec;
+use interpolator_render::{Spec, Trait};
 use std::alloc::AllocError;
 
 /// Reads a literal.
@@ -48,18 +50,31 @@ fn stays<R: Reader>(reader: &R, c: char) -> Result<bool, AllocError>
     Ok(after.is_at(reader))
 }
 
-/// Requires that a value which begins at `place` stands here.
-fn place_value<R: Reader>(reader: &R, place: usize) -> Result<(), PlaceError>
-    ensures { Placed (R.places (R.state reader.now) ≡ true)
-        (ValueFails R.step R.places place (R.state reader.now)) result }
+/// Requires that a value which begins at `place`, shown under a trait and a spec, stands here.
+fn place_value<R: Reader>(
+    reader: &R,
+    wanted: Trait,
+    spec: &Spec,
+    place: usize,
+) -> Result<(), PlaceError>
+    ensures { Placed (R.places (R.state reader.now) wanted spec.now ≡ true)
+        (ValueFails R.step R.places place (R.state reader.now) wanted spec.now) result }
 {
-    if reader.is_place() {
+    if reader.is_place(wanted, spec) {
         return Ok(());
     }
     Err(PlaceError::Misplaced(Misplaced {
         place,
         why: Why::Value,
     }))
+}
+
+/// Requires that a value which begins at `place`, displayed plainly, stands here.
+fn place_plain<R: Reader>(reader: &R, place: usize) -> Result<(), PlaceError>
+    ensures { Placed (R.places (R.state reader.now) Display plain_spec ≡ true)
+        (ValueFails R.step R.places place (R.state reader.now) Display plain_spec) result }
+{
+    place_value(reader, Trait::Display, &Spec::default(), place)
 }
 
 /// Requires that a reader is where it was before the pieces of a group.
@@ -123,8 +138,8 @@ fn place_piece<R: Reader>(reader: &mut R, text: &str, piece: &Piece) -> Result<(
 {
     match form_of(piece) {
         Form::Text => read_text(reader, text_of(text, piece)),
-        Form::Plain => place_value(reader, piece.place),
-        Form::Value(_) => place_value(reader, piece.place),
+        Form::Plain => place_plain(reader, piece.place),
+        Form::Value(wanted) => place_value(reader, wanted, &spec_of(piece), piece.place),
         Form::List(_) => place_list(reader, text, piece),
         Form::Broken(_) => Ok(()),
     }
@@ -160,7 +175,7 @@ fn place_item<R: Reader>(reader: &R, text: &str, piece: &Piece) -> Result<(), Pl
             place_all(&mut inner, text, pieces)?;
             require_at(&inner, reader, piece.place, Why::Item)
         }
-        None => place_value(reader, piece.place),
+        None => place_plain(reader, piece.place),
     }
 }
 
@@ -190,7 +205,7 @@ fn ending_of<R: Reader>(start: &R, reader: &R) -> Ending
     if reader.is_at(start) {
         return Ending::Beginning;
     }
-    if reader.is_place() {
+    if reader.is_place(Trait::Display, &Spec::default()) {
         return Ending::Place;
     }
     Ending::Elsewhere

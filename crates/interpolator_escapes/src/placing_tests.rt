@@ -45,7 +45,7 @@ const CSV: [Row; 16] = [
     ("\"{l:i({})(\",{m:i}\")}{a}\"", Some((12, Why::Value))),
 ];
 
-const JSON: [Row; 17] = [
+const JSON: [Row; 29] = [
     ("{{\"name\":\"{a}\"}}", None),
     ("[{l:i(\"{}\")(,)}]", None),
     ("\"\\n{a}\"", None),
@@ -63,6 +63,18 @@ const JSON: [Row; 17] = [
     ("\"{l:\\>9i}\"", Some((1, Why::Fill))),
     ("\"{l:\n>9i}\"", Some((1, Why::Fill))),
     ("\"{l:\u{7f}>9i}\"", None),
+    ("{{\"n\":{a:?},\"t\":[{b:?}]}}", None),
+    ("[{a:.2?},{b:<8?},{c: ^9?}]", None),
+    ("[{l:i({:?})(, )}]", None),
+    ("[{l:9i({:?})(, )}]", None),
+    ("\"{a:?}\"", Some((1, Why::Value))),
+    ("[{a:?},{b}]", Some((7, Why::Value))),
+    ("[{a:+?}]", Some((1, Why::Value))),
+    ("[{a:05?}]", Some((1, Why::Value))),
+    ("[{a:*>5?}]", Some((1, Why::Value))),
+    ("[{a:x?}]", Some((1, Why::Value))),
+    ("[{a:e}]", Some((1, Why::Value))),
+    ("[{l:,>9i({:?})(, )}]", Some((1, Why::Fill))),
 ];
 
 const SHELL: [Row; 9] = [

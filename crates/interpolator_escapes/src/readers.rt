@@ -1,5 +1,7 @@
 //! Readers of the languages in which values are shown, as `specs/` defines them.
 ghost use Rattle.std.specs.Prelude.{◌≡◌, ◌↔◌, ℕ, Bool, IfOk, IsTrue, List};
+ghost use Rattle.interpolator_render.specs.declared.view.Spec.{Spec};
+ghost use Rattle.interpolator_render.specs.declared.view.Trait.{Trait};
 ghost use Rattle.interpolator_escapes.specs.CodeReaders.{ReadsOne};
 ghost use Rattle.interpolator_escapes.specs.Readers.{Token};
 
@@ -11,7 +13,9 @@ mod shell;
 
 pub use controls::ControlReader;
 pub use csv::CsvReader;
+pub(crate) use csv::{csv_after, ends_field};
 pub use html::HtmlReader;
+use interpolator_render::{Spec, Trait};
 pub use json::JsonReader;
 pub use shell::ShellReader;
 use std::alloc::AllocError;
@@ -29,15 +33,15 @@ pub trait Reader: Drop {
     // what it reads, and where it is then
     ghost step: { State → ℕ → State × List Token };
 
-    ghost places: { State → Bool };
+    ghost places: { State → Trait → Spec → Bool };
 
     /// Reads a character, and returns whether there was any structure.
     fn read(&mut self, c: char) -> Result<bool, AllocError>
         ensures { IfOk result (ReadsOne step (state self.old) c (state self.new)) };
 
-    /// Tests whether a value may stand here.
-    fn is_place(&self) -> bool
-        ensures { result ≡ places (state self.now) };
+    /// Tests whether a value that is shown under a trait and a spec may stand here.
+    fn is_place(&self, wanted: Trait, spec: &Spec) -> bool
+        ensures { result ≡ places (state self.now) wanted spec.now };
 
     /// Tests whether another reader is in the same state.
     fn is_at(&self, other: &Self) -> bool

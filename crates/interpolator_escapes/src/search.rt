@@ -5,8 +5,8 @@ ghost use Rattle.std.specs.List.{prefix_len};
 ghost use Rattle.std.specs.Simd.Lanes.{mask_l};
 ghost use Rattle.std.specs.Str.{chars};
 ghost use Rattle.interpolator_escapes.specs.Escapes.{escaped};
-ghost use Rattle.interpolator_escapes.specs.Search.{ArePlain, may_begin_escaped, is_suspect};
-ghost use Rattle.interpolator_escapes.specs.Search.{first_mark};
+ghost use Rattle.interpolator_escapes.specs.Search.{ArePlain, may_begin_escaped, doubt, doubt_if};
+ghost use Rattle.interpolator_escapes.specs.Search.{first_mark, most_plain};
 ghost use Rattle.interpolator_escapes.specs.declared.escape.Escape.TheVariants.{Line, Html, Csv, Json};
 ghost use Rattle.interpolator_escapes.specs.declared.escape.Escape.TheVariants.{Shell};
 
@@ -19,6 +19,9 @@ const BLOCK: usize = 16;
 
 /// How many bytes are tested at once for what is rare in plain texts.
 const WIDE_BLOCK: usize = 64;
+
+/// How many are where nothing has been escaped so far.
+const WIDEST_BLOCK: usize = 256;
 
 /// Returns whether a character that begins with this byte may be escaped. In a line, past ASCII,
 /// that is told by the first bytes of U+0080 to U+00BF, of U+0600 to U+063F, of U+2000 to U+2FFF.
@@ -44,18 +47,38 @@ fn may_begin_escaped(escape: Escape, byte: u8) -> bool
     }
 }
 
-/// Returns whether a byte is one of [`may_begin_escaped`], or one of a few others: in a line, one
-/// that is not ASCII. This takes fewer steps.
+/// Returns how far a byte is to be doubted: up to [`most_plain`], no character that may be escaped
+/// begins with it. Of few others this is so, too. A greatest doubt takes fewer steps than a test.
 #[inline(always)]
-fn is_suspect(escape: Escape, byte: u8) -> bool
-    ensures { result ≡ is_suspect escape byte }
+fn doubt(escape: Escape, byte: u8) -> u8
+    ensures { result ≡ doubt escape byte }
 {
     match escape {
-        Escape::Line => byte < b' ' || b'~' < byte || byte == b'\\',
-        Escape::Html => byte | 2 == b'>' || byte | 5 == b'\'',
-        Escape::Csv => byte == b'"',
-        Escape::Json => byte ^ 2 <= b' ' || byte | 0x60 == b'|',
-        Escape::Shell => byte == b'\'',
+        Escape::Line => doubt_if(byte == b'\\', byte.wrapping_sub(b' ')),
+        Escape::Html => doubt_if(byte | 2 == b'>' || byte | 5 == b'\'', 0),
+        Escape::Csv => doubt_if(byte == b'"', 0),
+        Escape::Json => doubt_if(byte | 0x60 == b'|', byte ^ 0xfd),
+        Escape::Shell => doubt_if(byte == b'\'', 0),
+    }
+}
+
+/// The greatest doubt of a byte that is told at once, and else this one.
+#[inline(always)]
+fn doubt_if(is_told: bool, other: u8) -> u8
+    ensures { result ≡ doubt_if is_told other }
+{
+    if is_told { 255 } else { other }
+}
+
+/// Returns the greatest doubt of a byte that begins no character that may be escaped.
+#[inline(always)]
+fn most_plain(escape: Escape) -> u8
+    ensures { result ≡ most_plain escape }
+{
+    match escape {
+        Escape::Line => 94,
+        Escape::Json => 222,
+        _ => 0,
     }
 }
 
@@ -145,35 +168,50 @@ fn front_of_block(escape: Escape, bytes: &[u8], from: usize) -> usize
 
 /// Returns whether no byte begins a character that may be escaped; it may say no of some that are
 /// so. All are tested, so that the compiler tests them side by side.
-#[tactic(auto, using(crate::proofs::SuspectLemmas::suspects))]
 #[inline(always)]
 fn are_surely_plain(escape: Escape, bytes: &[u8]) -> bool
     ensures { result ≡ true → ArePlain escape bytes.now (length bytes.now) }
 {
-    let mut found = false;
+    let mut most = 0u8;
     for byte in bytes {
-        found = found | is_suspect(escape, *byte);
+        most = most.max(doubt(escape, *byte));
     }
-    !found
+    most <= most_plain(escape)
 }
 
 /// Returns a place up to which no byte begins a character that may be escaped, from one on up to
-/// which none does: after as many wide blocks as there are of bytes that are no suspects.
+/// which none does: after as many blocks of `N` as there are of bytes that are surely plain.
 #[inline(always)]
-fn past_wide_blocks(escape: Escape, bytes: &[u8], from: usize) -> usize
+fn past_wide_blocks<const N: usize>(escape: Escape, bytes: &[u8], from: usize) -> usize
+    requires some { 0 < N }
     requires within { from ≤ length bytes.now }
     requires plain { ArePlain escape bytes.now from }
     ensures within { result ≤ length bytes.now }
     ensures plain { ArePlain escape bytes.now result }
 {
     let mut end = from;
-    while bytes.len() - end >= WIDE_BLOCK {
-        if !are_surely_plain(escape, &bytes[end..end + WIDE_BLOCK]) {
+    while bytes.len() - end >= N {
+        if !are_surely_plain(escape, &bytes[end..end + N]) {
             return end;
         }
-        end += WIDE_BLOCK;
+        end += N;
     }
     end
+}
+
+/// As [`past_wide_blocks`], of the widest blocks, if none has been escaped yet.
+#[inline(always)]
+fn past_widest_blocks(escape: Escape, bytes: &[u8], from: usize, is_first: bool) -> usize
+    requires within { from ≤ length bytes.now }
+    requires plain { ArePlain escape bytes.now from }
+    ensures within { result ≤ length bytes.now }
+    ensures plain { ArePlain escape bytes.now result }
+{
+    if is_first {
+        past_wide_blocks::<WIDEST_BLOCK>(escape, bytes, from)
+    } else {
+        from
+    }
 }
 
 /// As [`past_wide_blocks`], but the first byte that begins such a character, if it is in a whole
@@ -218,7 +256,7 @@ fn first_between(escape: Escape, bytes: &[u8], from: usize, end: usize) -> usize
 /// Returns the place of the first byte that begins a character that may be escaped, from a place on
 /// up to which none does; the end, if there is none.
 #[inline(always)]
-fn first_from(escape: Escape, bytes: &[u8], from: usize) -> usize
+fn first_from(escape: Escape, bytes: &[u8], from: usize, is_first: bool) -> usize
     requires within { from ≤ length bytes.now }
     requires plain { ArePlain escape bytes.now from }
     ensures within { result ≤ length bytes.now }
@@ -226,14 +264,15 @@ fn first_from(escape: Escape, bytes: &[u8], from: usize) -> usize
     ensures begins { result < length bytes.now
         → may_begin_escaped escape (get_or bytes.now result 0) ≡ true }
 {
-    let wide = past_wide_blocks(escape, bytes, from);
+    let widest = past_widest_blocks(escape, bytes, from, is_first);
+    let wide = past_wide_blocks::<WIDE_BLOCK>(escape, bytes, widest);
     let blocks = past_blocks(escape, bytes, wide);
     first_between(escape, bytes, blocks, bytes.len())
 }
 
 /// As [`first_from`], which is compiled for each escape by itself.
 #[inline(never)]
-fn far_front(escape: Escape, bytes: &[u8], from: usize) -> usize
+fn far_front(escape: Escape, bytes: &[u8], from: usize, is_first: bool) -> usize
     requires within { from ≤ length bytes.now }
     requires plain { ArePlain escape bytes.now from }
     ensures within { result ≤ length bytes.now }
@@ -242,18 +281,18 @@ fn far_front(escape: Escape, bytes: &[u8], from: usize) -> usize
         → may_begin_escaped escape (get_or bytes.now result 0) ≡ true }
 {
     match escape {
-        Escape::Line => first_from(Escape::Line, bytes, from),
-        Escape::Html => first_from(Escape::Html, bytes, from),
-        Escape::Csv => first_from(Escape::Csv, bytes, from),
-        Escape::Json => first_from(Escape::Json, bytes, from),
-        Escape::Shell => first_from(Escape::Shell, bytes, from),
+        Escape::Line => first_from(Escape::Line, bytes, from, is_first),
+        Escape::Html => first_from(Escape::Html, bytes, from, is_first),
+        Escape::Csv => first_from(Escape::Csv, bytes, from, is_first),
+        Escape::Json => first_from(Escape::Json, bytes, from, is_first),
+        Escape::Shell => first_from(Escape::Shell, bytes, from, is_first),
     }
 }
 
 /// Returns the place of the first byte that begins a character that may be escaped; the end, if
 /// there is none.
 #[inline(always)]
-fn plain_front(escape: Escape, bytes: &[u8]) -> usize
+fn plain_front(escape: Escape, bytes: &[u8], is_first: bool) -> usize
     ensures within { result ≤ length bytes.now }
     ensures plain { ArePlain escape bytes.now result }
     ensures begins { result < length bytes.now
@@ -266,20 +305,24 @@ fn plain_front(escape: Escape, bytes: &[u8]) -> usize
     if near < BLOCK {
         return near;
     }
-    far_front(escape, bytes, BLOCK)
+    far_front(escape, bytes, BLOCK, is_first)
 }
 
 /// Returns the longest front that has no character that may be escaped, the character after it, and
 /// what comes then; none, if the whole text is such a front.
 #[inline(always)]
-pub(crate) fn split_escaped(escape: Escape, text: &str) -> Option<(&str, char, &str)>
+pub(crate) fn split_escaped(
+    escape: Escape,
+    text: &str,
+    is_first: bool,
+) -> Option<(&str, char, &str)>
     ensures parts { MatchOption result (escaped escape (chars text.now) ≡ chars text.now)
         (λ r. (chars text.now ≡ chars r.0.now ++ r.1 ∷ chars r.2.now)
         × (escaped escape (chars r.0.now) ≡ chars r.0.now)) }
     ensures utf8 { IfSome result (λ r. IsUtf8 r.2.now) }
     ensures shorter { IfSome result (λ r. length r.2.now < length text.now) }
 {
-    let (run, rest) = text.split_at(plain_front(escape, text.as_bytes()));
+    let (run, rest) = text.split_at(plain_front(escape, text.as_bytes(), is_first));
     match split_first(rest) {
         Some((c, after)) => Some((run, c, after)),
         None => None,

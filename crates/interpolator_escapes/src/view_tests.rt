@@ -27,7 +27,7 @@ const PLAIN: Spec = Spec {
 };
 
 #[rattlefmt::skip]
-const ROWS: [Row; 37] = [
+const ROWS: [Row; 50] = [
     // each kind of view
     (Escape::Html, View::Text("<b>"), Trait::Display, PLAIN, "&lt;b&gt;"),
     (Escape::Html, View::Character('<'), Trait::Display, PLAIN, "&lt;"),
@@ -61,7 +61,6 @@ const ROWS: [Row; 37] = [
     (Escape::Html, View::Character('\''), Trait::Debug, PLAIN, "&#39;\\&#39;&#39;"),
     (Escape::Shell, View::Character('\''), Trait::Debug, PLAIN, "'\\''\\'\\'''\\''"),
     (Escape::Csv, View::Text("a\"b"), Trait::Debug, PLAIN, "\"\"a\\\"\"b\"\""),
-    (Escape::Json, View::Text("a\nb"), Trait::Debug, PLAIN, "\\\"a\\\\nb\\\""),
     (Escape::Line, View::Text("\u{1b}"), Trait::Debug, PLAIN, "\"\\\\u{1b}\""),
     // numbers in other forms have no character that is escaped
     (Escape::Html, View::Unsigned(255), Trait::LowerHex, Spec { alternate: true, ..PLAIN }, "0xff"),
@@ -71,6 +70,22 @@ const ROWS: [Row; 37] = [
     (Escape::Shell, View::Decimal { units: -5, scale: 1 }, Trait::Debug, Spec { precision: Some(2), ..PLAIN }, "-0.50"),
     (Escape::Line, View::Text("a\tb"), Trait::Display, PLAIN, "a\\tb"),
     (Escape::Shell, View::Text("it's"), Trait::Display, PLAIN, "it'\\''s"),
+    // debug writes a whole value of JSON: a text with its quotes, whatever the spec is
+    (Escape::Json, View::Text("a\nb"), Trait::Debug, PLAIN, "\"a\\nb\""),
+    (Escape::Json, View::Text(""), Trait::Debug, Spec { width: Some(3), ..PLAIN }, "\"\""),
+    (Escape::Json, View::Text("</é\"\\"), Trait::Debug, Spec { precision: Some(1), ..PLAIN }, "\"\\u003c/é\\\"\\\\\""),
+    (Escape::Json, View::Plain("12 a"), Trait::Debug, PLAIN, "\"12 a\""),
+    (Escape::Json, View::Character('"'), Trait::Debug, PLAIN, "\"\\\"\""),
+    // a number or a truth value as debug shows it, but a float that is not finite
+    (Escape::Json, View::Signed(-7, Bits::B8), Trait::Debug, Spec { width: Some(4), ..PLAIN }, "  -7"),
+    (Escape::Json, View::Unsigned(340282366920938463463374607431768211455), Trait::Debug, PLAIN, "340282366920938463463374607431768211455"),
+    (Escape::Json, View::Truth(true), Trait::Debug, PLAIN, "true"),
+    (Escape::Json, View::Decimal { units: -5, scale: 1 }, Trait::Debug, Spec { precision: Some(2), ..PLAIN }, "-0.50"),
+    (Escape::Json, View::Float(2.0), Trait::Debug, PLAIN, "2.0"),
+    (Escape::Json, View::Float(1e300), Trait::Debug, PLAIN, "1e300"),
+    (Escape::Json, View::Float32(0.25), Trait::Debug, Spec { precision: Some(1), ..PLAIN }, "0.2"),
+    (Escape::Json, View::Float(f64::NAN), Trait::Debug, Spec { width: Some(6), ..PLAIN }, "null"),
+    (Escape::Json, View::Float32(f32::NEG_INFINITY), Trait::Debug, PLAIN, "null"),
 ];
 
 /// Writes a row's view.

@@ -3,6 +3,7 @@ ghost use Rattle.interpolator_escapes.specs.Lines.{control_step, everywhere};
 
 use crate::escaped::is_control;
 use crate::readers::Reader;
+use interpolator_render::{Spec, Trait};
 use std::alloc::AllocError;
 
 /// A reader that tells controls from other characters. A value may stand anywhere.
@@ -22,7 +23,7 @@ impl Reader for ControlReader {
         Ok(is_control(c))
     }
 
-    fn is_place(&self) -> bool {
+    fn is_place(&self, _wanted: Trait, _spec: &Spec) -> bool {
         true
     }
 

@@ -3,8 +3,11 @@ ghost use Rattle.std.specs.Prelude.{◌≡◌};
 ghost use Rattle.interpolator_escapes.specs.Csv.{CsvState, bare_step, csv_step, ends_field};
 ghost use Rattle.interpolator_escapes.specs.Csv.{is_csv_place};
 ghost use Rattle.interpolator_escapes.specs.CodeReaders.{csv_state, has_structure};
+ghost use Rattle.interpolator_escapes.specs.Readers.{state_after};
+ghost use Rattle.std.specs.Str.{chars};
 
 use crate::readers::Reader;
+use interpolator_render::{Spec, Trait};
 use std::alloc::AllocError;
 
 /// Where a reader of CSV is. A value may stand between quotes.
@@ -21,7 +24,7 @@ pub enum CsvReader {
 }
 
 /// Tests for a character that ends a field without quotes.
-fn ends_field(c: char) -> bool
+pub(crate) fn ends_field(c: char) -> bool
     ensures { result ≡ ends_field c }
 {
     c == ',' || c == '\r' || c == '\n'
@@ -65,6 +68,17 @@ fn after(state: CsvReader, c: char) -> (CsvReader, bool)
     }
 }
 
+/// The state after a text.
+pub(crate) fn csv_after(state: CsvReader, text: &str) -> CsvReader
+    ensures { csv_state result ≡ state_after csv_step (csv_state state) (chars text.now) }
+{
+    let mut here = state;
+    for c in text.chars() {
+        (here, _) = after(here, c);
+    }
+    here
+}
+
 impl Reader for CsvReader {
     ghost State = { CsvState };
 
@@ -80,7 +94,7 @@ impl Reader for CsvReader {
         Ok(is_structure)
     }
 
-    fn is_place(&self) -> bool {
+    fn is_place(&self, _wanted: Trait, _spec: &Spec) -> bool {
         match *self {
             CsvReader::Quoted => true,
             _ => false,

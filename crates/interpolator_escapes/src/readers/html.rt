@@ -11,6 +11,7 @@ mod values;
 
 use crate::readers::Reader;
 use crate::readers::html::names::{Phase, Quotes, ValueKind};
+use interpolator_render::{Spec, Trait};
 use std::alloc::{AllocError, Global};
 
 /// Where a reader of HTML is. It takes memory for the names of elements, attributes and references.
@@ -62,7 +63,7 @@ impl Reader for HtmlReader {
         }
     }
 
-    fn is_place(&self) -> bool {
+    fn is_place(&self, _wanted: Trait, _spec: &Spec) -> bool {
         match self.phase {
             Phase::InText => true,
             Phase::InValue => self.kind == ValueKind::Plain,

@@ -1,14 +1,16 @@
 //! Reading JSON.
-ghost use Rattle.std.specs.Prelude.{◌≡◌, ◌↔◌, ◌+◌, ◌*◌, IsTrue, false, true};
+ghost use Rattle.std.specs.Prelude.{◌≡◌, ◌↔◌, ◌+◌, ◌*◌, IsTrue, false};
 ghost use Rattle.std.specs.Char.{digit_value};
 ghost use Rattle.interpolator_escapes.specs.Json.{JsonState, after_slash, between, in_string};
 ghost use Rattle.interpolator_escapes.specs.Json.{is_json_place, json_step};
 ghost use Rattle.interpolator_escapes.specs.CodeReaders.{has_structure, json_state};
 
+use crate::plain::{is_bare, is_debug, is_plain};
 use crate::readers::Reader;
+use interpolator_render::{Spec, Trait};
 use std::alloc::AllocError;
 
-/// Where a reader of JSON is. A value may stand in a string.
+/// Where a reader of JSON is. A value may stand in a string, or under debug between strings.
 #[derive(Clone, Copy, Debug)]
 pub enum JsonReader {
     /// Between strings.
@@ -37,15 +39,15 @@ fn digit_value(c: char) -> u8
     }
 }
 
-/// The state after a character between strings. All of it is structure.
-fn after_between(c: char) -> JsonReader
-    ensures state { json_state result ≡ (json_step between c).0 }
-    ensures structure { true ≡ has_structure (json_step between c).1 }
+/// The state after a character between strings, and whether it is structure.
+fn after_between(c: char) -> (JsonReader, bool)
+    ensures state { json_state result.0 ≡ (json_step between c).0 }
+    ensures structure { result.1 ≡ has_structure (json_step between c).1 }
 {
     if c == '"' {
-        return JsonReader::InString;
+        return (JsonReader::InString, false);
     }
-    JsonReader::Between
+    (JsonReader::Between, !is_plain(c))
 }
 
 /// The state after a character in a string, and whether it is structure.
@@ -54,7 +56,7 @@ fn after_in_string(c: char) -> (JsonReader, bool)
     ensures structure { result.1 ≡ has_structure (json_step in_string c).1 }
 {
     if c == '"' {
-        return (JsonReader::Between, true);
+        return (JsonReader::Between, false);
     }
     if c == '\\' {
         return (JsonReader::AfterSlash, false);
@@ -79,7 +81,7 @@ fn after(state: JsonReader, c: char) -> (JsonReader, bool)
     ensures structure { result.1 ≡ has_structure (json_step (json_state state) c).1 }
 {
     match state {
-        JsonReader::Between => (after_between(c), true),
+        JsonReader::Between => after_between(c),
         JsonReader::InString => after_in_string(c),
         JsonReader::AfterSlash => (after_slash(c), false),
         JsonReader::FirstDigit => (JsonReader::SecondDigit(digit_value(c)), false),
@@ -131,9 +133,10 @@ impl Reader for JsonReader {
         Ok(is_structure)
     }
 
-    fn is_place(&self) -> bool {
+    fn is_place(&self, wanted: Trait, spec: &Spec) -> bool {
         match *self {
-            JsonReader::InString => true,
+            JsonReader::Between => is_debug(wanted) && is_bare(spec),
+            JsonReader::InString => !is_debug(wanted),
             _ => false,
         }
     }

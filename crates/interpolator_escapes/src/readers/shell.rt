@@ -5,6 +5,7 @@ ghost use Rattle.interpolator_escapes.specs.Shell.{outside, shell_step, single_q
 ghost use Rattle.interpolator_escapes.specs.CodeReaders.{has_structure, shell_state};
 
 use crate::readers::Reader;
+use interpolator_render::{Spec, Trait};
 use std::alloc::AllocError;
 
 /// Where a reader of a command is. A value may stand between single quotes.
@@ -83,7 +84,7 @@ impl Reader for ShellReader {
         Ok(is_structure)
     }
 
-    fn is_place(&self) -> bool {
+    fn is_place(&self, _wanted: Trait, _spec: &Spec) -> bool {
         match *self {
             ShellReader::SingleQuoted => true,
             _ => false,

@@ -1,6 +1,5 @@
-use Rattle.interpolator_escapes.specs.Escapes.{escape_of}
 use Rattle.interpolator_escapes.proofs.FaultLemmas.{escaped_fault}
 use Rattle.interpolator_escapes.proofs.laws.escapes_make_no_fault.Goals as goal
 
 pub returns : goal.returns
-returns g c = λ escape e a. escaped_fault (escape_of escape) g.V.Value.shows e a
+returns g c = λ escape e a. escaped_fault escape g.V.Value.shows e a

@@ -8,6 +8,7 @@ use Rattle.interpolator_syntax.specs.SpecTexts.{spec_from_sign, spec_after}
 use Rattle.interpolator_syntax.specs.Tokens.{first_token}
 use Rattle.interpolator_syntax.specs.Nodes.{nodes}
 use Rattle.interpolator_escapes.specs.Csv.{quoted, quote_seen}
+use Rattle.interpolator_escapes.specs.Json.{between, in_string}
 use Rattle.interpolator_escapes.specs.Html.{in_base, in_value, double, plain, html_start}
 use Rattle.std.proofs.Common.{codes}
 use Rattle.interpolator_escapes.proofs.laws.worked_places.Goals as goal
@@ -64,6 +65,24 @@ returns c = record {
       quoted,
       ((quoted, (refl, refl), refl), (quoted, refl, refl), tt, refl),
       (quote_seen, refl, refl),
+    ),
+  );
+  json = (
+    between,
+    refl,
+    (
+      in_string,
+      refl,
+      (in_string, (refl, refl), (between, refl, (between, (refl, refl), (between, refl, refl)))),
+    ),
+  );
+  array = (
+    between,
+    refl,
+    (
+      between,
+      ((between, (refl, refl), refl), (between, refl, refl), tt, refl),
+      (between, refl, refl),
     ),
   );
   lines = (

@@ -23,4 +23,10 @@ returns c = record {
   comment = λ t h. let p : false ≡ true = rw h.1 at h.2.1.0 in absurd (cc);
   name = λ t h. let p : false ≡ true = rw h.1 at h.2.1.0 in absurd (cc);
   reference = λ t h. let p : false ≡ true = rw h.1 at h.2.1.0 in absurd (cc);
+  displayed = λ t h. let p : false ≡ true = rw h.1 at h.2.1.0 in absurd (cc);
+  quoted = λ t h. let p : false ≡ true = rw h.1 at h.2.1.0 in absurd (cc);
+  plus = λ t h. let p : false ≡ true = rw h.1 at h.2.1.0 in absurd (cc);
+  zeros = λ t h. let p : false ≡ true = rw h.1 at h.2.1.0 in absurd (cc);
+  fill = λ t h. let p : false ≡ true = rw h.1 at h.2.1.0 in absurd (cc);
+  base_sixteen = λ t h. let p : false ≡ true = rw h.1 at h.2.1.0 in absurd (cc);
 }

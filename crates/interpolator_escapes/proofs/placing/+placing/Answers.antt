@@ -72,15 +72,15 @@ pub place_piece-returns-in-Plain-clause-told :
 place_piece-returns-in-Plain-clause-told g t c =
     let fits = fits_text c.args.text.now c.args.piece.now (search rules) in
     plain_told g.R.Reader.step g.R.Reader.places c.args.text.now c.args.piece.now
-    (g.R.Reader.state c.args.reader.now) fits.held _ (search rules) c.place_value.ensures
+    (g.R.Reader.state c.args.reader.now) fits.held _ (search rules) c.place_plain.ensures
 
 pub place_piece-returns-in-Value-clause-told :
     goal.place_piece-returns-in-Value-clause-told
 place_piece-returns-in-Value-clause-told g t c =
     let fits = fits_text c.args.text.now c.args.piece.now (search rules) in
     value_told g.R.Reader.step g.R.Reader.places c.args.text.now c.args.piece.now
-    (g.R.Reader.state c.args.reader.now) fits.held c.in-Value.field-0 _ (search rules)
-    c.place_value-in-Value.ensures
+    (g.R.Reader.state c.args.reader.now) fits.held c.in-Value.wanted _ _ (search rules)
+    c.spec_of.ensures c.place_value.ensures
 
 pub place_piece-returns-in-Broken-clause-told : goal.place_piece-returns-in-Broken-clause-told
 place_piece-returns-in-Broken-clause-told g t c =
@@ -100,19 +100,19 @@ pub place_piece-returns-in-Plain-clause-within : goal.place_piece-returns-in-Pla
 place_piece-returns-in-Plain-clause-within g t c =
     let fits = fits_text c.args.text.now c.args.piece.now (search rules) in
     let here = plain_lies c.args.text.now c.args.piece.now fits.held (search rules) in
-    lies _ _ Value _ _ c.place_value.result here c.place_value.ensures
+    lies _ _ Value _ _ c.place_plain.result here c.place_plain.ensures
 
 pub place_piece-returns-in-Value-clause-within : goal.place_piece-returns-in-Value-clause-within
 place_piece-returns-in-Value-clause-within g t c =
     let fits = fits_text c.args.text.now c.args.piece.now (search rules) in
-    let here = value_lies c.args.text.now c.args.piece.now fits.held c.in-Value.field-0
+    let here = value_lies c.args.text.now c.args.piece.now fits.held c.in-Value.wanted
     (search rules) in
-    lies _ _ Value _ _ c.place_value-in-Value.result here c.place_value-in-Value.ensures
+    lies _ _ Value _ _ c.place_value.result here c.place_value.ensures
 
 pub place_item-returns-in-None-clause-within : goal.place_item-returns-in-None-clause-within
 place_item-returns-in-None-clause-within g t c =
     let here : (out-Piece c.args.piece.now).place < length c.args.text.now = search rules in
-    lies _ _ Value _ _ c.place_value.result here c.place_value.ensures
+    lies _ _ Value _ _ c.place_plain.result here c.place_plain.ensures
 
 pub place_item-returns-in_ok-place_all-in-Some-clause-within :
     goal.place_item-returns-in_ok-place_all-in-Some-clause-within

@@ -2,7 +2,7 @@ use Rattle.std.proofs.Common.{arith}
 use Rattle.interpolator_escapes.specs.Escapes.{escape_of}
 use Rattle.interpolator_escapes.proofs.EscapingLemmas.{escape_some}
 use Rattle.interpolator_escapes.proofs.PassingLemmas.{refused_before}
-use Rattle.interpolator_escapes.proofs.views.put_view.Goals as goal
+use Rattle.interpolator_escapes.proofs.views.put_characters.Goals as goal
 
 pub returns-then-refused : goal.returns-then-refused
 returns-then-refused g c =
