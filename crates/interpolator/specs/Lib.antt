@@ -18,6 +18,7 @@ pub mod Explained
 pub use Rattle.interpolator_eval.specs.Contexts
 pub use Rattle.interpolator_eval.specs.NameMaps
 pub mod Escaping
+pub mod EscapedTexts
 pub use Rattle.interpolator_eval.specs.Rows
 pub mod NamedValues
 pub mod Lent

@@ -6,7 +6,6 @@ ghost use Rattle.interpolator_syntax.specs.Faults.{answer_of, result_answer, no_
 ghost use Rattle.interpolator_eval.specs.Meaning.Environments.{environment};
 ghost use Rattle.interpolator_eval.specs.Meaning.Meanings.{means};
 ghost use Rattle.interpolator_eval.specs.Meaning.Outcomes.{Outcome};
-ghost use Rattle.interpolator_escapes.specs.Escapes.{escape_of};
 ghost use Rattle.interpolator_escapes.specs.Formats.{escaped_shows};
 ghost use Rattle.interpolator_pieces.specs.NodeSamples.{faults_over};
 ghost use Rattle.interpolator_pieces.specs.Collecting.{AnswersFirst};
@@ -115,7 +114,7 @@ impl EscapedPrepared {
         row: &R,
     ) -> Result<(), Error>
         ensures outcome { Outcome
-            (means (escaped_shows (escape_of self.now.escape) R.Object.shows)
+            (means (escaped_shows self.now.escape R.Object.shows)
             (environment (R.finds_in row.now self.now.names))
             (outermost (chars self.now.text)))
             (W.written out.old) (W.written out.new) (result_answer result) }
@@ -149,7 +148,7 @@ impl EscapedPrepared {
         row: &Row<'_, V>,
     ) -> Result<(), Error>
         ensures outcome { Outcome
-            (means (escaped_shows (escape_of self.now.escape) V.shows)
+            (means (escaped_shows self.now.escape V.shows)
             (environment (found_by_row self.now.names (row_at row.now.0.now)))
             (outermost (chars self.now.text)))
             (W.written out.old) (W.written out.new) (result_answer result) }

@@ -4,7 +4,6 @@ ghost use Rattle.std.specs.Str.{chars};
 ghost use Rattle.interpolator_syntax.specs.At.{outermost};
 ghost use Rattle.interpolator_syntax.specs.Faults.{result_answer};
 ghost use Rattle.interpolator_escapes.specs.Placing.{FailsFor, IfMisplaced, StandsFor};
-ghost use Rattle.interpolator_escapes.specs.Escapes.{escape_of};
 ghost use Rattle.interpolator_escapes.specs.Formats.{escaped_shows};
 ghost use Rattle.interpolator_pieces.specs.Calls.{MakesText, WritesText};
 
@@ -20,8 +19,8 @@ use std::alloc::Global;
 use std::marker::Model;
 
 /// A format whose values all stand in places of an [`Escape`], and are written escaped. So whatever
-/// the values are, none leaves its place: the text has the tags, fields, strings, words or lines that
-/// it has if every value is empty.
+/// the values are, none leaves its place: the text has the tags, fields, words, lines, or brackets and
+/// commas of JSON that it has if every value is empty.
 ///
 /// [`Template::escaped`] makes it. The text of a value is escaped after its precision has cut it and
 /// its width has padded it; literals are written as they are.
@@ -30,7 +29,7 @@ use std::marker::Model;
 ///
 /// ```text
 /// let page = Template::parse(alloc, "<p title=\"{name}\">{name:.20}</p>")?.escaped(alloc, Escape::Html)?;
-/// values!(name).write_escaped_to(alloc, &mut out, &page)?;
+/// values!(name).write_page_to(alloc, &mut out, &page)?;
 /// // with `a<b` under `name`: <p title="a&lt;b">a&lt;b</p>
 /// ```
 #[derive(Drop)]
@@ -54,9 +53,13 @@ impl Model for EscapedTemplate {
 
 impl Template {
     /// This format, to be written with its values escaped, if each of them stands in a place where the
-    /// escape may stand: of HTML, in text or between the quotes of an attribute; of CSV and JSON,
-    /// between double quotes; of a shell's command, between single quotes; of a line, anywhere. An
-    /// item format and a join have to end where they began.
+    /// escape may stand: of HTML, in text or between the quotes of an attribute; of CSV, between double
+    /// quotes; of JSON, in a string, or under `?` between strings; of a shell's command, between single
+    /// quotes; of a line, anywhere. An item format and a join have to end where they began.
+    ///
+    /// Under `?` a value is a whole value of JSON: a text or a character has its quotes, whatever the
+    /// spec is, a float that is not finite is `null`, and any other value is as `?` shows it. A spec
+    /// with `+`, zeros, a fill but blanks, or base sixteen is out of place there.
     ///
     /// # Errors
     ///
@@ -67,6 +70,7 @@ impl Template {
     ///
     /// ```text
     /// let line = Template::parse(alloc, "\"{name}\",\"{city}\"")?.escaped(alloc, Escape::Csv)?;
+    /// let text = Template::parse(alloc, "{{\"name\":{name:?},\"n\":{n:?}}}")?.escaped(alloc, Escape::Json)?;
     /// ```
     pub fn escaped(self, alloc: Global, escape: Escape) -> Result<EscapedTemplate, PlaceError>
         ensures made { IfOk result (λ page. page ≡ record { text = self; escape = escape }) }
@@ -101,7 +105,7 @@ impl EscapedTemplate {
         out: &mut W,
         context: &C,
     ) -> Result<(), Error>
-        ensures { WritesText (escaped_shows (escape_of self.now.escape) C.Object.shows)
+        ensures { WritesText (escaped_shows self.now.escape C.Object.shows)
             (C.finds context.now) self.now.text
             (W.written out.old) (W.written out.new) (result_answer result) }
     {
@@ -128,7 +132,7 @@ impl EscapedTemplate {
     /// page.format(alloc, &context)?
     /// ```
     pub fn format<C: Context>(&self, alloc: Global, context: &C) -> Result<String, Error>
-        ensures { MakesText (escaped_shows (escape_of self.now.escape) C.Object.shows)
+        ensures { MakesText (escaped_shows self.now.escape C.Object.shows)
             (C.finds context.now) self.now.text result }
     {
         let template = &self.template;
@@ -142,7 +146,8 @@ impl EscapedTemplate {
     }
 
     /// The format, to be checked with a sample, or for its cost without escapes. An escaped text has
-    /// at most six characters for each of the plain one.
+    /// at most six characters for each of the plain one, and of JSON two more for each
+    /// [`View::Plain`](interpolator_render::View::Plain) under `?`.
     ///
     /// # Example
     ///

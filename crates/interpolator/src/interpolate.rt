@@ -5,14 +5,16 @@ ghost use Rattle.std.specs.Str.{chars};
 ghost use Rattle.interpolator_syntax.specs.At.{outermost};
 ghost use Rattle.interpolator_syntax.specs.Faults.{answer_of, result_answer, fault, no_memory};
 ghost use Rattle.interpolator_syntax.specs.Faults.{PlaceWithin};
-ghost use Rattle.interpolator_escapes.specs.Escapes.{escape_of};
 ghost use Rattle.interpolator_escapes.specs.Formats.{escaped_shows};
 ghost use Rattle.interpolator_pieces.specs.NodeSamples.{faults_over};
 ghost use Rattle.interpolator_pieces.specs.Collecting.{AnswersFirst};
 ghost use Rattle.interpolator_pieces.specs.Calls.{MakesText, WritesLine, WritesText};
+ghost use Rattle.interpolator.specs.EscapedTexts.{MakesEscaped};
 
 use crate::escaped_template::EscapedTemplate;
+use crate::escaped_text::{EscapeError, format_escaped};
 use crate::template::Template;
+use interpolator_escapes::Escape;
 use interpolator_eval::{ByNames, Context, Formattable, NameMap, Pairs};
 use interpolator_pieces::{format, iwriteln, write};
 use interpolator_render::{TextWrite, Value};
@@ -38,6 +40,28 @@ pub trait Interpolate: Context {
         ensures { MakesText Self.Object.shows (Self.finds self.now) text.now result }
     {
         format(alloc, text, self)
+    }
+
+    /// The format's text, each value escaped, as the function [`format_escaped`] makes it.
+    ///
+    /// # Errors
+    ///
+    /// `Misplaced`: the first value or list that is out of place; `Fault`: the fault of a format whose
+    /// values are all in place, or `NoMemory`.
+    ///
+    /// ```text
+    /// values!(name).format_escaped(alloc, Escape::Line, "user {name}")?
+    /// // with a newline and `Ann` under `name`: user \nAnn
+    /// ```
+    fn format_escaped(
+        &self,
+        alloc: Global,
+        escape: Escape,
+        text: &str,
+    ) -> Result<String, EscapeError>
+        ensures { MakesEscaped escape Self.Object.shows (Self.finds self.now) text.now result }
+    {
+        format_escaped(alloc, escape, text, self)
     }
 
     /// Writes what the format means, as the function `write` does.
@@ -147,15 +171,15 @@ pub trait Interpolate: Context {
     ///
     /// ```text
     /// let page = Template::parse(alloc, "<b>{n}</b>")?.escaped(alloc, Escape::Html)?;
-    /// context.write_escaped_to(alloc, &mut out, &page)?;    // with `a<b`, appends "<b>a&lt;b</b>"
+    /// context.write_page_to(alloc, &mut out, &page)?;    // with `a<b`, appends "<b>a&lt;b</b>"
     /// ```
-    fn write_escaped_to<W: TextWrite>(
+    fn write_page_to<W: TextWrite>(
         &self,
         alloc: Global,
         out: &mut W,
         page: &EscapedTemplate,
     ) -> Result<(), Error>
-        ensures { WritesText (escaped_shows (escape_of page.now.escape) Self.Object.shows)
+        ensures { WritesText (escaped_shows page.now.escape Self.Object.shows)
             (Self.finds self.now) page.now.text
             (W.written out.old) (W.written out.new) (result_answer result) }
     {
@@ -169,10 +193,10 @@ pub trait Interpolate: Context {
     /// Those of `format_template`.
     ///
     /// ```text
-    /// context.format_escaped(alloc, &page)?    // for `<b>{n}</b>` and `a<b`: "<b>a&lt;b</b>"
+    /// context.format_page(alloc, &page)?    // for `<b>{n}</b>` and `a<b`: "<b>a&lt;b</b>"
     /// ```
-    fn format_escaped(&self, alloc: Global, page: &EscapedTemplate) -> Result<String, Error>
-        ensures { MakesText (escaped_shows (escape_of page.now.escape) Self.Object.shows)
+    fn format_page(&self, alloc: Global, page: &EscapedTemplate) -> Result<String, Error>
+        ensures { MakesText (escaped_shows page.now.escape Self.Object.shows)
             (Self.finds self.now) page.now.text result }
     {
         page.format(alloc, self)
@@ -232,6 +256,15 @@ impl<'k, 'a, V: Value> Interpolate for HashMap<&'k str, Formattable<'a, V>> {
         format(alloc, text, &ByNames::new(self))
     }
 
+    fn format_escaped(
+        &self,
+        alloc: Global,
+        escape: Escape,
+        text: &str,
+    ) -> Result<String, EscapeError> {
+        format_escaped(alloc, escape, text, &ByNames::new(self))
+    }
+
     fn write_to<W: TextWrite>(&self, alloc: Global, out: &mut W, text: &str) -> Result<(), Error> {
         write(alloc, out, text, &ByNames::new(self))
     }
@@ -267,7 +300,7 @@ impl<'k, 'a, V: Value> Interpolate for HashMap<&'k str, Formattable<'a, V>> {
         template.format(alloc, &ByNames::new(self))
     }
 
-    fn write_escaped_to<W: TextWrite>(
+    fn write_page_to<W: TextWrite>(
         &self,
         alloc: Global,
         out: &mut W,
@@ -276,7 +309,7 @@ impl<'k, 'a, V: Value> Interpolate for HashMap<&'k str, Formattable<'a, V>> {
         page.write(alloc, out, &ByNames::new(self))
     }
 
-    fn format_escaped(&self, alloc: Global, page: &EscapedTemplate) -> Result<String, Error> {
+    fn format_page(&self, alloc: Global, page: &EscapedTemplate) -> Result<String, Error> {
         page.format(alloc, &ByNames::new(self))
     }
 

@@ -95,7 +95,9 @@ pub(crate) const GAP: NamedValue<'static> = NamedValue {
     items: None,
 };
 
-/// Fills the slots of these traits too.
+/// Fills the slots of these traits too. It is inlined, so that a caller that reads one slot makes no
+/// other.
+#[inline(always)]
 pub(crate) fn and_slots<'a, V>(
     before: Formattable<'a, V>,
     traits: &[Trait],
@@ -111,6 +113,7 @@ pub(crate) fn and_slots<'a, V>(
 }
 
 /// A value in the slots of these traits.
+#[inline(always)]
 fn in_slots<'a, V>(traits: &[Trait], value: &'a V) -> Formattable<'a, V>
     ensures { slots_of result ≡ with_traits traits.now empty_slots value.now }
 {
@@ -119,6 +122,7 @@ fn in_slots<'a, V>(traits: &[Trait], value: &'a V) -> Formattable<'a, V>
 
 impl<'a> NamedValue<'a> {
     /// What the name stands for.
+    #[inline(always)]
     pub(crate) fn slots(&self) -> Formattable<'_, View<'a>>
         ensures { slots_of result ≡ named_slots self.now }
     {
@@ -129,7 +133,8 @@ impl<'a> NamedValue<'a> {
     }
 }
 
-/// The last value of this name.
+/// The last value of this name. It is not inlined, so that its few words stay in registers.
+#[inline(never)]
 fn last_named<'s, 'a>(values: &'s [NamedValue<'a>], name: &str) -> Option<&'s NamedValue<'a>>
     ensures { option_copied result
         ≡ find (λ value. bytes_eq name.now value.name.now) (reverse values.now) }
@@ -169,6 +174,7 @@ impl<'a> Context for Values<'a> {
 
     ghost finds = { λ values name. last_under (pairs_of values) (encode_utf8_all name) };
 
+    #[inline(always)]
     fn get(&self, key: &str) -> Option<Formattable<'_, View<'a>>> {
         match last_named(self.named(), key) {
             Some(value) => Some(value.slots()),

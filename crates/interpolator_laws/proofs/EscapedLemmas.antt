@@ -12,7 +12,6 @@ use Rattle.interpolator_syntax.specs.declared.error.Error.{Error}
 use Rattle.interpolator_eval.specs.Meaning.Environments.{Environment}
 use Rattle.interpolator_eval.specs.Meaning.Meanings.{Meaning, means}
 use Rattle.interpolator_eval.specs.Meaning.Outcomes.{Formats}
-use Rattle.interpolator_escapes.specs.Escapes.{escape_of}
 use Rattle.interpolator_escapes.specs.Formats.{Stands, escaped_shows}
 use Rattle.interpolator_escapes.specs.Lines.{control_step, everywhere}
 use Rattle.interpolator_escapes.specs.Placing.{StandsFor}
@@ -57,7 +56,7 @@ module _ {Z : Type 0} where
 module _ {X : Type 0} (shows : X → Trait → Spec → Shown) (e : Environment X)
     (P : List ℕ → Type 0) where
   abbrev Escaped : Escape → List ℕ → Meaning
-  Escaped escape cs = means (escaped_shows (escape_of escape) shows) e (outermost cs)
+  Escaped escape cs = means (escaped_shows escape shows) e (outermost cs)
 
   -- of a line
   pub line_meant : (escape : Escape) (cs : List ℕ) → escape ≡ Line

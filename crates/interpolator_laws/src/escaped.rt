@@ -9,8 +9,8 @@ ghost use Rattle.interpolator_eval.specs.Slots.{Slots, items};
 ghost use Rattle.interpolator_eval.specs.Meaning.Environments.{environment};
 ghost use Rattle.interpolator_eval.specs.Meaning.Meanings.{means};
 ghost use Rattle.interpolator_escapes.specs.Placing.{structure_by};
-ghost use Rattle.interpolator_escapes.specs.Escapes.{escape_of, is_control};
-ghost use Rattle.interpolator_escapes.specs.FormatParts.{parts_of};
+ghost use Rattle.interpolator_escapes.specs.Escapes.{is_control};
+ghost use Rattle.interpolator_escapes.specs.FormatParts.{parts_by};
 ghost use Rattle.interpolator_escapes.specs.Formats.{shows_nothing};
 ghost use Rattle.interpolator_escapes.specs.Languages.{PairedIn, read_by, read_parts_by};
 ghost use Rattle.interpolator_escapes.specs.Records.{fields_of, item_text, row_format};
@@ -24,7 +24,8 @@ use interpolator_syntax::Error;
 use std::alloc::Global;
 
 /// The text of an escaped format, read as its escape's reader reads it, has the structure that it has
-/// if every value shows the empty text: the same tags, fields, strings or words, or, of a line, the
+/// if every value shows the empty text: the same tags, fields or words, the same brackets, colons and
+/// commas of JSON, or, of a line, the
 /// same controls. So no value leaves its place, whatever the values are, at any depth of lists.
 ///
 /// # Errors
@@ -76,7 +77,7 @@ pub fn values_come_back<C: Context>(
 ) -> Result<String, Error>
     ensures { PairedIn page.now.escape (outermost (chars page.now.text))
         → IfOk result (λ text. read_by page.now.escape (chars (string_bytes text))
-        ≡ read_parts_by page.now.escape (parts_of (escape_of page.now.escape) C.Object.shows
+        ≡ read_parts_by page.now.escape (parts_by page.now.escape C.Object.shows
         (environment (C.finds context.now)) (outermost (chars page.now.text)))) }
 {
     page.template();
@@ -156,6 +157,6 @@ pub fn an_escape_makes_no_fault<C: Interpolate>(
 {
     meanings::escapes_make_no_fault::<C::Object>();
     let plain = context.format_template(alloc, page.template());
-    let escaped = context.format_escaped(alloc, page);
+    let escaped = context.format_page(alloc, page);
     (plain, escaped)
 }

@@ -2,7 +2,6 @@ use Rattle.std.proofs.Common.{chars, ◌≡◌, ◌∷◌, map}
 use Rattle.interpolator_syntax.specs.At.{outermost}
 use Rattle.interpolator_eval.specs.Meaning.Environments.{environment}
 use Rattle.interpolator_eval.specs.Meaning.Meanings.{means}
-use Rattle.interpolator_escapes.specs.Escapes.{escape_of}
 use Rattle.interpolator_escapes.specs.Formats.{escaped_shows}
 use Rattle.interpolator_escapes.specs.Languages.{read_by}
 use Rattle.interpolator_escapes.specs.Records.{fields_of, item_text}
@@ -17,7 +16,7 @@ returns g c = λ found item others same text finds has.
     let e = environment (g.C.Context.finds c.args.context.now) in
     let cs = chars c.args.page.now.text in
     made_text (λ ds. fields_of (read_by Csv ds) ≡ map (item_text shows) (item ∷ others))
-    (means (escaped_shows (escape_of escape) shows) e (outermost cs))
+    (means (escaped_shows escape shows) e (outermost cs))
     c.format.result c.format.ensures.formats
     (row_meant shows e
     (λ ds. fields_of (read_by Csv ds) ≡ map (item_text shows) (item ∷ others)) escape cs same text

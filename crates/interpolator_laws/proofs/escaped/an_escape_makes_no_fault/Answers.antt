@@ -2,7 +2,6 @@ use Rattle.std.proofs.Common.{chars}
 use Rattle.interpolator_syntax.specs.At.{outermost}
 use Rattle.interpolator_eval.specs.Meaning.Environments.{environment}
 use Rattle.interpolator_eval.specs.Meaning.Meanings.{means}
-use Rattle.interpolator_escapes.specs.Escapes.{escape_of}
 use Rattle.interpolator_escapes.specs.Formats.{escaped_shows}
 use Rattle.interpolator_laws.proofs.EscapedLemmas.{same_answer}
 use Rattle.interpolator_laws.proofs.escaped.an_escape_makes_no_fault.Goals as goal
@@ -13,7 +12,7 @@ returns g c =
     let shows = g.C.Object.Value.shows in
     let e = environment (g.C.Context.finds c.args.context.now) in
     let a = outermost (chars c.args.page.now.text) in
-    same_answer (means shows e a) (means (escaped_shows (escape_of escape) shows) e a)
-    c.format_template-plain.result c.format_escaped-escaped.result (c.escapes_make_no_fault.ensures escape e a)
+    same_answer (means shows e a) (means (escaped_shows escape shows) e a)
+    c.format_template-plain.result c.format_page-escaped.result (c.escapes_make_no_fault.ensures escape e a)
     (rw c.template.ensures.template at c.format_template-plain.ensures.formats)
-    c.format_escaped-escaped.ensures.formats
+    c.format_page-escaped.ensures.formats

@@ -2,8 +2,7 @@ use Rattle.std.proofs.Common.{chars, ◌≡◌}
 use Rattle.interpolator_syntax.specs.At.{outermost}
 use Rattle.interpolator_eval.specs.Meaning.Environments.{environment}
 use Rattle.interpolator_eval.specs.Meaning.Meanings.{means}
-use Rattle.interpolator_escapes.specs.Escapes.{escape_of}
-use Rattle.interpolator_escapes.specs.FormatParts.{parts_of}
+use Rattle.interpolator_escapes.specs.FormatParts.{parts_by}
 use Rattle.interpolator_escapes.specs.Formats.{escaped_shows}
 use Rattle.interpolator_escapes.specs.Languages.{read_by, read_parts_by}
 use Rattle.interpolator_escapes.proofs.LanguageLemmas.{stands_in}
@@ -17,8 +16,8 @@ returns g c = λ paired.
     let e = environment (g.C.Context.finds c.args.context.now) in
     made_text
     (λ cs. read_by escape cs
-    ≡ read_parts_by escape (parts_of (escape_of escape) g.C.Object.Value.shows e a))
-    (means (escaped_shows (escape_of escape) g.C.Object.Value.shows) e a)
+    ≡ read_parts_by escape (parts_by escape g.C.Object.Value.shows e a))
+    (means (escaped_shows escape g.C.Object.Value.shows) e a)
     c.format.result c.format.ensures.formats
     (c.values_of_formats_come_back.ensures.read escape e a
     (stands_in escape a c.template.ensures.stand paired))
