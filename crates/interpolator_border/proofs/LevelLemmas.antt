@@ -5,7 +5,8 @@ use Rattle.std.proofs.Common.{arith, ◌≡◌, ◌∙◌, sym, refl, ap, ℕ, z
 use Rattle.std.proofs.Common.{false, List, [], ◌∷◌, ◌++◌, map, take, drop, length, get_or, ◌<◌}
 use Rattle.std.proofs.lemmas.Grind.{common_steps}
 use Rattle.std.proofs.lemmas.List.{take_more, length-take-le, drop-drop, drop-map, drop_all}
-use Rattle.std.proofs.lemmas.List.{take_all, length-map}
+use Rattle.std.proofs.lemmas.List.{append_assoc, drop_at, length-append, length-drop, length-map}
+use Rattle.std.proofs.lemmas.List.{map-append, take-append-drop, take_all}
 use Rattle.interpolator_eval.specs.Slots.{Slots, with_iter}
 use Rattle.interpolator_border.specs.Fields.{begins_before, field_slots, lie_in_levels}
 use Rattle.interpolator_border.specs.Fields.{masked_slots, settled, value_slots}
@@ -32,6 +33,11 @@ pub none_after : (from : ℕ) (items : List Field)
     → list_any (begins_before from) (drop (settled from items) items) ≡ false
 none_after from [] = refl
 none_after from (x ∷ xs) = grind (arith, none_after from xs)
+
+-- it is one of the items, or what is after all of them
+pub settled_within : (from : ℕ) (items : List Field) → settled from items ≤ length items
+settled_within from [] = grind arith
+settled_within from (x ∷ xs) = grind (arith, settled_within from xs)
 
 -- ---- what is the same from a place on
 
@@ -75,11 +81,52 @@ module _ (from : ℕ) (xs ys : List (Slots Field)) (same : drop from xs ≡ drop
       ∙ ap (λ zs. field_slots ys x ∷ zs) (same_all items h.1)
 
 -- what is known from an item on, is known of the level above from the item on that is settled
-pub next_known : (left : ℕ) (trees : List (Slots Field)) (items : List Field)
-    → drop left trees ≡ drop left (map (field_slots trees) items)
-    → drop (settled left items) (map (field_slots trees) items)
-    ≡ drop (settled left items) (map (field_slots (map (field_slots trees) items)) items)
-next_known left trees items known = grind (arith, drop-map, same_all, none_after)
+pub next_known : (left : ℕ) (below level : List (Slots Field)) (items : List Field)
+    → drop left level ≡ drop left below
+    → drop (settled left items) level ≡ drop (settled left items) (map (field_slots below) items)
+    → drop (settled left items) level ≡ drop (settled left items) (map (field_slots level) items)
+next_known left below level items same more =
+    more ∙ drop-map (field_slots below) (settled left items) items
+    ∙ sym (same_all left level below same (drop (settled left items) items) (none_after left items))
+    ∙ sym (drop-map (field_slots level) (settled left items) items)
+
+-- ---- the level above, as it is made: nothing up to an item, what fields say up to another, and what is
+-- known from that one on
+
+module _ {A B : Type 0} (fs : A → B) (first left : ℕ) (before below level : List B) (items : List A)
+    (early : first ≤ left) (within : left ≤ length items) (so_many : length before ≡ first)
+    (made : level ≡ (before ++ map fs (take (left - first) (drop first items))) ++ drop left below) where
+  abbrev some : List A
+  some = take (left - first) (drop first items)
+
+  some_length : length some ≡ left - first
+  some_length =
+      length-take-le (left - first) (drop first items)
+      (omega (arith, length-drop first items, early, within))
+
+  -- what was known is as it was
+  pub level_same : drop left level ≡ drop left below
+  level_same =
+      ap (drop left) made
+      ∙ drop_at (before ++ map fs some) (drop left below) left
+      (omega (arith, length-append before (map fs some), length-map some fs, some_length, so_many, early))
+
+  rest_is : drop (left - first) (drop first items) ≡ drop left items
+  rest_is =
+      let at : left ≡ first + (left - first) = omega (arith, early) in
+      drop-drop (left - first) first items ∙ sym (ap (λ n. drop n items) at)
+
+  -- from the first item on, the fields say all
+  pub level_more : (from : ℕ) → first ≤ from → drop left below ≡ drop left (map fs items)
+      → drop from level ≡ drop from (map fs items)
+  level_more from late known =
+      same_later first from level (map fs items) late
+      (ap (drop first) (made ∙ append_assoc before (map fs some) (drop left below))
+      ∙ drop_at before (map fs some ++ drop left below) first so_many
+      ∙ ap (λ l. map fs some ++ l) (known ∙ drop-map fs left items ∙ sym (ap (map fs) rest_is))
+      ∙ sym (map-append fs some (drop (left - first) (drop first items)))
+      ∙ ap (map fs) (take-append-drop (left - first) (drop first items))
+      ∙ sym (drop-map fs first items))
 
 -- from the last item on, all is known of nothing
 pub nothing_known : (items : List Field)

@@ -5,5 +5,6 @@ mod EscapedLemmas
 mod HandSteps
 mod LevelLemmas
 mod MeasureLemmas
+mod NameLemmas
 mod TableLemmas
 mod TextLemmas

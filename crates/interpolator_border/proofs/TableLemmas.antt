@@ -90,6 +90,11 @@ module _ (columns cells : List Field) (format : List ℕ) (ends_old ends_new old
   columns_fail (failure.Fault e) (inr fails) told =
       inr (by_answer (answer_of e) fails.0 fails.1 told, same)
 
+  -- that memory was wanted for the rows is told
+  pub no_rows : ToldBy no_memory 0 old new answer
+      → RowsAnswers columns cells format ends_old ends_new old new answer
+  no_rows told = inr (inr (inl (out_of_memory 0 old new answer no_memory refl told)), same)
+
 -- the first fault over the columns, by the pairs that were made of them
 pub column_faults : (columns : List Field) (format text template : List ℕ)
     (pairs made : List (Bor (List ℕ) × Formattable Field)) (a : Answer) → text ≡ format

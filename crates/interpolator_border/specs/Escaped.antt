@@ -3,7 +3,6 @@ use Rattle.std.specs.Prelude.{◌≡◌, ◌⊎◌, ◌==◌, ℕ, true, List, O
 use Rattle.std.specs.Prelude.{if◌then◌else◌}
 use Rattle.std.specs.Str.{chars, is_utf8}
 use Rattle.interpolator_syntax.specs.At.{outermost}
-use Rattle.interpolator_escapes.specs.Escapes.{escape_of}
 use Rattle.interpolator_escapes.specs.Formats.{escaped_shows}
 use Rattle.interpolator_escapes.specs.Placing.{FailsFor, StandsFor}
 use Rattle.interpolator_escapes.specs.PlaceTexts.{why_text}
@@ -69,5 +68,5 @@ abbrev pub EscapedBy : Escape → (fields items : List Field) → List ℕ → (
     → Told_answer → Type 0
 EscapedBy escape fields items format old new answer =
     (StandsFor escape (outermost (chars format))
-    × FormatAnswers (escaped_shows (escape_of escape) field_shows) fields items format old new answer)
+    × FormatAnswers (escaped_shows escape field_shows) fields items format old new answer)
     ⊎ (ToldMisplaced escape format old new answer ⊎ ToldAside fields items format old new answer)

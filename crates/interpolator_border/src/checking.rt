@@ -1,5 +1,5 @@
 //! A format that is checked before it is used.
-ghost use Rattle.std.specs.Prelude.{◌≡◌, drop, map};
+ghost use Rattle.std.specs.Prelude.{◌≡◌, ◌≤◌, drop, length, map};
 ghost use Rattle.std.specs.Option.{option_copied};
 ghost use Rattle.interpolator_eval.specs.Slots.{slots_of};
 ghost use Rattle.interpolator_border.specs.Checks.{AloneAnswers, CheckAnswers, CheckedAlone};
@@ -28,6 +28,7 @@ fn find_levels<'a>(
     row: FieldRow<'a>,
     known: Known<'a>,
 ) -> Result<Vec<Error>, Failure>
+    requires within { known.left ≤ length row.items.now }
     requires known { let trees = map slots_of known.slots.now in
         drop known.left trees ≡ drop known.left (map (field_slots trees) row.items.now) }
     ensures { Finds (lie_in_levels known.entry.levels row.entry.items.now known.entry.left)
@@ -44,11 +45,12 @@ fn find_levels<'a>(
     if levels == 0 {
         return Err(Failure::Lists);
     }
-    match next_level(alloc, row.items, slots) {
+    let from = settled(left, row.items);
+    match next_level(alloc, row.items, slots, left, from) {
         Ok(level) => {
             let deeper = Known {
                 slots: &level,
-                left: settled(left, row.items),
+                left: from,
                 levels: levels - 1,
             };
             let row = FieldRow {

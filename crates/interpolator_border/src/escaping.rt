@@ -4,7 +4,6 @@ ghost use Rattle.interpolator_border.specs.Answers.{FormatAnswers, Told, ToldCod
 ghost use Rattle.interpolator_border.specs.Escaped.{EscapedBy, TellsPlace, escape_numbered};
 ghost use Rattle.interpolator_border.specs.Escaped.{misplaced_answer, no_escape_sentence, why_code};
 ghost use Rattle.interpolator_border.specs.Fields.{field_shows};
-ghost use Rattle.interpolator_escapes.specs.Escapes.{escape_of};
 ghost use Rattle.interpolator_escapes.specs.Formats.{escaped_shows};
 ghost use Rattle.interpolator_escapes.specs.PlaceTexts.{why_text};
 
@@ -95,7 +94,7 @@ fn format_escaped<'a>(
     row: FieldRow<'a>,
     room: &mut [u8],
 ) -> Answer
-    ensures { FormatAnswers (escaped_shows (escape_of escape) field_shows) row.entry.fields.now
+    ensures { FormatAnswers (escaped_shows escape field_shows) row.entry.fields.now
         row.entry.items.now text.now room.old room.new result }
 {
     match escape {

@@ -16,7 +16,7 @@ use interpolator_eval::{Escaper, Unescaped};
 use std::alloc::{AllocError, Global};
 
 /// The most bytes, beyond those of the format, for which a new buffer has room at first.
-const MOST_MORE: usize = 256;
+pub(crate) const MOST_MORE: usize = 256;
 
 /// So many zeros.
 fn zeros(alloc: Global, count: usize) -> Result<Vec<u8>, AllocError>

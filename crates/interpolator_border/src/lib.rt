@@ -19,6 +19,7 @@ mod field;
 mod formatting;
 mod levels;
 mod measured;
+mod names;
 mod offsets;
 mod request;
 mod row;

@@ -5,6 +5,7 @@ ghost use Rattle.interpolator_eval.specs.Slots.{slots_of};
 ghost use Rattle.interpolator_border.specs.Fields.{found_in, last_named};
 
 use crate::field::Field;
+use crate::names::{SHORT, same_name};
 use crate::slots::field_slots;
 use interpolator::{Context, Formattable};
 
@@ -24,16 +25,34 @@ pub(crate) struct Row<'a> {
     pub(crate) items: &'a [Formattable<'a, Field<'a>>],
 }
 
-/// The last field of that name. It is inlined, since a call takes longer than the search of a short
-/// row.
-#[inline(always)]
-fn last_field<'s, 'a>(fields: &'s [Field<'a>], name: &str) -> Option<&'s Field<'a>>
+/// The last field of a long name.
+#[inline(never)]
+fn last_of_long<'s, 'a>(fields: &'s [Field<'a>], name: &str) -> Option<&'s Field<'a>>
     ensures { option_copied result ≡ last_named fields.now name.now }
 {
     fields
         .iter()
         .rev()
         .find(|field| field.name == name.as_bytes())
+}
+
+/// The last field of that name. A short name is compared without a call, so that the few words of
+/// the search stay in registers.
+#[inline(always)]
+fn last_field<'s, 'a>(fields: &'s [Field<'a>], name: &str) -> Option<&'s Field<'a>>
+    ensures { option_copied result ≡ last_named fields.now name.now }
+{
+    if name.len() > SHORT {
+        return last_of_long(fields, name);
+    }
+    let mut left = fields.len();
+    while left > 0 {
+        left -= 1;
+        if same_name(fields[left].name, name.as_bytes()) {
+            return Some(&fields[left]);
+        }
+    }
+    None
 }
 
 impl<'a> Context for Row<'a> {

@@ -9,7 +9,7 @@ use interpolator::{Formattable, Trait};
 
 /// The slots of a kind.
 #[inline(always)]
-fn kind_slots<'a>(field: &'a Field<'a>) -> Formattable<'a, Field<'a>>
+pub(crate) fn kind_slots<'a>(field: &'a Field<'a>) -> Formattable<'a, Field<'a>>
     ensures { slots_of result ≡ kind_slots field.now }
 {
     if field.kind <= CHARACTER {
@@ -79,8 +79,9 @@ fn cut<'s, 'a>(
     &front[first.min(front.len())..]
 }
 
-/// The items of a list, and the slots of its mask.
-#[inline(never)]
+/// The items of a list, and the slots of its mask. It is inlined, so that where one slot is looked
+/// up no others are made.
+#[inline(always)]
 fn list_slots<'a>(
     items: &'a [Formattable<'a, Field<'a>>],
     field: &'a Field<'a>,

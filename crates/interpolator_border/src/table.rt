@@ -1,6 +1,6 @@
 //! A table: one format, read and prepared once, over each of its rows.
 ghost use Rattle.std.specs.Prelude.{◌≡◌, ◌≤◌, ◌↔◌, ◌+◌, ◌*◌, [], false, length, take, drop, map};
-ghost use Rattle.std.specs.Prelude.{IsTrue, MatchResult, Ok, Err};
+ghost use Rattle.std.specs.Prelude.{IfOk, IsTrue, MatchResult, Ok, Err};
 ghost use Rattle.interpolator_eval.specs.Slots.{slots_of};
 ghost use Rattle.interpolator_border.specs.Fields.{field_slots};
 ghost use Rattle.interpolator_border.specs.Tables.{Appended, MadeRows, PairsMade, Prepares};
@@ -10,10 +10,11 @@ use crate::answer::{Answer, Failure, put, told_failure, told_fault, well};
 use crate::bytes::text_of;
 use crate::cells::CellRow;
 use crate::field::Field;
+use crate::formatting::{MOST_MORE, told_no_memory};
 use crate::levels::all_within;
 use crate::slots::field_slots;
 use interpolator::{Error, Formattable, Pairs, Prepared, Template, TextBuffer, TextWrite};
-use std::alloc::Global;
+use std::alloc::{AllocError, Global};
 
 /// A table: its columns, each an example under its name, and the cells of its rows.
 #[derive(Clone, Copy)]
@@ -144,19 +145,37 @@ fn put_rows<'a>(
     Ok(())
 }
 
+/// How many bytes the texts of so many rows may have, at first: as many for each as a new buffer of
+/// `format` has, but no more than fit in the room.
+fn first_bytes(format: usize, rows: usize, room: usize) -> usize {
+    let row = format.saturating_add(format.min(MOST_MORE));
+    row.saturating_mul(rows).min(room)
+}
+
+/// An empty buffer with memory for so many bytes.
+fn buffer_with(alloc: Global, bytes: usize) -> Result<TextBuffer, AllocError>
+    ensures { IfOk result (λ out. (out.text ≡ []) × (out.refused ≡ false)) }
+{
+    let mut out = TextBuffer::from_string(String::with_capacity(alloc, bytes)?);
+    out.clear();
+    Ok(out)
+}
+
 /// Formats each row of a table, and copies the texts to the caller.
 fn rows_of<'a>(
     alloc: Global,
+    mut out: TextBuffer,
     line: &Prepared,
     table: Table<'a>,
     ends: &mut [usize],
     room: &mut [u8],
 ) -> Answer
+    requires goes_on { out.refused ≡ false }
+    requires empty { out.text ≡ [] }
     requires table { length table.cells.now ≡ length ends.old * length table.columns.now }
     ensures { TellsRows line.now.names line.now.text (length table.entry.columns.now)
         table.entry.cells.now ends.old ends.new room.old room.new result }
 {
-    let mut out = TextBuffer::new(alloc);
     match put_rows(alloc, &mut out, line, table, ends) {
         Ok(()) => {
             let text = out.as_str();
@@ -173,7 +192,7 @@ fn rows_of<'a>(
 /// Formats each row of a table, which has as many rows as `ends` has places, and as many cells in
 /// each row as there are columns. The texts come to the front of the room one after the other, if
 /// they fit, and `ends` gets where each ends.
-#[tactic(auto, using(crate::proofs::TableLemmas::columns_fail))]
+#[tactic(auto, using(crate::proofs::TableLemmas::columns_fail, crate::proofs::TableLemmas::no_rows))]
 pub fn rows<'a>(
     alloc: Global,
     format: &[u8],
@@ -190,9 +209,13 @@ pub fn rows<'a>(
     if !is_table(table.columns.len(), ends.len(), table.cells.len()) {
         return told_failure(alloc, &Failure::Table, room);
     }
-    match prepare(alloc, format, table.columns) {
-        Ok(line) => rows_of(alloc, &line, table, ends, room),
-        Err(failure) => told_failure(alloc, &failure, room),
+    let line = match prepare(alloc, format, table.columns) {
+        Ok(line) => line,
+        Err(failure) => return told_failure(alloc, &failure, room),
+    };
+    match buffer_with(alloc, first_bytes(format.len(), ends.len(), room.len())) {
+        Ok(out) => rows_of(alloc, out, &line, table, ends, room),
+        Err(_) => told_no_memory(alloc, room),
     }
 }
 

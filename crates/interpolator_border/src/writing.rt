@@ -1,5 +1,5 @@
 //! A row written into a room.
-ghost use Rattle.std.specs.Prelude.{◌≡◌, drop, map, MatchResult, Ok, Err};
+ghost use Rattle.std.specs.Prelude.{◌≡◌, ◌≤◌, drop, length, map, MatchResult, Ok, Err};
 ghost use Rattle.interpolator_border.specs.declared.answer.Failure.TheVariants.{Fault};
 ghost use Rattle.interpolator_eval.specs.Escaping.{shows_by};
 ghost use Rattle.interpolator_eval.specs.Slots.{slots_of};
@@ -28,6 +28,7 @@ pub(crate) fn write_levels<'a, W: TextWrite, E: Escaper>(
     row: FieldRow<'a>,
     known: Known<'a>,
 ) -> Result<(), Failure>
+    requires within { known.left ≤ length row.items.now }
     requires known { let trees = map slots_of known.slots.now in
         drop known.left trees ≡ drop known.left (map (field_slots trees) row.items.now) }
     ensures { WritesRow (shows_by E.shown field_shows)
@@ -46,11 +47,12 @@ pub(crate) fn write_levels<'a, W: TextWrite, E: Escaper>(
     if levels == 0 {
         return Err(Failure::Lists);
     }
-    match next_level(alloc, row.items, slots) {
+    let from = settled(left, row.items);
+    match next_level(alloc, row.items, slots, left, from) {
         Ok(level) => {
             let deeper = Known {
                 slots: &level,
-                left: settled(left, row.items),
+                left: from,
                 levels: levels - 1,
             };
             let row = FieldRow {

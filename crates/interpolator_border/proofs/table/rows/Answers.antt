@@ -2,8 +2,8 @@ use Rattle.std.proofs.Common.{refl}
 use Rattle.interpolator_border.proofs.TableLemmas.{columns_fail, rows_told}
 use Rattle.interpolator_border.proofs.table.rows.Goals as goal
 
-pub returns-in-Ok : goal.returns-in-Ok
-returns-in-Ok c =
+pub returns-in-Ok-buffer_with : goal.returns-in-Ok-buffer_with
+returns-in-Ok-buffer_with c =
     rows_told c.args.table.columns.now c.args.table.cells.now c.args.format.now c.in-Ok.line c.args.ends.now
     c.rows_of.new.ends c.args.room.now c.rows_of.new.room c.rows_of.result c.in-Ok.ensures.0
     c.in-Ok.ensures.1 c.rows_of.ensures

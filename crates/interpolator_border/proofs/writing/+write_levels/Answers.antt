@@ -19,4 +19,4 @@ returns-in-Ok g t c =
     c.if-left-eq0.false c.if-levels-eq0.false in
     subst (λ lie. WritesRow (shows_by g.E.Escaper.shown field_shows) lie c.args.row.fields.now c.args.row.items.now c.args.format.now
     (g.W.TextWrite.written c.args.out.now) (g.W.TextWrite.written c.write_levels.new.out)
-    c.write_levels.result) deep (rw c.settled.ensures at c.write_levels.ensures)
+    c.write_levels.result) deep (rw c.settled-from.ensures.settled at c.write_levels.ensures)

@@ -1,8 +1,0 @@
-use Rattle.std.proofs.Common.{◌≡◌, map, take}
-use Rattle.interpolator_eval.specs.Slots.{slots_of}
-use Rattle.interpolator_border.specs.Fields.{field_slots}
-use Rattle.interpolator_border.proofs.levels.next_level.Given as goal
-
-abbrev pub invariant-loop-item : goal.invariant-loop-item
-invariant-loop-item l =
-    map slots_of l.level.items ≡ map (field_slots (map slots_of l.below)) (take l.item-index l.items)
