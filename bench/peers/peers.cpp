@@ -125,6 +125,13 @@ struct Row {
 static const Row ROW{48213, "rye", "Oslo", 3, "147.50", -12, 48879, "Ann Svensson"};
 
 static const double AMOUNTS[4] = {12345.67, 2469.1340, -14000.0, 814.80};
+static const double FLOATS[4] = {59.9139, 10.7522, 0.1, 1234.5};
+static const double WHOLE_FLOATS[4] = {1500.0, 42.0, 1000000.0, 86400.0};
+static const double COORDINATES[4] = {59.913869, 10.752245, -33.86882, 151.20929};
+static const double FAR_FLOATS[4] = {6.398739211747873e-150, -2.7105054312137611e-120,
+                                     8.345216793071533e-200, 3.141592653589793e-101};
+static const double ANY_FLOATS[4] = {1.1502657903799078e224, -5.868472719237263e-13,
+                                     -8.062156064994877e-84, 1.0146145319903965e82};
 
 static const int64_t SIGNED[4] = {0, 7, -42, 12345};
 
@@ -252,6 +259,26 @@ static void fmt_row(Out &out) {
 static void fmt_amounts(Out &out) {
     const auto &v = hidden(AMOUNTS);
     PUT("net {:>10.2f} tax {:>10.2f} paid {:>10.2f} open {:>10.2f}", ALL_4(v));
+}
+
+// The exponents have three digits: {fmt} writes `e-05` for `e-5`.
+#define FLOATS_BY(name, values, spec)                              \
+    static void name(Out &out) {                                   \
+        const auto &v = hidden(values);                            \
+        PUT("{" spec "} {" spec "} {" spec "} {" spec "}", ALL_4(v)); \
+    }
+
+FLOATS_BY(fmt_floats, FLOATS, "")
+FLOATS_BY(fmt_whole_floats, WHOLE_FLOATS, "")
+FLOATS_BY(fmt_coordinates, COORDINATES, "")
+FLOATS_BY(fmt_far_floats, FAR_FLOATS, "")
+FLOATS_BY(fmt_long_floats, FAR_FLOATS, ":.17e")
+
+// In a file of its own, since in this one it changes what the compiler inlines elsewhere.
+void put_any_floats(fmt::memory_buffer &buffer, const double *v);
+
+static void fmt_any_floats(Out &out) {
+    put_any_floats(out.buffer, hidden(ANY_FLOATS));
 }
 
 static void fmt_specs(Out &out) {
@@ -659,6 +686,12 @@ static const struct {
     {"fmt-json", fmt_json},
     {"fmt-table-row", fmt_row},
     {"fmt-amounts", fmt_amounts},
+    {"fmt-floats", fmt_floats},
+    {"fmt-floats-whole", fmt_whole_floats},
+    {"fmt-floats-coordinates", fmt_coordinates},
+    {"fmt-floats-far", fmt_far_floats},
+    {"fmt-floats-far-17", fmt_long_floats},
+    {"fmt-floats-any-17", fmt_any_floats},
     {"fmt-specs", fmt_specs},
     {"fmt-radix", fmt_radix},
     {"fmt-padded-texts", fmt_padded},

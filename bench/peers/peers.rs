@@ -10,7 +10,7 @@ include!("values.rs");
 type Make = fn(&mut String);
 
 #[rustfmt::skip]
-const WORKLOADS: [(&str, Make); 65] = [
+const WORKLOADS: [(&str, Make); 75] = [
     ("write-log-line", write_log_line),
     ("write-names-32-numbers", write_numbers),
     ("write-names-32-signed", write_signed),
@@ -21,6 +21,11 @@ const WORKLOADS: [(&str, Make); 65] = [
     ("write-table-row", write_row),
     ("write-amounts", write_amounts),
     ("write-floats", write_floats),
+    ("write-floats-whole", write_whole_floats),
+    ("write-floats-coordinates", write_coordinates),
+    ("write-floats-far", write_far_floats),
+    ("write-floats-far-17", write_long_floats),
+    ("write-floats-any-17", write_any_floats),
     ("write-specs", write_specs),
     ("write-radix", write_radix),
     ("write-exponents", write_exponents),
@@ -44,6 +49,11 @@ const WORKLOADS: [(&str, Make); 65] = [
     ("format-table-row", format_row),
     ("format-amounts", format_amounts),
     ("format-floats", format_floats),
+    ("format-floats-whole", format_whole_floats),
+    ("format-floats-coordinates", format_coordinates),
+    ("format-floats-far", format_far_floats),
+    ("format-floats-far-17", format_long_floats),
+    ("format-floats-any-17", format_any_floats),
     ("format-specs", format_specs),
     ("format-radix", format_radix),
     ("format-exponents", format_exponents),
@@ -185,6 +195,36 @@ by_std! {
 by_std! {
     write_floats, format_floats, v = FLOATS,
     "{north} {east} {step} {height}",
+    north = v[0], east = v[1], step = v[2], height = v[3]
+}
+
+by_std! {
+    write_whole_floats, format_whole_floats, v = WHOLE_FLOATS,
+    "{north} {east} {step} {height}",
+    north = v[0], east = v[1], step = v[2], height = v[3]
+}
+
+by_std! {
+    write_coordinates, format_coordinates, v = COORDINATES,
+    "{north} {east} {step} {height}",
+    north = v[0], east = v[1], step = v[2], height = v[3]
+}
+
+by_std! {
+    write_far_floats, format_far_floats, v = FAR_FLOATS,
+    "{north:e} {east:e} {step:e} {height:e}",
+    north = v[0], east = v[1], step = v[2], height = v[3]
+}
+
+by_std! {
+    write_long_floats, format_long_floats, v = FAR_FLOATS,
+    "{north:.17e} {east:.17e} {step:.17e} {height:.17e}",
+    north = v[0], east = v[1], step = v[2], height = v[3]
+}
+
+by_std! {
+    write_any_floats, format_any_floats, v = ANY_FLOATS,
+    "{north:.17} {east:.17} {step:.17} {height:.17}",
     north = v[0], east = v[1], step = v[2], height = v[3]
 }
 

@@ -43,7 +43,7 @@ impl Letter {
         page: &EscapedTemplate,
     ) -> Result<(), Error> {
         lend!(rows = self.items);
-        values!(name = &self.name, items:i = rows).write_escaped_to(alloc, out, page)
+        values!(name = &self.name, items:i = rows).write_page_to(alloc, out, page)
     }
 }
 

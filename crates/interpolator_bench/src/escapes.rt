@@ -99,5 +99,5 @@ fn put(
     page: &EscapedTemplate,
     text: &String,
 ) -> Result<(), Error> {
-    Pairs(&[("text", Formattable::display(text))]).write_escaped_to(alloc, out, page)
+    Pairs(&[("text", Formattable::display(text))]).write_page_to(alloc, out, page)
 }

@@ -95,9 +95,12 @@ pub fn amounts(alloc: Global, how: How, repeats: u32) -> Result<String, Failure>
     repeat_format(alloc, how, AMOUNTS, &Pairs(&pairs), repeats)
 }
 
-/// The same amounts as floats.
+/// The same amounts.
+pub const FLOAT_AMOUNTS: [f64; 4] = [12345.67, 2469.134, -14000.0, 814.8];
+
+/// The same line, of floats.
 pub fn float_amounts(alloc: Global, how: How, repeats: u32) -> Result<String, Failure> {
-    let values = [12345.67f64, 2469.134, -14000.0, 814.8];
+    let values = FLOAT_AMOUNTS;
     let pairs = [
         ("net", Formattable::display(&values[0])),
         ("tax", Formattable::display(&values[1])),
@@ -107,22 +110,70 @@ pub fn float_amounts(alloc: Global, how: How, repeats: u32) -> Result<String, Fa
     repeat_format(alloc, how, AMOUNTS, &Pairs(&pairs), repeats)
 }
 
-/// Four floats by their shortest digits.
-pub fn floats(alloc: Global, how: How, repeats: u32) -> Result<String, Failure> {
-    let values = [59.9139f64, 10.7522, 0.1, 1234.5];
+/// Four floats of a kind.
+#[derive(Clone, Copy)]
+pub enum Floats {
+    /// Of few digits.
+    Short,
+    /// Whole numbers.
+    Whole,
+    /// Of six digits after the point.
+    Coordinates,
+    /// Of all digits and far from one, in exponent form.
+    Far,
+    /// The same with 17 digits after the point.
+    FarLong,
+    /// Of any bits, with 17 digits after the point.
+    AnyLong,
+}
+
+impl Floats {
+    /// The four.
+    pub fn values(self) -> [f64; 4] {
+        match self {
+            Floats::Short => [59.9139, 10.7522, 0.1, 1234.5],
+            Floats::Whole => [1500.0, 42.0, 1000000.0, 86400.0],
+            Floats::Coordinates => [59.913869, 10.752245, -33.86882, 151.20929],
+            Floats::Far | Floats::FarLong => FAR_FLOATS,
+            Floats::AnyLong => ANY_FLOATS,
+        }
+    }
+
+    fn format(self) -> &'static str {
+        match self {
+            Floats::Far => "{north:e} {east:e} {step:e} {height:e}",
+            Floats::FarLong => "{north:.17e} {east:.17e} {step:.17e} {height:.17e}",
+            Floats::AnyLong => "{north:.17} {east:.17} {step:.17} {height:.17}",
+            _ => "{north} {east} {step} {height}",
+        }
+    }
+}
+
+const FAR_FLOATS: [f64; 4] = [
+    6.398739211747873e-150,
+    -2.7105054312137611e-120,
+    8.345216793071533e-200,
+    3.141592653589793e-101,
+];
+
+/// Floats whose bits are the numbers that SplitMix64 draws first from the seeds 4, 6, 9 and 11.
+const ANY_FLOATS: [f64; 4] = [
+    1.1502657903799078e224,
+    -5.868472719237263e-13,
+    -8.062156064994877e-84,
+    1.0146145319903965e82,
+];
+
+/// Four floats, by their shortest digits, in exponent form, or with digits after the point.
+pub fn four_floats(alloc: Global, how: How, kind: Floats, repeats: u32) -> Result<String, Failure> {
+    let values = kind.values();
     let pairs = [
-        ("north", Formattable::display(&values[0])),
-        ("east", Formattable::display(&values[1])),
-        ("step", Formattable::display(&values[2])),
-        ("height", Formattable::display(&values[3])),
+        ("north", Formattable::float(&values[0])),
+        ("east", Formattable::float(&values[1])),
+        ("step", Formattable::float(&values[2])),
+        ("height", Formattable::float(&values[3])),
     ];
-    repeat_format(
-        alloc,
-        how,
-        "{north} {east} {step} {height}",
-        &Pairs(&pairs),
-        repeats,
-    )
+    repeat_format(alloc, how, kind.format(), &Pairs(&pairs), repeats)
 }
 
 /// A format that uses thirty-two short names, with these numbers.

@@ -24,6 +24,56 @@ pub enum How {
     Prepare,
 }
 
+/// How many names a format has at most that is used over [`Pairs`]. Those of more are looked up in a
+/// map.
+const FEW: usize = 16;
+
+/// The values of a format.
+#[derive(Drop)]
+enum Names<'a, V> {
+    Few(Pairs<'a, V>),
+    Many(HashMap<&'a str, Formattable<'a, V>>),
+}
+
+impl<'a, V: Value> Names<'a, V> {
+    fn new(alloc: Global, pairs: &Pairs<'a, V>) -> Result<Self, Failure> {
+        if pairs.0.len() <= FEW {
+            return Ok(Names::Few(*pairs));
+        }
+        let mut map = HashMap::new(alloc);
+        for (name, value) in pairs.0 {
+            map.insert(*name, *value)?;
+        }
+        Ok(Names::Many(map))
+    }
+
+    // Makes a new text.
+    fn format(&self, alloc: Global, format: &str) -> Result<String, Error> {
+        match self {
+            Names::Few(pairs) => pairs.format(alloc, format),
+            Names::Many(map) => map.format(alloc, format),
+        }
+    }
+
+    // Appends the output of a format.
+    fn write(&self, alloc: Global, out: &mut TextBuffer, format: &str) -> Result<(), Error> {
+        match self {
+            Names::Few(pairs) => pairs.write_to(alloc, out, format)?,
+            Names::Many(map) => map.write_to(alloc, out, format)?,
+        }
+        Ok(())
+    }
+
+    // Appends the output of a template.
+    fn put(&self, alloc: Global, out: &mut TextBuffer, template: &Template) -> Result<(), Error> {
+        match self {
+            Names::Few(pairs) => pairs.write_template_to(alloc, out, template)?,
+            Names::Many(map) => map.write_template_to(alloc, out, template)?,
+        }
+        Ok(())
+    }
+}
+
 /// Uses a format `repeats` times. Returns the last text, or the format itself if it is not written.
 pub fn repeat_format<V: Value>(
     alloc: Global,
@@ -33,17 +83,11 @@ pub fn repeat_format<V: Value>(
     repeats: u32,
 ) -> Result<String, Failure> {
     match how {
-        How::Format => repeat_new(alloc, format, &map_of(alloc, pairs)?, repeats),
-        How::Write => repeat_write(alloc, format, None, &map_of(alloc, pairs)?, repeats),
+        How::Format => repeat_new(alloc, format, &Names::new(alloc, pairs)?, repeats),
+        How::Write => repeat_write(alloc, format, &Names::new(alloc, pairs)?, repeats),
         How::Template => {
             let template = Template::parse(alloc, format)?;
-            repeat_write(
-                alloc,
-                format,
-                Some(&template),
-                &map_of(alloc, pairs)?,
-                repeats,
-            )
+            repeat_template(alloc, &template, &Names::new(alloc, pairs)?, repeats)
         }
         How::Prepared => repeat_prepared(alloc, format, pairs, repeats),
         How::Parse => repeat_parse(alloc, format, repeats),
@@ -51,61 +95,48 @@ pub fn repeat_format<V: Value>(
     }
 }
 
-// The pairs as a map.
-fn map_of<'a, V: Value>(
-    alloc: Global,
-    pairs: &Pairs<'a, V>,
-) -> Result<HashMap<&'a str, Formattable<'a, V>>, Failure> {
-    let mut map = HashMap::new(alloc);
-    for (name, value) in pairs.0 {
-        map.insert(*name, *value)?;
-    }
-    Ok(map)
-}
-
 // Formats each time into a new text.
 fn repeat_new<V: Value>(
     alloc: Global,
     format: &str,
-    context: &HashMap<&str, Formattable<'_, V>>,
+    names: &Names<'_, V>,
     repeats: u32,
 ) -> Result<String, Failure> {
     let mut text = String::new(alloc);
     for _ in 0..repeats {
-        text = context.format(alloc, format)?;
+        text = names.format(alloc, format)?;
     }
     Ok(text)
 }
 
-// Writes the template, or the format if there is none, anew in the same buffer.
+// Writes the format anew in the same buffer.
 fn repeat_write<V: Value>(
     alloc: Global,
     format: &str,
-    template: Option<&Template>,
-    context: &HashMap<&str, Formattable<'_, V>>,
+    names: &Names<'_, V>,
     repeats: u32,
 ) -> Result<String, Failure> {
     let mut out = TextBuffer::new(alloc);
     for _ in 0..repeats {
         out.clear();
-        put(alloc, &mut out, format, template, context)?;
+        names.write(alloc, &mut out, format)?;
     }
     Ok(out.into_string())
 }
 
-// Appends the output of the template, or of the format if there is none.
-fn put<V: Value>(
+// Writes the template anew in the same buffer.
+fn repeat_template<V: Value>(
     alloc: Global,
-    out: &mut TextBuffer,
-    format: &str,
-    template: Option<&Template>,
-    context: &HashMap<&str, Formattable<'_, V>>,
-) -> Result<(), Error> {
-    match template {
-        Some(template) => context.write_template_to(alloc, out, template)?,
-        None => context.write_to(alloc, out, format)?,
+    template: &Template,
+    names: &Names<'_, V>,
+    repeats: u32,
+) -> Result<String, Failure> {
+    let mut out = TextBuffer::new(alloc);
+    for _ in 0..repeats {
+        out.clear();
+        names.put(alloc, &mut out, template)?;
     }
-    Ok(())
+    Ok(out.into_string())
 }
 
 // Parses the format into a new template each time.

@@ -1,6 +1,7 @@
 //! Values under specs: as formats with names, or by the renderer alone.
 
 use crate::failure::Failure;
+use crate::formats::{FLOAT_AMOUNTS, Floats};
 use crate::uses::{How, repeat_format};
 use interpolator::{
     Decimal, Formattable, Kind, Pairs, Spec, Template, TextBuffer, Trait, Value, View, render,
@@ -34,6 +35,10 @@ pub enum Values {
     SixtyBits,
     /// Whole numbers of 16 digits in base sixteen.
     SixteenHex,
+    /// Floats by their shortest digits.
+    Floats(Floats),
+    /// Floats with two digits after the point.
+    FloatAmounts,
 }
 
 const TEXTS: [&str; 6] = ["é", "naïve", "smörgåsbord", "日本語", "Привет", "plain"];
@@ -83,6 +88,8 @@ impl Values {
             Values::LongDecimals => repeat_decimals(alloc, how, repeats),
             Values::SixtyBits => repeat(alloc, how, &SIXTY_BITS, &[":b"], repeats),
             Values::SixteenHex => repeat(alloc, how, &SIXTEEN_HEX, &[":x"], repeats),
+            Values::Floats(kind) => repeat(alloc, how, &kind.values(), &[""], repeats),
+            Values::FloatAmounts => repeat(alloc, how, &FLOAT_AMOUNTS, &[":.2"], repeats),
         }
     }
 }

@@ -2,6 +2,7 @@
 
 use crate::escapes::{self, Text};
 use crate::failure::Failure;
+use crate::formats::Floats;
 use crate::merge::{self, Kind};
 use crate::uses::How;
 use crate::values::Values;
@@ -59,7 +60,7 @@ enum Shape {
     TableRow,
     Amounts,
     FloatAmounts,
-    Floats,
+    Floats(Floats),
     Braces64K,
     Literal64K,
     Braces1M,
@@ -94,7 +95,7 @@ const KEPT: &[Way] = &[WRITE, TEMPLATE, PREPARED];
 
 /// Formats, each with the ways in which it is used.
 #[rattlefmt::skip]
-const SHAPES: [(&str, Shape, &[Way]); 21] = [
+const SHAPES: [(&str, Shape, &[Way]); 26] = [
     ("log-line", Shape::LogLine, ALL),
     ("names-32-numbers", Shape::NumberNames, ALL),
     ("names-32-signed", Shape::SignedNames, KEPT),
@@ -106,7 +107,12 @@ const SHAPES: [(&str, Shape, &[Way]); 21] = [
     ("table-row", Shape::TableRow, WRITTEN),
     ("amounts", Shape::Amounts, KEPT),
     ("float-amounts", Shape::FloatAmounts, KEPT),
-    ("floats", Shape::Floats, KEPT),
+    ("floats", Shape::Floats(Floats::Short), KEPT),
+    ("floats-whole", Shape::Floats(Floats::Whole), KEPT),
+    ("floats-coordinates", Shape::Floats(Floats::Coordinates), KEPT),
+    ("floats-far", Shape::Floats(Floats::Far), KEPT),
+    ("floats-far-17", Shape::Floats(Floats::FarLong), KEPT),
+    ("floats-any-17", Shape::Floats(Floats::AnyLong), KEPT),
     ("braces-64k", Shape::Braces64K, WRITTEN),
     ("literal-64k", Shape::Literal64K, ALL),
     ("braces-1m", Shape::Braces1M, &[FORMAT]),
@@ -124,7 +130,7 @@ const VALUES_WRITTEN: &[Way] = &[FORMAT_VALUES, WRITE, TEMPLATE, PREPARED];
 
 /// Values under specs, each with the ways in which their format is used. Each is also rendered.
 #[rattlefmt::skip]
-const VALUES: [(&str, Values, &[Way]); 12] = [
+const VALUES: [(&str, Values, &[Way]); 16] = [
     ("specs", Values::Specs, &[FORMAT_VALUES, WRITE, TEMPLATE, PREPARED, PARSE, PREPARE]),
     ("radix", Values::Radix, VALUES_WRITTEN),
     ("exponents", Values::Exponents, VALUES_WRITTEN),
@@ -137,6 +143,10 @@ const VALUES: [(&str, Values, &[Way]); 12] = [
     ("long-decimals", Values::LongDecimals, &[]),
     ("60-bits", Values::SixtyBits, &[]),
     ("16-hex", Values::SixteenHex, &[]),
+    ("floats", Values::Floats(Floats::Short), &[]),
+    ("floats-whole", Values::Floats(Floats::Whole), &[]),
+    ("floats-coordinates", Values::Floats(Floats::Coordinates), &[]),
+    ("float-amounts", Values::FloatAmounts, &[]),
 ];
 
 /// Letters.
@@ -270,7 +280,7 @@ impl Shape {
             Shape::TableRow => documents::table_row(alloc, how, repeats),
             Shape::Amounts => formats::amounts(alloc, how, repeats),
             Shape::FloatAmounts => formats::float_amounts(alloc, how, repeats),
-            Shape::Floats => formats::floats(alloc, how, repeats),
+            Shape::Floats(kind) => formats::four_floats(alloc, how, kind, repeats),
             Shape::Braces64K => formats::copies(alloc, how, BRACES, COPIES_64K, repeats),
             Shape::Literal64K => formats::copies(alloc, how, LITERAL, COPIES_64K, repeats),
             Shape::Braces1M => formats::copies(alloc, how, BRACES, COPIES_1M, repeats),

@@ -1,15 +1,16 @@
-//! Formats whose values are written escaped: by a page, prepared, and by laws.
+//! Formats whose values are written escaped: by a page, by one call, prepared, and by laws.
 
 use crate::report::Report;
 use interpolator::{
-    Error, Escape, EscapedTemplate, Formattable, Interpolate, PlaceError, Template, TextBuffer,
-    Values, View, Why, items_of, list, values,
+    Error, Escape, EscapeError, EscapedTemplate, Formattable, Interpolate, PlaceError, Template,
+    TextBuffer, Values, View, Why, format_escaped, items_of, list, values,
 };
 use interpolator_laws::escaped::{
     a_line_stays_a_line, a_list_is_a_record, an_escape_makes_no_fault, no_value_leaves_its_place,
     values_come_back,
 };
 use std::alloc::Global;
+use std::collections::HashMap;
 
 /// An escape, a format, and what it means with the values below.
 type Row = (Escape, &'static str, &'static str);
@@ -17,7 +18,7 @@ type Row = (Escape, &'static str, &'static str);
 /// Worked by hand from the tables of escapes: `a` is `<&>"x`, `b` is `it's`, `c` is a tab and `\`, `n`
 /// is -7, and `l` is the list of `<` and `"`.
 #[rattlefmt::skip]
-const PAGES: [Row; 18] = [
+const PAGES: [Row; 20] = [
     (Escape::Html, "<p title=\"{a}\">{b}</p>", "<p title=\"&lt;&amp;&gt;&quot;x\">it&#39;s</p>"),
     (Escape::Html, "{a:.3}|{a:>7}|{a:?}", "&lt;&amp;&gt;|  &lt;&amp;&gt;&quot;x|&quot;&lt;&amp;&gt;\\&quot;x&quot;"),
     (Escape::Html, "{a:<^9}{n:&>4}", "&lt;&lt;&lt;&amp;&gt;&quot;x&lt;&lt;&amp;&amp;-7"),
@@ -30,6 +31,8 @@ const PAGES: [Row; 18] = [
     (Escape::Json, "{{\"a\": \"{a}\", \"b\": \"{b}\"}}", "{\"a\": \"\\u003c&>\\\"x\", \"b\": \"it's\"}"),
     (Escape::Json, "[{l:i(\"{}\")(, )}]", "[\"\\u003c\", \"\\\"\"]"),
     (Escape::Json, "\"{c}{n}\"", "\"\\t\\\\-7\""),
+    (Escape::Json, "{{\"a\":{a:?},\"n\":[{n:?},{n:>4?}]}}", "{\"a\":\"\\u003c&>\\\"x\",\"n\":[-7,  -7]}"),
+    (Escape::Json, "[{c:.1?},{a:>9?}]", "[\"\\t\\\\\",\"\\u003c&>\\\"x\"]"),
     (Escape::Shell, "echo '{b}' -- '{c}'", "echo 'it'\\''s' -- '\t\\'"),
     (Escape::Shell, "echo {l:i('{}')( )}", "echo '<' '\"'"),
     (Escape::Line, "{a} {b} {c}", "<&>\"x it's \\t\\\\"),
@@ -40,7 +43,7 @@ const PAGES: [Row; 18] = [
 
 /// A format that no value stands in, and why not: its byte, and what is wrong.
 #[rattlefmt::skip]
-const MISPLACED: [(Escape, &str, usize, Why); 12] = [
+const MISPLACED: [(Escape, &str, usize, Why); 14] = [
     (Escape::Html, "<p id={a}>", 6, Why::Value),
     (Escape::Html, "{a}<script>{b}</script>", 11, Why::Value),
     (Escape::Html, "<a href=\"{b}\">", 9, Why::Value),
@@ -50,6 +53,8 @@ const MISPLACED: [(Escape, &str, usize, Why); 12] = [
     (Escape::Html, "{l:<<9i({})}", 0, Why::Fill),
     (Escape::Csv, "\"{a}\",{n}", 6, Why::Value),
     (Escape::Json, "{{\"n\": {n}}}", 7, Why::Value),
+    (Escape::Json, "[\"{a:?}\"]", 2, Why::Value),
+    (Escape::Json, "[{n:+?}]", 1, Why::Value),
     (Escape::Shell, "echo \"{a}\"", 6, Why::Value),
     (Escape::Shell, "echo {b}", 5, Why::Value),
     (Escape::Line, "{a}{l:\t>9i({})}", 3, Why::Fill),
@@ -73,9 +78,9 @@ fn shown(
 ) -> Result<(), Error> {
     let alloc = report.alloc;
     let mut out = TextBuffer::new(alloc);
-    row.write_escaped_to(alloc, &mut out, page)?;
+    row.write_page_to(alloc, &mut out, page)?;
     report.text("a page, written", wanted, out.as_str());
-    let text = row.format_escaped(alloc, page)?;
+    let text = row.format_page(alloc, page)?;
     report.text("a page, made", wanted, text.as_str());
     let text = no_value_leaves_its_place(alloc, page, row)?;
     report.text("a page, made by the law", wanted, text.as_str());
@@ -88,8 +93,24 @@ fn shown(
     Ok(())
 }
 
+/// A text by one call, or its fault: a text that is wanted, and a fault.
+fn at_once(
+    report: &mut Report,
+    format: &str,
+    wanted: (&str, &str),
+    answer: Result<String, EscapeError>,
+) {
+    match answer {
+        Ok(text) => report.made(format, wanted, Ok(text)),
+        Err(EscapeError::Fault(error)) => report.made(format, wanted, Err(error)),
+        Err(EscapeError::Misplaced(_)) => report.holds(format, false),
+    }
+}
+
 fn pages(report: &mut Report, row: &Values<'_>) -> Result<(), Error> {
     for (escape, format, wanted) in PAGES {
+        let answer = row.format_escaped(report.alloc, escape, format);
+        at_once(report, format, (wanted, ""), answer);
         match page_of(report.alloc, escape, format)? {
             Some(page) => shown(report, &page, row, wanted)?,
             None => report.holds(format, false),
@@ -98,9 +119,15 @@ fn pages(report: &mut Report, row: &Values<'_>) -> Result<(), Error> {
     Ok(())
 }
 
-fn misplaced(report: &mut Report) -> Result<(), Error> {
+fn misplaced(report: &mut Report, row: &Values<'_>) -> Result<(), Error> {
     let alloc = report.alloc;
     for (escape, format, place, why) in MISPLACED {
+        match row.format_escaped(alloc, escape, format) {
+            Err(EscapeError::Misplaced(found)) => {
+                report.holds(format, found.place == place && found.why == why);
+            }
+            _ => report.holds(format, false),
+        }
         match Template::parse(alloc, format)?.escaped(alloc, escape) {
             Err(PlaceError::Misplaced(found)) => {
                 report.number(format, place, found.place);
@@ -142,6 +169,12 @@ fn faults(report: &mut Report, row: &Values<'_>) -> Result<(), Error> {
         ("{l:.1i}", "Parse(Iter(6))"),
         ("{a:>5y}", "Parse(Expected(\"}\", 5))"),
     ] {
+        at_once(
+            report,
+            format,
+            ("", fault),
+            row.format_escaped(alloc, Escape::Html, format),
+        );
         match page_of(alloc, Escape::Html, format)? {
             Some(page) => {
                 let (plain, escaped) = an_escape_makes_no_fault(alloc, &page, row);
@@ -162,6 +195,39 @@ fn faults(report: &mut Report, row: &Values<'_>) -> Result<(), Error> {
     Ok(())
 }
 
+/// One call over a map whose type names two lifetimes, and over a context by the function.
+fn maps(report: &mut Report) {
+    let alloc = report.alloc;
+    let name = View::Text("Ann\n<b>");
+    let mut map = HashMap::new(alloc);
+    let added = map.insert("name", Formattable::display(&name));
+    report.holds("a name is added", added.is_ok());
+    let answer = map.format_escaped(alloc, Escape::Line, "user {name}");
+    at_once(report, "a map", ("user Ann\\n<b>", ""), answer);
+    let answer = format_escaped(alloc, Escape::Html, "<i>{name:.5}</i>", &values!(name));
+    at_once(report, "a function", ("<i>Ann\n&lt;</i>", ""), answer);
+}
+
+/// What `{}` writes for an error of one call.
+fn told(report: &mut Report, row: &Values<'_>) -> Result<(), Error> {
+    for (format, wanted) in [
+        ("<p id={a}>", "at 6: this value is out of place"),
+        (
+            "{a}{missing}",
+            "specified value not in context `missing` at 4",
+        ),
+    ] {
+        match row.format_escaped(report.alloc, Escape::Html, format) {
+            Ok(_) => report.holds(format, false),
+            Err(error) => {
+                let text = format!(in report.alloc; "{error}")?;
+                report.text(format, wanted, text.as_str());
+            }
+        }
+    }
+    Ok(())
+}
+
 /// The checks of escaped formats.
 pub fn run(report: &mut Report) -> Result<(), Error> {
     report.begin("escaped");
@@ -175,5 +241,7 @@ pub fn run(report: &mut Report) -> Result<(), Error> {
     pages(report, &row)?;
     lines_and_records(report, &row)?;
     faults(report, &row)?;
-    misplaced(report)
+    maps(report);
+    told(report, &row)?;
+    misplaced(report, &row)
 }

@@ -13,6 +13,7 @@ macro_rules! again {
     };
 }
 
+mod at_once;
 mod decimals;
 mod lists;
 mod loaded;
@@ -24,6 +25,7 @@ use interpolator::Error;
 
 pub fn run(report: &mut Report) -> Result<(), Error> {
     report.begin("memory");
+    at_once::run(report);
     decimals::run(report)?;
     lists::run(report)?;
     loaded::run(report)?;
