@@ -1,0 +1,3 @@
+-- Texts that stand on several lines.
+pub mod Lines
+pub mod Spellings

@@ -1,0 +1,7 @@
+use Rattle.std.proofs.Common.{arith}
+use Rattle.std.proofs.lemmas.Grind.{common_steps}
+use Rattle.po.proofs.ScanLemmas.{boundary_after}
+use Rattle.po.proofs.scan.strip.Goals as goal
+
+pub split_at-requires : goal.split_at-requires
+split_at-requires c = grind (arith, common_steps, boundary_after)
