@@ -10,8 +10,10 @@ here=$(cd "$(dirname "$0")" && pwd)
 name=catalogue
 usage='usage: catalogue [--line | --html] [--fallback FILE] [--] FILE KEY '
 usage+='[NAME=TEXT | NAME:=NUMBER | NAME:.=DECIMAL | NAME:~=FLOAT | NAME[]=ITEM,ITEM..] | '
-usage+='catalogue --check [--line | --html] [--] FILE..'
-wanted=175
+usage+='catalogue --check [--line | --html] [--] FILE.. | '
+usage+='catalogue --po [--context TEXT] [--line | --html] [--] FILE KEY WORD.. | '
+usage+='catalogue --po --check [--line | --html] [--] FILE..'
+wanted=235
 . "$here/../../.ci/cases.sh"
 
 # message WANTED WORD..: a message, which goes to standard output, with status 0.
@@ -72,7 +74,7 @@ message_cases() {
 
 # Formats and lines that are broken whatever the values are.
 broken_cases() {
-    printf '%s\n' 'a = {x:>5}' 'b = é {x:?y}' 'no equals' 'c = {h:i({z)}' '  d = {q:+i}' \
+    printf '%s\n' 'a = {x:>5}' 'b = é {x:?y}' 'no equals' 'c = {h:i({z)}' 'd = {q:+i}' \
         'e={x:+#' >broken.txt
     told "$(printf '%s\n' \
         'broken.txt:2:11: error while parsing input: Expected `}` at 7 (byte 7 of the format)' \
@@ -81,8 +83,8 @@ broken_cases() {
         '  |' '3 | no equals' '  | ^' \
         'broken.txt:4:11: error while parsing input: Format spec at 6 is nether closed with a `}` (byte 6 of the format)' \
         '  |' '4 | c = {h:i({z)}' '  |          ~^' \
-        'broken.txt:5:12: error while parsing input: Width, precision, `-`, `+` and `#` are not supported for `i` at 5 (byte 5 of the format)' \
-        '  |' '5 |   d = {q:+i}' '  |       ~~~~~^' \
+        'broken.txt:5:10: error while parsing input: Width, precision, `-`, `+` and `#` are not supported for `i` at 5 (byte 5 of the format)' \
+        '  |' '5 | d = {q:+i}' '  |     ~~~~~^' \
         'broken.txt:6:4: error while parsing input: Format spec at 1 is nether closed with a `}` (byte 1 of the format)' \
         '  |' '6 | e={x:+#' '  |   ~^~~~')" \
         broken.txt a x=1
@@ -165,6 +167,44 @@ kind_cases() {
         kinds.txt a name=Ann
 }
 
+# Messages of several lines, and escapes in them.
+folded_cases() {
+    local more='a line that begins with a blank goes on with a message, and none is before'
+    local escape='a backslash is followed by `n`, for a line end, or by another backslash'
+    local places='in text, or between the quotes of an attribute that is a text'
+    printf '%s\n' 'mail(name) = Dear {name},\n' '  your order' '' $'\twas \\\\ shipped' '   ' '# remark' \
+        'empty =' '  in the next line' 'two = a\nb' 'list(l[]) = {l:i(' '  {})(,\n)}' 'g = a' \
+        '  {y}' >fold.txt
+    message $'Dear Ann,\nyour order was \\ shipped' fold.txt mail name=Ann
+    message 'in the next line' fold.txt empty
+    message $'a\nb' fold.txt two
+    message $' a,\n b' fold.txt list 'l[]=a,b'
+    message 'a 1' fold.txt g y=1
+    message 'a &lt;' --html fold.txt g 'y=<'
+    told "$(printf '%s\n' 'fold.txt:13:4: specified value not in context `y` at 3' \
+        '   |' '13 |   {y}' '   |    ^')" fold.txt g
+    case_of file file 0 '' '' --check --html fold.txt
+    printf '%s\r\n' $'\xef\xbb\xbfa = x\\n' ' y' '' '  z' >crlf.txt
+    message $'x\ny z' crlf.txt a
+
+    printf '%s\n' '  before' 'a = x' '# c' ' after {' 'b = \t' 'c = a\' '  b' 'd = 1\n2' \
+        '  {x:?y} é' 'e(n:) = \\{m}' >unfold.txt
+    told "$(printf '%s\n' "unfold.txt:1:3: $more" '  |' '1 |   before' '  |   ^' \
+        "unfold.txt:4:2: $more" '  |' '4 |  after {' '  |  ^' \
+        "unfold.txt:5:5: $escape" '  |' '5 | b = \t' '  |     ^' \
+        "unfold.txt:6:6: $escape" '  |' '6 | c = a\' '  |      ^' \
+        'unfold.txt:9:7: error while parsing input: Expected `}` at 8' \
+        '  |' '9 |   {x:?y} é' '  |       ^' \
+        'unfold.txt:10:12: specified value not in context `m` at 2' \
+        '   |' '10 | e(n:) = \\{m}' '   |            ^')" --check unfold.txt
+    printf '%s\n' 'plural: n == 1 ? one :' '  other' 'a = <p' '  {x}>' >unfold2.txt
+    told "$(printf '%s\n' 'unfold2.txt:1:23: a name, a number, `!` or `(` is missing here' '  |' \
+        '1 | plural: n == 1 ? one :' '  |                       ^' \
+        "unfold2.txt:2:3: $more" '  |' '2 |   other' '  |   ^' \
+        "unfold2.txt:4:3: this value is out of place; a value may stand $places" '  |' \
+        '4 |   {x}>' '  |   ^')" --check --html unfold2.txt
+}
+
 # Decimals.
 decimal_cases() {
     printf '%s\n' 'bill(item, price:.) = {item}:{price:>7} {price:>6.1} {price:e}' >prices.txt
@@ -202,21 +242,21 @@ key_cases() {
         'mark.txt:1:16: error while parsing input: Format spec at 7 is nether closed with a `}` (byte 7 of the format)' \
         '  |' '1 | hello = Hello {name' '  |               ~^~~~')" \
         mark.txt hello name=Ann
-    printf '%s\n' 'é = first' '# é = none' 'bye = Bye' '  é(x) = {x' ' = no key' '(n:) = {n}' \
-        'greeting(name count) = {name}' 'cart(n :) = {n}' 'bye=Bye' '   = ' >keys.txt
+    printf '%s\n' 'é = first' '# é = none' 'bye = Bye' 'é(x) = {x' '= no key' '(n:) = {n}' \
+        'greeting(name count) = {name}' 'cart(n :) = {n}' 'bye=Bye' '=' >keys.txt
     told "$(printf '%s\n' \
-        'keys.txt:4:3: line 1 has the key `é` too' \
-        '  |' '4 |   é(x) = {x' '  |   ^' \
-        'keys.txt:4:11: error while parsing input: Format spec at 1 is nether closed with a `}` (byte 1 of the format)' \
-        '  |' '4 |   é(x) = {x' '  |          ~^' \
-        'keys.txt:5:2: no key' '  |' '5 |  = no key' '  |  ^' \
+        'keys.txt:4:1: line 1 has the key `é` too' \
+        '  |' '4 | é(x) = {x' '  | ^' \
+        'keys.txt:4:9: error while parsing input: Format spec at 1 is nether closed with a `}` (byte 1 of the format)' \
+        '  |' '4 | é(x) = {x' '  |        ~^' \
+        'keys.txt:5:1: no key' '  |' '5 | = no key' '  | ^' \
         'keys.txt:6:1: no key' '  |' '6 | (n:) = {n}' '  | ^' \
         'keys.txt:7:10: declarations are `(NAME, NAME:, NAME:., NAME:~, NAME[])`, each name once' \
         '  |' '7 | greeting(name count) = {name}' '  |          ^' \
         'keys.txt:8:6: declarations are `(NAME, NAME:, NAME:., NAME:~, NAME[])`, each name once' \
         '  |' '8 | cart(n :) = {n}' '  |      ^' \
         'keys.txt:9:1: line 3 has the key `bye` too' '  |' '9 | bye=Bye' '  | ^' \
-        'keys.txt:10:4: no key' '   |' '10 |    = ' '   |    ^')" \
+        'keys.txt:10:1: no key' '   |' '10 | =' '   | ^')" \
         keys.txt bye
     # so many lines take minutes, more than a case has, if each key is compared with all before it
     seq -f 'key.%.0f = {x}' 400000 >many.txt
@@ -273,7 +313,7 @@ form_cases() {
         'one_form.txt:3:1: `box` lacks forms that the rule can choose: `other`' '  |' \
         '3 | box.one = a box' '  | ^')"
     told "$lacking" --check forms.txt one_form.txt
-    printf '%s\n' 'plural: n == 1 ? one : (n > 1 ? 2 : one)' 'a.2 = b' '  x.y.2 = c' 'a = d' \
+    printf '%s\n' 'plural: n == 1 ? one : (n > 1 ? 2 : one)' 'a.2 = b' 'x.y.2 = c' 'a = d' \
         'x.y.one = e' 'z.three = f' 'w.one = g' 'w.2 = h' >whole.txt
     case_of file file 0 '' '' --check whole.txt
     message h whole.txt w n:=5
@@ -453,6 +493,128 @@ use_cases() {
     case_of file closed 3 '' ''
 }
 
+# Messages of PO files. Which of them count, and which files are none, is what msgfmt 0.21 says, and
+# the forms are those of its rule.
+po_cases() {
+    printf '%s\n' '# German' 'msgid ""' 'msgstr ""' '"Content-Type: text/plain; charset=UTF-8\n"' \
+        '"Plural-Forms: nplurals=2; plural=n != 1;\n"' '' '#: main.c:3' 'msgid "Hello {name}!"' \
+        'msgstr "Hallo {name}!"' '' '#, c-format, fuzzy' '#| msgid "Bye"' 'msgid "Bye {name}."' \
+        'msgstr "Tschüs {name"' '' 'msgctxt "menu"' 'msgid "Open {x}"' 'msgstr "Öff"' \
+        '"nen\t\"{x:>3}\"\101"' '' 'msgid "Open {x}"' 'msgstr ""' '' 'msgid "{n} file of {a}"' \
+        'msgid_plural "{n} files of {a}"' 'msgstr[0] "eine Datei von {a}"' 'msgstr[1] "{n} Dateien "' \
+        '"von {a}"' '' '#, fuzzy' '#~ msgid "old' '' 'msgid "{n} apple"' 'msgid_plural "{n} apples"' \
+        'msgstr[0] ""' 'msgstr[1] ""' '' 'msgid "No\\fuzzy"' 'msgstr "Nicht\nfuzzy"' >de.po
+    case_of file file 0 '' '' --po --check de.po
+    message 'Hallo Zoë!' --po de.po 'Hello {name}!' name=Zoë
+    message 'Bye Zoë.' --po de.po 'Bye {name}.' name=Zoë
+    message $'Öffnen\t"  1"A' --po --context menu de.po 'Open {x}' x=1
+    message 'Open 1' --po de.po 'Open {x}' x=1
+    message 'eine Datei von Zoë' --po de.po '{n} file of {a}' n:=1 a=Zoë
+    message '0 Dateien von Zoë' --po de.po '{n} file of {a}' n:=0 a=Zoë
+    message '1 apple' --po de.po '{n} apple' n:=1
+    message '2 apples' --po de.po '{n} apple' n:=2
+    message $'Nicht\nfuzzy' --po de.po 'No\fuzzy'
+    message 'Hallo &lt;!' --po --html de.po 'Hello {name}!' 'name=<'
+    told 'de.po: no message `Open`' --po de.po Open
+    told 'de.po: `{n} apple` wants `n:=NUMBER`' --po de.po '{n} apple' n=1
+    told "$(printf '%s\n' 'de.po:9:16: specified value not in context `name` at 7' \
+        '  |' '9 | msgstr "Hallo {name}!"' '  |                ^')" --po de.po 'Hello {name}!'
+    wrong 'bad word: x' --po de.po 'Hello {name}!' x
+
+    printf '%s\n' 'msgid ""' 'msgstr ""' \
+        '"Plural-Forms: nplurals=2; plural=n == 1 ? 0 : n == 2 ? 1 : 2;\n"' '' \
+        'msgid "{a} and {b:x} and {l:i({:?})(, )}"' 'msgstr "\t{c} und "' \
+        '"é{b} und {a:i} {l:i({}{:?}{:x})}{l:?"' '' 'msgid "{a}{b}{a:x}"' 'msgstr "{a}"' '' \
+        'msgid "{a}{b}{a:x}"' 'msgstr ""' '' 'msgid "{n} file"' 'msgid_plural "{n} files"' \
+        'msgstr[0] "eine {m}"' >bad.po
+    told "$(printf '%s\n' 'bad.po:3:35: the rule chooses form 2 of 2 for 0' '  |' \
+        '3 | "Plural-Forms: nplurals=2; plural=n == 1 ? 0 : n == 2 ? 1 : 2;\n"' \
+        '  |                                   ^' \
+        'bad.po:7:37: error while parsing input: Expected `}` at 45' \
+        '  |' '7 | "é{b} und {a:i} {l:i({}{:?}{:x})}{l:?"' \
+        '  |                                     ^' \
+        'bad.po:6:12: the message has no `{c}`' \
+        '  |' '6 | msgstr "\t{c} und "' '  |            ^' \
+        'bad.po:7:4: the message has `{b}` otherwise' \
+        '  |' '7 | "é{b} und {a:i} {l:i({}{:?}{:x})}{l:?"' '  |    ^' \
+        'bad.po:7:12: the message has `{a}` otherwise' \
+        '  |' '7 | "é{b} und {a:i} {l:i({}{:?}{:x})}{l:?"' '  |            ^' \
+        'bad.po:7:29: the message has `{}` otherwise' \
+        '  |' '7 | "é{b} und {a:i} {l:i({}{:?}{:x})}{l:?"' '  |                             ^' \
+        'bad.po:7:35: the message has `{l}` otherwise' \
+        '  |' '7 | "é{b} und {a:i} {l:i({}{:?}{:x})}{l:?"' \
+        '  |                                   ^' \
+        'bad.po:10:9: the translation lacks `{b}`' '   |' '10 | msgstr "{a}"' '   |         ^' \
+        'bad.po:12:8: line 9 has this message too' \
+        '   |' '12 | msgid "{a}{b}{a:x}"' '   |        ^' \
+        'bad.po:15:8: 1 of 2 forms that Plural-Forms tells' \
+        '   |' '15 | msgid "{n} file"' '   |        ^' \
+        'bad.po:17:18: the message has no `{m}`' \
+        '   |' '17 | msgstr[0] "eine {m}"' '   |                  ^')" --po --check bad.po
+    printf '%s\n' 'msgid ""' 'msgstr "Plural-Forms: nplurals=2; plural=n == ;\n"' '' 'msgid "<p {x}>"' \
+        'msgstr ""' >rule.po
+    told "$(printf '%s\n' 'rule.po:2:47: a name, a number, `!` or `(` is missing here' \
+        '  |' '2 | msgstr "Plural-Forms: nplurals=2; plural=n == ;\n"' \
+        '  |                                               ^' \
+        'rule.po:4:11: this value is out of place' '  |' '4 | msgid "<p {x}>"' '  |           ^')" \
+        --po --check --html rule.po
+    printf '%s\n' 'msgid ""' 'msgstr "text/plain; charset=ISO-8859-1\n"' '' 'msgid "a"' 'msgstr "é"' >latin.po
+    told "$(printf '%s\n' 'latin.po:2:29: a PO file is read as UTF-8' '  |' \
+        '2 | msgstr "text/plain; charset=ISO-8859-1\n"' '  |                             ^')" \
+        --po --check latin.po
+    wrong "$usage" --po --context menu --check de.po
+    wrong "$usage" --context menu de.po x
+    wrong "$usage" --po --po de.po x
+    wrong "$usage" --po --fallback de.po de.po x
+    unread 'none.po: No such file or directory (os error 2)' --po none.po x
+    unread '.: Is a directory (os error 21)' --po --check .
+    case_of closed file 3 '' '' --po de.po 'No\fuzzy'
+    refusals_of 0 $'2 apples\n' '' --po de.po '{n} apple' n:=2
+}
+
+# Files that are no PO files, and some that are.
+broken_po_cases() {
+    local string='a string ends on its line, and has no NUL'
+    local escape='an escape is one of `\n \t \r \a \b \f \v \\ \"`, or `\001` to `\177`'
+    local entry='an entry is `msgctxt` or none, `msgid`, and `msgstr`, or `msgid_plural` and '
+    entry+='`msgstr[0]`, `msgstr[1]`.., with no comment in it'
+    broken_po "2:10: $string" 'msgid "a"\nmsgstr "b\n'
+    broken_po "2:10: $string" 'msgid "a"\nmsgstr "b'
+    broken_po "2:10: $escape" 'msgid "a"\nmsgstr "b\\'
+    broken_po "1:9: $string" 'msgid "a\0"\nmsgstr "b"\n'
+    broken_po "2:10: $escape" 'msgid "a"\nmsgstr "é\\q"\n'
+    broken_po "2:9: $escape" 'msgid "a"\nmsgstr "\\400"\n'
+    broken_po "2:9: $escape" 'msgid "a"\nmsgstr "\\000"\n'
+    broken_po "2:1: $entry" 'msgid "a"\n# b\nmsgstr "c"\n'
+    broken_po "2:1: $entry" 'msgid "a"\n'
+    broken_po '1:6: a string is missing here' 'msgid'
+    broken_po '1:7: a string is missing here' 'msgid msgstr "a"'
+    broken_po "1:1: $entry" 'msgstr "a"\n'
+    broken_po "1:1: $entry" '"a"\n'
+    broken_po "1:1: $entry" '\0'
+    broken_po "3:1: $entry" 'msgid "a"\nmsgid_plural "b"\nmsgstr[1] "c"\n'
+    broken_po "4:1: $entry" 'msgid "a"\nmsgid_plural "b"\nmsgstr[0] "c"\nmsgstr[2] "d"\n'
+    broken_po "2:1: $entry" 'msgid "a"\nmsgstr[0] "c"\n'
+    broken_po "1:1: $entry" 'domain "a"\n'
+    broken_po "1:1: $entry" '\xef\xbb\xbfmsgid "a"\nmsgstr "b"\n'
+    broken_po '' ''
+    broken_po '' '# a'
+    broken_po '' 'msgid "a" "b"\rmsgstr\r\n"c" ""\r#, fuzzy'
+    broken_po '' 'msgid"a"msgstr"b"msgctxt""msgid"a"msgstr""'
+}
+
+# broken_po WHAT FILE: a file, written as printf does, of which the check says this first.
+broken_po() {
+    local found status=0
+    printf "$2" >broken.po
+    found=$("$program" --po --check broken.po 2>&1 >/dev/null | tr -d '\0'; exit "${PIPESTATUS[0]}") || status=$?
+    if [[ ${found%%$'\n'*} == "${1:+broken.po:$1}" && $status -eq $((${#1} > 0)) ]]; then
+        passed=$((passed + 1))
+    else
+        fail "the PO file $2: $status $found"
+    fi
+}
+
 refused_calls() {
     refusals_of 0 $'Ann: -07 of <a>, <b>\n' '' declared.txt cart name=Ann n:=-7 'l[]=a,b'
     refusals_of 0 $'<a title="&lt;">&quot;&lt;&quot; 1</a>\n' '' --html page.txt link 'to=<' n:=1
@@ -476,6 +638,7 @@ all_cases() {
     head_cases
     declared_cases
     kind_cases
+    folded_cases
     decimal_cases
     float_cases
     key_cases
@@ -484,6 +647,8 @@ all_cases() {
     broken_rule_cases
     language_cases
     escape_cases
+    po_cases
+    broken_po_cases
     check_cases
     use_cases
     refused_calls

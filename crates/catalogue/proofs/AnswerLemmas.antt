@@ -6,7 +6,7 @@ use Rattle.interpolator.specs.Faults.{Answer as Reply, Fault, answer_place, faul
 use Rattle.interpolator_escapes.specs.declared.escape.Escape.{Escape}
 use Rattle.catalogue.specs.Declarations.{Declared, nothing, these, broken}
 use Rattle.catalogue.specs.Entries.{Held}
-use Rattle.catalogue.specs.Files.{Line}
+use Rattle.catalogue.specs.Files.{Line, Page}
 use Rattle.catalogue.specs.Messages.{Answers, IsMadeOrTold, OfLine, Replies}
 use Rattle.catalogue.specs.Picks.{ArePicked}
 use Rattle.catalogue.specs.Sound.{IsSoundOver}
@@ -40,7 +40,7 @@ module _ (by_kind : ByKind) (none : MeansNone) (same : SameFaults) (escape : Opt
   replies_made declared values held (BadWord w) sound given are h = absurd h
 
 -- what the line comes to is the answer
-pub answers_line : {Y : Type 0} (escape : Option Escape) (files : List (List ℕ × List ℕ))
+pub answers_line : {Y : Type 0} (escape : Option Escape) (files : List Page)
     (key : List ℕ) (words : List (String Y)) (answer : Answer)
     → OfLine escape files key words answer → Answers escape files key words answer
 answers_line escape files key words (Message m) h = h

@@ -23,7 +23,6 @@ use Rattle.interpolator.specs.declared.Bits.TheVariants.{B128}
 use Rattle.interpolator.specs.declared.Spec.{Spec}
 use Rattle.interpolator.specs.declared.Trait.{Trait}
 use Rattle.interpolator.specs.declared.View.{View}
-use Rattle.interpolator_escapes.specs.Escapes.{escape_of}
 use Rattle.interpolator_escapes.specs.Formats.{escaped_shows}
 use Rattle.interpolator_escapes.specs.declared.escape.Escape.{Escape}
 use Rattle.catalogue.specs.Declarations.{these}
@@ -55,7 +54,7 @@ MeansNone = (finds : List ℕ → Option (Slots View)) (e : Environment View) (a
 -- an escape changes no fault
 abbrev pub SameFaults : Type 0
 SameFaults = (escape : Escape) (e : Environment View) (a : At)
-    → (means (escaped_shows (escape_of escape) view_shows) e a).fault ≡ (means view_shows e a).fault
+    → (means (escaped_shows escape view_shows) e a).fault ≡ (means view_shows e a).fault
 
 -- so a message has the fault that it has without one
 same_fault : SameFaults → (escape : Option Escape) (format : List ℕ) (held : List Held)

@@ -3,6 +3,7 @@ pub mod FirstLemmas
 pub mod HeldLemmas
 pub mod KeyLemmas
 pub mod KindLemmas
+pub mod LineLemmas
 pub mod OwnLemmas
 pub mod PlaceLemmas
 pub mod SoundLemmas

@@ -1,34 +1,46 @@
 -- Files of messages and their lines. Texts are bytes.
 use Rattle.std.specs.Prelude.{ℕ, ◌+◌, List, [], ◌∷◌, string_bytes}
 use Rattle.std.specs.Str.Lines.{lines}
+use Rattle.words.specs.Items.{texts_of}
 use Rattle.words.specs.Programs.{without_mark}
 use Rattle.catalogue.specs.declared.files.File.{File}
 use Rattle.catalogue.specs.declared.files.Line.{Line as LentLine}
+use Rattle.catalogue.specs.declared.files.Page.{Page as LentPage}
 
--- a line of a file: the file's name, the line's number, from 1 on, and its text
+-- a line of a file: the file's name, the line's number, from 1 on, its text, and the texts of the
+-- lines after it
 pub record Line : Type 0 where
   pub file : List ℕ
   pub number : ℕ
   pub text : List ℕ
+  pub rest : List (List ℕ)
 
 -- a line, borrows aside
 abbrev pub as_line : LentLine → Line
-as_line line = record { file = line.file.now; number = line.number; text = line.text.now }
+as_line line = record {
+  file = line.file.now;
+  number = line.number;
+  text = line.text.now;
+  rest = texts_of line.rest.now;
+}
 
--- a file: its name and its text
-abbrev pub as_file : File → List ℕ × List ℕ
-as_file file = (string_bytes file.name, string_bytes file.text)
+-- the name of a file, and the texts of its lines
+abbrev pub Page : Type 0
+Page = List ℕ × List (List ℕ)
 
--- the texts of the lines of a file
-abbrev pub plain_lines : List ℕ → List (List ℕ)
-plain_lines text = lines (without_mark text)
+abbrev pub as_page : LentPage → Page
+as_page page = (page.file.now, texts_of page.texts.items)
+
+-- those of a file
+abbrev pub page_of : File → Page
+page_of file = (string_bytes file.name, lines (without_mark (string_bytes file.text)))
 
 -- the lines of a file with these texts, of which the first has this number
 abbrev pub numbered : List ℕ → ℕ → List (List ℕ) → List Line
 numbered file n [] = []
 numbered file n (text ∷ texts) =
-    record { file = file; number = n; text = text } ∷ numbered file (n + 1) texts
+    record { file = file; number = n; text = text; rest = texts } ∷ numbered file (n + 1) texts
 
 -- the lines of a file
-abbrev pub lines_of : List ℕ × List ℕ → List Line
-lines_of file = numbered file.0 1 (plain_lines file.1)
+abbrev pub lines_of : Page → List Line
+lines_of page = numbered page.0 1 page.1

@@ -1,19 +1,31 @@
--- A line of a file: its key, what it declares, and its format. Texts are bytes.
-use Rattle.std.specs.Prelude.{ℕ, Bool, not, ◌==◌, ◌&&◌, ◌||◌, List, if◌then◌else◌, is_some, length}
+-- A line of a file: its key, and what it declares. Texts are bytes.
+use Rattle.std.specs.Prelude.{ℕ, Bool, not, ◌==◌, ◌&&◌, ◌||◌, List, if◌then◌else◌, is_some}
 use Rattle.std.specs.Prelude.{Option, None, Some}
-use Rattle.std.specs.List.{after_first, before_first, slice_index}
-use Rattle.std.specs.Str.{bytes_eq, trim, trim_start}
+use Rattle.std.specs.List.{before_first, slice_index}
+use Rattle.std.specs.Str.{bytes_eq}
 use Rattle.catalogue.specs.Declarations.{Declared, declared_in, has, key_in}
 use Rattle.catalogue.specs.Rules.{rule_head, rule_in}
+use Rattle.folds.specs.Lines.{goes_on, is_blank}
 use Rattle.words.specs.Words.{is_equals}
 
 -- `#`
 abbrev pub hash : ℕ
 hash = 35
 
--- whether a line is skipped: it is blank, or begins with `#`
+-- a line is a comment: it begins with `#`
+abbrev pub is_comment : List ℕ → Bool
+is_comment line = slice_index line 0 == hash
+
+-- whether a line is skipped: it is blank or a comment, or goes on with the message before it
 abbrev pub is_passed_over : List ℕ → Bool
-is_passed_over line = length (trim line) == 0 || slice_index line 0 == hash
+is_passed_over line = is_blank line || (is_comment line || goes_on line)
+
+-- a message may go on after a line: the line has no comment and no rule; blank lines and those that
+-- go on leave that as it is
+abbrev pub opens : Bool → List ℕ → Bool
+opens is_open line =
+    if is_blank line || goes_on line then is_open
+    else not (is_comment line) && not (is_some (rule_in line))
 
 -- the head of a line, before its first `=`
 abbrev pub head_of : List ℕ → List ℕ
@@ -26,10 +38,6 @@ key_of line = key_in (head_of line)
 -- what a line declares
 abbrev pub declared_of : List ℕ → Declared
 declared_of line = declared_in (head_of line)
-
--- the format of a line, after its first `=`
-abbrev pub format_of : List ℕ → List ℕ
-format_of line = trim_start (after_first is_equals line)
 
 -- whether a line has a message: it is not skipped, has no rule, and has an `=`
 abbrev pub has_message : List ℕ → Bool

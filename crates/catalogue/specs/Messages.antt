@@ -13,13 +13,12 @@ use Rattle.interpolator.specs.Meaning.Outcomes.{Formats}
 use Rattle.interpolator.specs.Views.{Shown}
 use Rattle.interpolator.specs.declared.Spec.{Spec}
 use Rattle.interpolator.specs.declared.Trait.{Trait}
-use Rattle.interpolator_escapes.specs.Escapes.{escape_of}
 use Rattle.interpolator_escapes.specs.Formats.{escaped_shows}
 use Rattle.interpolator_escapes.specs.declared.escape.Escape.{Escape}
 use Rattle.catalogue.specs.Declarations.{Declared, nothing}
 use Rattle.catalogue.specs.Entries.{Held, found_by, held_by}
 use Rattle.catalogue.specs.Examples.{view_shows}
-use Rattle.catalogue.specs.Files.{Line}
+use Rattle.catalogue.specs.Files.{Line, Page}
 use Rattle.catalogue.specs.Picks.{ArePicked, IsLacking, told_of_lacking}
 use Rattle.catalogue.specs.Sought.{Known, found_among}
 use Rattle.catalogue.specs.Sound.{IsSoundFile}
@@ -35,7 +34,7 @@ use Rattle.catalogue.specs.declared.messages.Answer.TheVariants.{Message, Faults
 abbrev pub escaped_by : {X : Type 0} → Option Escape → (shows : X → Trait → Spec → Shown)
     → X → Trait → Spec → Shown
 escaped_by None shows = shows
-escaped_by (Some escape) shows = escaped_shows (escape_of escape) shows
+escaped_by (Some escape) shows = escaped_shows escape shows
 
 -- what a format means with these values under names
 abbrev pub message_means : Option Escape → List ℕ → List Held → Meaning
@@ -98,7 +97,7 @@ abbrev pub given : {X Z : Type 0} → Result (Vec Object Z) X → List Object
 given (Ok objects) = objects.items
 given (Err bad) = []
 
-module _ {Y : Type 0} (escape : Option Escape) (files : List (List ℕ × List ℕ)) (key : List ℕ)
+module _ {Y : Type 0} (escape : Option Escape) (files : List Page) (key : List ℕ)
     (words : List (String Y)) where
   -- every file is sound, and the answer is what the line comes to with what the words give: the
   -- line of the key, or of its form, in the first file that has it

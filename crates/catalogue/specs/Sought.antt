@@ -1,11 +1,14 @@
 -- The line that is looked up, by its key or by the form that the rule of a file chooses.
 use Rattle.std.specs.Prelude.{ℕ, Bool, List, if◌then◌else◌, Option, None, Some}
+use Rattle.std.specs.Prelude.{Result, Ok, Err}
 use Rattle.std.specs.List.{list_any}
 use Rattle.std.specs.Option.{option_map}
+use Rattle.std.specs.Str.{bytes_eq}
 use Rattle.catalogue.specs.Declarations.{Declared, declared_by}
-use Rattle.catalogue.specs.Files.{Line, as_line, lines_of, plain_lines}
+use Rattle.catalogue.specs.Files.{Line, Page, as_line, lines_of}
+use Rattle.catalogue.specs.Formats.{format_of}
 use Rattle.catalogue.specs.Forms.{Chosen, choice_with, first_given, key_by, rule_of}
-use Rattle.catalogue.specs.Lines.{declared_of, format_of, is_under}
+use Rattle.catalogue.specs.Lines.{declared_of, has_message, is_under, key_of}
 use Rattle.catalogue.specs.declared.checks.Found.{Found}
 use Rattle.catalogue.specs.declared.entries.Object.{Object}
 
@@ -31,26 +34,31 @@ pub record Known : Type 0 where
   pub format : List ℕ
   pub declared : Declared
 
+-- a line with this key, these declarations and this format, if that is the key that is looked up
+abbrev pub found_by : Line → (key : List ℕ) → Declared → Result (List ℕ) ℕ
+    → List ℕ × Option (List ℕ) → Option Known
+found_by line key declared (Err place) wanted = None
+found_by line key declared (Ok format) wanted =
+    if bytes_eq key wanted.0 then Some (record {
+      line = line;
+      lacks = wanted.1;
+      format = format;
+      declared = declared;
+    }) else None
+
 -- a line, if it has the key that is looked up
 abbrev pub line_for : List ℕ × Option (List ℕ) → Line → Option Known
 line_for wanted line =
-    if is_under wanted.0 line.text
-    then Some (record {
-      line = line;
-      lacks = wanted.1;
-      format = format_of line.text;
-      declared = declared_of line.text;
-    })
-    else None
+    if has_message line.text
+    then found_by line (key_of line.text) (declared_of line.text) (format_of line) wanted else None
 
 -- the line of a key in a file, or that of its form
-abbrev pub found_in : List Object → List ℕ → List ℕ × List ℕ → Option Known
-found_in objects key file =
-    first_given (line_for (sought objects key (plain_lines file.1))) (lines_of file)
+abbrev pub found_in : List Object → List ℕ → Page → Option Known
+found_in objects key page = first_given (line_for (sought objects key page.1)) (lines_of page)
 
 -- the line of a key, or of its form, in the first of some files that has it
-abbrev pub found_among : List Object → List ℕ → List (List ℕ × List ℕ) → Option Known
-found_among objects key files = first_given (found_in objects key) files
+abbrev pub found_among : List Object → List ℕ → List Page → Option Known
+found_among objects key pages = first_given (found_in objects key) pages
 
 -- a line as the program finds it
 abbrev pub as_found : Found → Known

@@ -1,10 +1,13 @@
 -- Lines and files in which nothing is wrong.
-use Rattle.std.specs.Prelude.{◌≡◌, ◌⊎◌, ⊤, ℕ, true, List, [], ◌∷◌, None, Some}
+use Rattle.std.specs.Prelude.{◌≡◌, ◌⊎◌, ⊤, ℕ, Bool, true, false, List, [], ◌∷◌, None, Some}
+use Rattle.std.specs.Prelude.{Result, Ok, Err}
 use Rattle.catalogue.specs.Declarations.{Declared, nothing, these, broken}
 use Rattle.catalogue.specs.Examples.{faults_of}
-use Rattle.catalogue.specs.Files.{Line, lines_of}
+use Rattle.catalogue.specs.Files.{Line, Page, lines_of}
+use Rattle.catalogue.specs.Formats.{format_of}
 use Rattle.catalogue.specs.Keys.{IsNew, with_key}
-use Rattle.catalogue.specs.Lines.{declared_of, format_of, is_passed_over, key_of, key_with}
+use Rattle.catalogue.specs.Lines.{declared_of, is_passed_over, key_of, key_with, opens}
+use Rattle.folds.specs.Lines.{goes_on}
 use Rattle.catalogue.specs.Rules.{rule_in, wrong_in}
 use Rattle.words.specs.Words.{HasEquals}
 
@@ -21,23 +24,32 @@ pub record IsRule (keys : List (ℕ × List ℕ)) (line : List ℕ) : Type 0 whe
   pub first : keys ≡ []
   pub whole : wrong_in rule ≡ None
 
--- a line has a key that is not among these, nothing in its head is broken, and its format has no
--- fault
-abbrev pub IsSoundMessage : List (ℕ × List ℕ) → List ℕ → Type 0
-IsSoundMessage keys line =
-    HasEquals line × IsNew keys (key_of line) × IsSoundOver (declared_of line) (format_of line)
+-- no backslash of a format is wrong, and it has no fault
+abbrev pub IsSoundFormat : Declared → Result (List ℕ) ℕ → Type 0
+IsSoundFormat declared (Err place) = ⊥
+IsSoundFormat declared (Ok format) = IsSoundOver declared format
+
+-- a line has a key that is not among these, nothing in its head is broken, and its format is sound
+abbrev pub IsSoundMessage : List (ℕ × List ℕ) → Line → Type 0
+IsSoundMessage keys line = HasEquals line.text × IsNew keys (key_of line.text)
+    × IsSoundFormat (declared_of line.text) (format_of line)
+
+-- a line is skipped, and goes on only with a message
+abbrev pub IsSkipped : (is_open : Bool) → List ℕ → Type 0
+IsSkipped is_open line =
+    (is_passed_over line ≡ true) × (goes_on line ≡ true → is_open ≡ true)
 
 -- a line is sound after others with these keys: it is skipped, or has a rule or a message
-abbrev pub IsSound : List (ℕ × List ℕ) → List ℕ → Type 0
-IsSound keys line =
-    (is_passed_over line ≡ true) ⊎ IsRule keys line ⊎ IsSoundMessage keys line
+abbrev pub IsSound : List (ℕ × List ℕ) → (is_open : Bool) → Line → Type 0
+IsSound keys is_open line =
+    IsSkipped is_open line.text ⊎ IsRule keys line.text ⊎ IsSoundMessage keys line
 
 -- lines are sound after others with these keys: each is, after all before it
-abbrev pub AreSound : List (ℕ × List ℕ) → List Line → Type 0
-AreSound keys [] = ⊤
-AreSound keys (line ∷ rest) =
-    IsSound keys line.text × AreSound (with_key keys line.number (key_with line.text)) rest
+abbrev pub AreSound : List (ℕ × List ℕ) → (is_open : Bool) → List Line → Type 0
+AreSound keys is_open [] = ⊤
+AreSound keys is_open (line ∷ rest) = IsSound keys is_open line
+    × AreSound (with_key keys line.number (key_with line.text)) (opens is_open line.text) rest
 
 -- the lines of a file are sound
-abbrev pub IsSoundFile : List ℕ × List ℕ → Type 0
-IsSoundFile file = AreSound [] (lines_of file)
+abbrev pub IsSoundFile : Page → Type 0
+IsSoundFile page = AreSound [] false (lines_of page)

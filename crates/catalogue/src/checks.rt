@@ -1,60 +1,64 @@
 //! The lines of files, which are all checked, and the one under a key.
 
-ghost use Rattle.std.specs.Prelude.{◌≡◌, ℕ, List, [], IfOk, IfErr, None, length, map};
-ghost use Rattle.std.specs.Prelude.{string_bytes};
+ghost use Rattle.std.specs.Prelude.{◌≡◌, ◌++◌, ℕ, List, [], IfOk, IfErr, None, Some, false};
+ghost use Rattle.std.specs.Prelude.{length, map, string_bytes};
 ghost use Rattle.std.specs.List.{All};
 ghost use Rattle.std.specs.Option.{option_map};
 ghost use Rattle.interpolator.specs.Faults.{answer_of, no_memory};
-ghost use Rattle.catalogue.specs.Files.{as_file, as_line, numbered};
-ghost use Rattle.words.specs.Items.{texts_of};
+ghost use Rattle.catalogue.specs.Declarations.{declared_by, declared_in, key_in};
+ghost use Rattle.catalogue.specs.Files.{as_line, as_page, page_of};
+ghost use Rattle.catalogue.specs.Formats.{format_of};
 ghost use Rattle.catalogue.specs.Forms.{as_sought, first_given};
-ghost use Rattle.catalogue.specs.Keys.{Remembers};
+ghost use Rattle.catalogue.specs.Keys.{Remembers, told_of_key};
 ghost use Rattle.catalogue.specs.Lines.{key_with};
-ghost use Rattle.catalogue.specs.Sought.{as_found, found_among, found_in, line_for};
+ghost use Rattle.catalogue.specs.Sought.{as_found, found_among, found_by, found_in, line_for};
 ghost use Rattle.catalogue.specs.Sound.{IsSoundFile};
 ghost use Rattle.catalogue.specs.Told.{told_of_file, told_of_files, told_of_line, told_of_lines};
+ghost use Rattle.catalogue.specs.Told.{told_of_message, told_of_more};
 
-use crate::declarations::{Heading, heading_of};
+use crate::declarations::{Heading, begin_of, heading_of};
 use crate::entries::Object;
-use crate::files::{File, Line, lines_of};
+use crate::files::{File, Line, Page, lines_of, pages_of};
+use crate::formats::format_of;
 use crate::forms::Sought;
 use crate::keys::{add, no_keys, told_of_key};
 use crate::line_faults::{told_of_message, told_of_rule};
-use crate::lines::{is_key, is_passed_over, line_of, sought};
+use crate::lines::{head_of, is_key, is_passed_over, opens, sought};
 use crate::reports::told_at;
 use crate::rules::{HEAD, rule_in};
+use folds::goes_on;
 use interpolator::{Error, Template};
 use std::alloc::Global;
 use std::collections::HashMap;
 
 /// A line that has the key.
 #[derive(Drop)]
-pub struct Found<'a> {
-    pub line: Line<'a>,
+pub struct Found<'p, 'a> {
+    pub line: Line<'p, 'a>,
     pub template: Template,
     pub heading: Heading<'a>,
     /// The name of the number that chooses the form of the key, if that number is missing.
     pub lacks: Option<&'a str>,
 }
 
-/// What is wrong with a line, its own key, or `plural:` for a rule, and the line itself if it has the
-/// key that is looked up.
+/// What is wrong with a line, its own key, or `plural:` for a rule, and the line itself if it has
+/// the key that is looked up.
 #[derive(Drop)]
-struct LineVerdict<'a> {
+struct LineVerdict<'p, 'a> {
     told: String,
     key: Option<&'a str>,
-    found: Option<Found<'a>>,
+    found: Option<Found<'p, 'a>>,
 }
 
 /// What is wrong with all lines, and the one that has the key.
 #[derive(Drop)]
-pub struct Verdict<'a> {
+pub struct Verdict<'p, 'a> {
     pub told: String,
-    pub found: Option<Found<'a>>,
+    pub found: Option<Found<'p, 'a>>,
 }
 
 /// A line that does not have the key that is looked up.
-fn passed<'a>(told: String, key: Option<&'a str>) -> LineVerdict<'a>
+fn passed<'p, 'a>(told: String, key: Option<&'a str>) -> LineVerdict<'p, 'a>
     ensures told { result.told ≡ told }
     ensures key { result.key ≡ key.entry }
     ensures found { result.found ≡ None }
@@ -66,15 +70,89 @@ fn passed<'a>(told: String, key: Option<&'a str>) -> LineVerdict<'a>
     }
 }
 
-/// Checks a line, after others with these keys.
-fn checked_line<'a>(
+/// What is reported of a line that goes on with no message.
+const WHAT_GOES_ON: &str =
+    "a line that begins with a blank goes on with a message, and none is before";
+
+/// Reports that a line goes on, if no message may go on there.
+fn told_of_more(alloc: Global, line: &Line<'_, '_>, is_open: bool) -> Result<String, Error>
+    ensures told { IfOk result (λ told.
+        string_bytes told ≡ told_of_more is_open (as_line line.now)) }
+    ensures refused { IfErr result (λ error. answer_of error ≡ no_memory) }
+{
+    if is_open || !goes_on(line.text) {
+        return Ok(String::new(alloc));
+    }
+    told_at(alloc, line, begin_of(0, line.text), WHAT_GOES_ON)
+}
+
+/// The line of a message, if it has the key that is looked up.
+fn found_by<'p, 'a>(
+    line: &Line<'p, 'a>,
+    key: &str,
+    format: Result<Template, usize>,
+    heading: Heading<'a>,
+    wanted: &Sought<'a>,
+) -> Option<Found<'p, 'a>>
+    ensures { option_map as_found result ≡ found_by (as_line line.now) key.now
+        (declared_by heading.entry) format (as_sought wanted.now) }
+{
+    let Ok(template) = format else {
+        return None;
+    };
+    if !is_key(key, wanted.key.as_str()) {
+        return None;
+    }
+    Some(Found {
+        line: *line,
+        template,
+        heading,
+        lacks: wanted.lacks,
+    })
+}
+
+/// Checks the line of a message with this head, after others with these keys.
+fn checked_message<'p, 'a>(
     alloc: Global,
-    line: &Line<'a>,
+    line: &Line<'p, 'a>,
+    head: &'a str,
     keys: &HashMap<&str, usize>,
     wanted: &Sought<'a>,
-) -> Result<LineVerdict<'a>, Error>
+) -> Result<LineVerdict<'p, 'a>, Error>
     ensures told { IfOk result (λ checked. (seen : List (ℕ × List ℕ)) → Remembers seen keys.now
-        → string_bytes checked.told ≡ told_of_line seen (as_line line.now)) }
+        → string_bytes checked.told ≡ told_of_key (as_line line.now) head.now (key_in head.now) seen
+        ++ told_of_message (as_line line.now) (declared_in head.now)
+        (format_of (as_line line.now))) }
+    ensures key { IfOk result (λ checked.
+        option_map (λ x. x.now) checked.key ≡ Some (key_in head.now)) }
+    ensures found { IfOk result (λ checked. option_map as_found checked.found ≡ found_by
+        (as_line line.now) (key_in head.now) (declared_in head.now)
+        (format_of (as_line line.now)) (as_sought wanted.now)) }
+    ensures refused { IfErr result (λ error. answer_of error ≡ no_memory) }
+{
+    let (key, heading) = heading_of(alloc, head)?;
+    let format = format_of(alloc, line)?;
+    let mut told = told_of_key(alloc, line, head, key, keys)?;
+    let more = told_of_message(alloc, line, &format, &heading)?;
+    told.push_str(more.as_str())?;
+    let found = found_by(line, key, format, heading, wanted);
+    Ok(LineVerdict {
+        told,
+        key: Some(key),
+        found,
+    })
+}
+
+/// Checks a line, after others with these keys.
+fn checked_line<'p, 'a>(
+    alloc: Global,
+    line: &Line<'p, 'a>,
+    is_open: bool,
+    keys: &HashMap<&str, usize>,
+    wanted: &Sought<'a>,
+) -> Result<LineVerdict<'p, 'a>, Error>
+    ensures told { IfOk result (λ checked. (seen : List (ℕ × List ℕ)) → Remembers seen keys.now
+        → string_bytes checked.told ≡ told_of_line seen is_open (as_line line.now)) }
     ensures key { IfOk result (λ checked.
         option_map (λ x. x.now) checked.key ≡ key_with line.now.text.now) }
     ensures found { IfOk result (λ checked. option_map as_found checked.found
@@ -82,104 +160,86 @@ fn checked_line<'a>(
     ensures refused { IfErr result (λ error. answer_of error ≡ no_memory) }
 {
     if is_passed_over(line.text) {
-        return Ok(passed(String::new(alloc), None));
+        let told = told_of_more(alloc, line, is_open)?;
+        return Ok(passed(told, None));
     }
     if let Some(rule) = rule_in(line.text) {
         let told = told_of_rule(alloc, line, rule, keys)?;
         return Ok(passed(told, Some(HEAD)));
     }
-    let Some((head, format)) = line_of(line.text) else {
-        let told = told_at(alloc, line, 0, "no `=`")?;
-        return Ok(passed(told, None));
-    };
-    let (its_key, heading) = heading_of(alloc, head)?;
-    let template = Template::parse(alloc, format)?;
-    let mut told = told_of_key(alloc, line, head, its_key, keys)?;
-    let more = told_of_message(alloc, line, &template, &heading)?;
-    told.push_str(more.as_str())?;
-    if !is_key(its_key, wanted.key.as_str()) {
-        return Ok(passed(told, Some(its_key)));
+    match head_of(line.text) {
+        Some(head) => checked_message(alloc, line, head, keys, wanted),
+        None => {
+            let told = told_at(alloc, line, 0, "no `=`")?;
+            Ok(passed(told, None))
+        }
     }
-    let found = Some(Found {
-        line: *line,
-        template,
-        heading,
-        lacks: wanted.lacks,
-    });
-    Ok(LineVerdict {
-        told,
-        key: Some(its_key),
-        found,
-    })
 }
 
 /// Checks each line of a file, and finds the one that has the key.
-fn checked_lines<'a>(
+fn checked_lines<'p, 'a>(
     alloc: Global,
-    file: &'a str,
-    lines: &[&'a str],
+    lines: &[Line<'p, 'a>],
     wanted: &Sought<'a>,
-) -> Result<Verdict<'a>, Error>
-    ensures told { IfOk result (λ verdict. string_bytes verdict.told
-        ≡ told_of_lines [] (numbered file.now 1 (texts_of lines.now))) }
+) -> Result<Verdict<'p, 'a>, Error>
+    ensures told { IfOk result (λ verdict.
+        string_bytes verdict.told ≡ told_of_lines [] false (map as_line lines.now)) }
     ensures found { IfOk result (λ verdict. option_map as_found verdict.found
-        ≡ first_given (line_for (as_sought wanted.now))
-        (numbered file.now 1 (texts_of lines.now))) }
+        ≡ first_given (line_for (as_sought wanted.now)) (map as_line lines.now)) }
     ensures refused { IfErr result (λ error. answer_of error ≡ no_memory) }
 {
     let mut told = String::new(alloc);
     let mut keys = no_keys(alloc);
     let mut found = None;
-    let mut number = 0usize;
-    for text in lines {
-        number += 1;
-        let line = Line { file, number, text };
-        let checked = checked_line(alloc, &line, &keys, wanted)?;
+    let mut is_open = false;
+    for line in lines {
+        let checked = checked_line(alloc, line, is_open, &keys, wanted)?;
         told.push_str(checked.told.as_str())?;
-        add(&mut keys, number, checked.key)?;
+        add(&mut keys, line.number, checked.key)?;
         found = found.or(checked.found);
+        is_open = opens(is_open, line.text);
     }
     Ok(Verdict { told, found })
 }
 
 /// Checks a file, and finds the line of a key, or of its form that the file's rule chooses by the
 /// numbers of objects.
-fn checked_file<'a>(
+fn checked_file<'p, 'a>(
     alloc: Global,
-    file: &'a File,
+    page: &'p Page<'a>,
     key: &str,
     objects: &[Object<'_>],
-) -> Result<Verdict<'a>, Error>
+) -> Result<Verdict<'p, 'a>, Error>
     ensures told { IfOk result (λ verdict.
-        string_bytes verdict.told ≡ told_of_file (as_file file.now)) }
+        string_bytes verdict.told ≡ told_of_file (as_page page.now)) }
     ensures found { IfOk result (λ verdict. option_map as_found verdict.found
-        ≡ found_in objects.now key.now (as_file file.now)) }
+        ≡ found_in objects.now key.now (as_page page.now)) }
     ensures refused { IfErr result (λ error. answer_of error ≡ no_memory) }
 {
-    let lines = lines_of(alloc, file)?;
-    let wanted = sought(alloc, objects, key, lines.as_slice())?;
-    checked_lines(alloc, file.name.as_str(), lines.as_slice(), &wanted)
+    let lines = lines_of(alloc, page)?;
+    let wanted = sought(alloc, objects, key, page.texts.as_slice())?;
+    checked_lines(alloc, lines.as_slice(), &wanted)
 }
 
 /// Checks some files, and finds the line of the key, or of its form, in the first that has it.
-pub fn checked<'a>(
+pub fn checked<'p, 'a>(
     alloc: Global,
-    files: &'a [File],
+    pages: &'p [Page<'a>],
     key: &str,
     objects: &[Object<'_>],
-) -> Result<Verdict<'a>, Error>
+) -> Result<Verdict<'p, 'a>, Error>
     ensures told { IfOk result (λ verdict.
-        string_bytes verdict.told ≡ told_of_files (map as_file files.now)) }
+        string_bytes verdict.told ≡ told_of_files (map as_page pages.now)) }
     ensures sound { IfOk result (λ verdict.
-        length (string_bytes verdict.told) ≡ 0 → All IsSoundFile (map as_file files.now)) }
+        length (string_bytes verdict.told) ≡ 0 → All IsSoundFile (map as_page pages.now)) }
     ensures found { IfOk result (λ verdict. option_map as_found verdict.found
-        ≡ found_among objects.now key.now (map as_file files.now)) }
+        ≡ found_among objects.now key.now (map as_page pages.now)) }
     ensures refused { IfErr result (λ error. answer_of error ≡ no_memory) }
 {
     let mut told = String::new(alloc);
     let mut found = None;
-    for file in files {
-        let of_file = checked_file(alloc, file, key, objects)?;
+    for page in pages {
+        let of_file = checked_file(alloc, page, key, objects)?;
         told.push_str(of_file.told.as_str())?;
         found = found.or(of_file.found);
     }
@@ -194,11 +254,12 @@ pub fn checked<'a>(
 /// `NoMemory`.
 pub fn check(alloc: Global, files: &[File]) -> Result<String, Error>
     ensures told { IfOk result (λ told.
-        string_bytes told ≡ told_of_files (map as_file files.now)) }
-    ensures sound { IfOk result (λ told.
-        length (string_bytes told) ≡ 0 → All IsSoundFile (map as_file files.now)) }
+        string_bytes told ≡ told_of_files (map page_of files.now)) }
+    ensures sound { IfOk result (λ told. length (string_bytes told) ≡ 0
+        → All IsSoundFile (map page_of files.now)) }
     ensures refused { IfErr result (λ error. answer_of error ≡ no_memory) }
 {
-    let verdict = checked(alloc, files, "", &[])?;
+    let pages = pages_of(alloc, files)?;
+    let verdict = checked(alloc, pages.as_slice(), "", &[])?;
     Ok(verdict.told)
 }

@@ -66,7 +66,7 @@ fn what_is_again(alloc: Global, number: usize, key: &str) -> Result<String, Allo
 /// Reports that the line `before` has the key in the head of a line, if one has.
 fn told_again(
     alloc: Global,
-    line: &Line<'_>,
+    line: &Line<'_, '_>,
     head: &str,
     key: &str,
     before: Option<usize>,
@@ -86,7 +86,7 @@ fn told_again(
 /// the lines before.
 pub fn told_of_key(
     alloc: Global,
-    line: &Line<'_>,
+    line: &Line<'_, '_>,
     head: &str,
     key: &str,
     keys: &HashMap<&str, usize>,

@@ -1,7 +1,7 @@
 //! Keys that lack a form which the rule of their file can choose.
 
 use crate::declarations::{begin_of, key_in};
-use crate::files::{File, Line, lines_of};
+use crate::files::{File, Line, lines_of, page_of};
 use crate::forms::{rule_of, text_of_form};
 use crate::keys::{add, no_keys};
 use crate::lines::message_of;
@@ -12,13 +12,14 @@ use std::alloc::{AllocError, Global};
 use std::collections::HashMap;
 
 /// The keys of messages in some lines, each with the number of its first line.
-fn keys_of<'a>(alloc: Global, lines: &[&'a str]) -> Result<HashMap<&'a str, usize>, AllocError> {
+fn keys_of<'a>(
+    alloc: Global,
+    lines: &[Line<'_, 'a>],
+) -> Result<HashMap<&'a str, usize>, AllocError> {
     let mut keys = no_keys(alloc);
-    let mut number = 0usize;
-    for text in lines {
-        number = number.saturating_add(1);
-        if let Some((head, _)) = message_of(text) {
-            add(&mut keys, number, Some(key_in(head)))?;
+    for line in lines {
+        if let Some(head) = message_of(line.text) {
+            add(&mut keys, line.number, Some(key_in(head)))?;
         }
     }
     Ok(keys)
@@ -91,7 +92,7 @@ fn key_of_line<'a>(
     forms: &[String],
     keys: &HashMap<&str, usize>,
 ) -> Option<(&'a str, &'a str)> {
-    let (head, _) = message_of(text)?;
+    let head = message_of(text)?;
     let (key, form) = key_in(head).rsplit_once('.')?;
     if has(forms, form) && !keys.contains_key(key) {
         Some((head, key))
@@ -103,7 +104,7 @@ fn key_of_line<'a>(
 /// Reports the forms that a key lacks, in the first line that has one of them.
 fn told_of_line(
     alloc: Global,
-    line: &Line<'_>,
+    line: &Line<'_, '_>,
     forms: &[String],
     keys: &HashMap<&str, usize>,
 ) -> Result<String, Error> {
@@ -120,19 +121,13 @@ fn told_of_line(
 
 /// Reports the forms that the keys of a file lack.
 fn told_of_file(alloc: Global, file: &File) -> Result<String, Error> {
-    let lines = lines_of(alloc, file)?;
-    let forms = forms_in(alloc, lines.as_slice())?;
+    let page = page_of(alloc, file)?;
+    let lines = lines_of(alloc, &page)?;
+    let forms = forms_in(alloc, page.texts.as_slice())?;
     let keys = keys_of(alloc, lines.as_slice())?;
     let mut told = String::new(alloc);
-    let mut number = 0usize;
-    for text in &lines {
-        number = number.saturating_add(1);
-        let line = Line {
-            file: file.name.as_str(),
-            number,
-            text,
-        };
-        let more = told_of_line(alloc, &line, forms.as_slice(), &keys)?;
+    for line in &lines {
+        let more = told_of_line(alloc, line, forms.as_slice(), &keys)?;
         told.push_str(more.as_str())?;
     }
     Ok(told)

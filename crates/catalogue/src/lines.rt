@@ -5,7 +5,8 @@ ghost use Rattle.std.specs.Option.{option_map};
 ghost use Rattle.std.specs.Str.{bytes_eq};
 ghost use Rattle.words.specs.Items.{texts_of};
 ghost use Rattle.catalogue.specs.Forms.{as_choice, as_sought};
-ghost use Rattle.catalogue.specs.Lines.{format_of, has_message, head_of, is_passed_over, is_under};
+ghost use Rattle.catalogue.specs.Lines.{has_message, head_of, is_comment, is_passed_over, is_under};
+ghost use Rattle.catalogue.specs.Lines.{opens};
 ghost use Rattle.catalogue.specs.Sought.{choice_for, has_key, sought};
 ghost use Rattle.words.specs.Words.{HasEquals};
 
@@ -13,16 +14,16 @@ use crate::declarations::key_in;
 use crate::entries::Object;
 use crate::forms::{Choice, Sought, choice_in, key_by};
 use crate::rules::rule_in;
+use folds::{goes_on, is_blank};
 use std::alloc::{AllocError, Global};
 
-/// The head and the format of a line, if it has an `=`.
-pub fn line_of(text: &str) -> Option<(&str, &str)>
+/// The head of a line, before its first `=`, if it has one.
+pub fn head_of(text: &str) -> Option<&str>
     ensures none { MatchOption result (¬ HasEquals text.now) (λ _. HasEquals text.now) }
-    ensures head { IfSome result (λ line. line.0.now ≡ head_of text.now) }
-    ensures format { IfSome result (λ line. line.1.now ≡ format_of text.now) }
+    ensures head { IfSome result (λ head. head.now ≡ head_of text.now) }
 {
-    let (head, format) = text.split_once('=')?;
-    Some((head, format.trim_start()))
+    let (head, _) = text.split_once('=')?;
+    Some(head)
 }
 
 /// Whether a line's key is the one that is looked up.
@@ -32,23 +33,40 @@ pub fn is_key(its_key: &str, key: &str) -> bool
     its_key == key
 }
 
-/// Whether a line is blank or a comment.
+/// Whether a line is a comment.
+fn is_comment(line: &str) -> bool
+    ensures { result ≡ is_comment line.now }
+{
+    line.starts_with('#')
+}
+
+/// Whether a line is blank, a comment, or goes on with the one before it.
 pub fn is_passed_over(line: &str) -> bool
     ensures { result ≡ is_passed_over line.now }
 {
-    line.trim().is_empty() || line.starts_with('#')
+    is_blank(line) || is_comment(line) || goes_on(line)
 }
 
-/// The head and the format of a line that has a message.
-pub fn message_of(line: &str) -> Option<(&str, &str)>
+/// Whether the line after this one may go on with a message, as the one before this one may have:
+/// blank lines and those that go on leave that as it is.
+pub fn opens(is_open: bool, line: &str) -> bool
+    ensures { result ≡ opens is_open line.now }
+{
+    if is_blank(line) || goes_on(line) {
+        return is_open;
+    }
+    !is_comment(line) && rule_in(line).is_none()
+}
+
+/// The head of a line that has a message.
+pub fn message_of(line: &str) -> Option<&str>
     ensures some { is_some result ≡ has_message line.now }
-    ensures head { IfSome result (λ message. message.0.now ≡ head_of line.now) }
-    ensures format { IfSome result (λ message. message.1.now ≡ format_of line.now) }
+    ensures head { IfSome result (λ head. head.now ≡ head_of line.now) }
 {
     if is_passed_over(line) || rule_in(line).is_some() {
         return None;
     }
-    line_of(line)
+    head_of(line)
 }
 
 /// Whether a line has a message under a key.
@@ -56,7 +74,7 @@ fn is_under(key: &str, line: &str) -> bool
     ensures { result ≡ is_under key.now line.now }
 {
     match message_of(line) {
-        Some((head, _)) => is_key(key_in(head), key),
+        Some(head) => is_key(key_in(head), key),
         None => false,
     }
 }

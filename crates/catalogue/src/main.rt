@@ -8,9 +8,21 @@
 //! which declares a text `name`, a whole number `count`, a decimal `price`, a float `x` and a list
 //! of texts `items`. The format is then checked with examples of these, and the words have to give
 //! them, in any order. No two lines of a file have the same key. Blank lines, and lines whose first
-//! character is `#`, are skipped. White space around a key and in front of a format does not count;
-//! an indented `#` or `plural:` begins a key. Each fault is shown in its line, with the file, the
-//! line and the column; if there is any, no message is written.
+//! character is `#`, are skipped. White space around a key and in front of a format does not count.
+//! Each fault is shown in its line, with the file, the line and the column; if there is any, no
+//! message is written.
+//!
+//! A line that begins with a blank or a tab goes on with the message before it (the crate `folds`):
+//!
+//! ```text
+//! mail(name) = Dear {name},\n
+//!   your order was shipped, and
+//!   will arrive.
+//! ```
+//!
+//! has two lines. Such a line adds a blank and its text, and only the text at the beginning of a
+//! format or after a `\n`. In a format `\n` is a line end and `\\` a backslash, and no other
+//! backslash may stand. Blank lines end no message, but comments and rules do.
 //!
 //! A line that begins with `plural:` is the rule of its file, an expression as gettext and CLDR
 //! write them (the crate `plurals`). It stands once, before all messages:
@@ -38,6 +50,12 @@
 //! stand where it may, of `--html` in text or between the quotes of an attribute; of each message
 //! the first that does not is shown after all other faults, and no message is written.
 //!
+//! With `--po` the file is a PO file of gettext (the crate `po`), and the key a `msgid`, with
+//! `--context` one of this `msgctxt`. The form of a message with a plural is that which Plural-Forms
+//! choose by the number `n`, and a message that is fuzzy or has no translation is its own text. A
+//! check also reports messages that stand twice, a translation that lacks a form or, if there is no
+//! plural, a name of its message, and one with a name, trait or list that its message has not.
+//!
 //! The status is 0 after a message, or a check without a fault; 1 after a fault, 2 after a wrong
 //! use or a bad word, and 3 if a file cannot be read or the output cannot be written.
 #![tactic(auto)]
@@ -49,6 +67,7 @@ mod declarations;
 mod entries;
 mod examples;
 mod files;
+mod formats;
 mod forms;
 mod keys;
 mod lacks;
@@ -59,8 +78,11 @@ mod nearest;
 mod objects;
 mod picks;
 mod places;
+mod plural_forms;
 mod reports;
 mod rules;
+mod translated;
+mod translations;
 mod unused;
 
 use checks::check;
@@ -73,28 +95,36 @@ use places::misplaced;
 use std::alloc::Global;
 use std::process::ExitCode;
 use std::{fs, io};
+use translated::{Sought, in_po};
 use unused::unused;
 use words::program::{BAD_USE, FAULT, REFUSED, WRITTEN, arguments};
 
 const USAGE: &str = "usage: catalogue [--line | --html] [--fallback FILE] [--] FILE KEY \
     [NAME=TEXT | NAME:=NUMBER | NAME:.=DECIMAL | NAME:~=FLOAT | NAME[]=ITEM,ITEM..] | \
-    catalogue --check [--line | --html] [--] FILE..";
+    catalogue --check [--line | --html] [--] FILE.. | \
+    catalogue --po [--context TEXT] [--line | --html] [--] FILE KEY WORD.. | \
+    catalogue --po --check [--line | --html] [--] FILE..";
 
 const HELP: &str = "\
 Writes the message under a key of a file whose messages are all checked first.
 
 usage: catalogue [--line | --html] [--fallback FILE] [--] FILE KEY WORD..
        catalogue --check [--line | --html] [--] FILE..
+       catalogue --po [--context TEXT] [--line | --html] [--] FILE KEY WORD..
+       catalogue --po --check [--line | --html] [--] FILE..
 
   WORD               NAME=TEXT, NAME:=NUMBER, NAME:.=DECIMAL, NAME:~=FLOAT or NAME[]=ITEM,ITEM..
   --check            only check files
   --fallback FILE    the messages whose keys the file lacks
-  --line             values escaped, so that a message is one line
+  --line             values escaped, so that they have no line ends
   --html             values escaped, as in the text or a quoted attribute of a page
+  --po               files of gettext, whose KEY is a msgid; the number n chooses its form
+  --context TEXT     the msgctxt of KEY
   --help             print this
 
 A line of a file is `KEY = FORMAT`, or `KEY(name, count:, price:., x:~, items[]) = FORMAT`, which
-declares a text, a whole number, a decimal, a float and a list.
+declares a text, a whole number, a decimal, a float and a list. A line that begins with a blank goes
+on with the format before it.
 
 example: with the line `cart(name, n:) = {name} has {n} items.` in m.txt
   catalogue m.txt cart name=Ann n:=3
@@ -111,6 +141,10 @@ struct Asked<'a> {
     escape: Option<Escape>,
     /// A file for the messages that the file lacks.
     second: Option<&'a str>,
+    /// Files are PO files.
+    is_po: bool,
+    /// The context of the key in a PO file.
+    context: Option<&'a str>,
     /// The files, or a file, a key and values.
     words: &'a [String],
 }
@@ -129,6 +163,7 @@ struct Wanted<'a> {
 fn take_word(asked: &mut Asked<'_>, flag: &str) -> Option<()> {
     match flag {
         "--check" if !asked.is_check => asked.is_check = true,
+        "--po" if !asked.is_po => asked.is_po = true,
         "--line" if asked.escape.is_none() => asked.escape = Some(Escape::Line),
         "--html" if asked.escape.is_none() => asked.escape = Some(Escape::Html),
         _ => return None,
@@ -145,6 +180,10 @@ fn after_flag<'a>(asked: &mut Asked<'a>, words: &'a [String]) -> Option<&'a [Str
             asked.second = Some(file.as_str());
             Some(more)
         }
+        [flag, context, more @ ..] if flag.as_str() == "--context" => {
+            asked.context = Some(context.as_str());
+            Some(more)
+        }
         [flag, more @ ..] => {
             take_word(asked, flag.as_str())?;
             Some(more)
@@ -159,6 +198,8 @@ fn asked_by(line: &[String]) -> Option<Asked<'_>> {
         is_check: false,
         escape: None,
         second: None,
+        is_po: false,
+        context: None,
         words: line,
     };
     let mut rest = line;
@@ -282,6 +323,17 @@ fn told_by_check(alloc: Global, files: &[File], escape: Option<Escape>) -> Resul
     Ok(told)
 }
 
+/// What is wrong with PO files.
+fn told_by_po(alloc: Global, files: &[File], escape: Option<Escape>) -> Result<String, Error> {
+    let mut told = String::new(alloc);
+    for file in files {
+        if let Answer::Faults(more) = in_po(alloc, file, escape, None)? {
+            told.push_str(more.as_str())?;
+        }
+    }
+    Ok(told)
+}
+
 /// What is answered: all that is wrong with the files, or the message, or why there is none.
 fn answer_in(alloc: Global, wanted: &Wanted<'_>, files: &[File]) -> Result<Answer, Error> {
     if wanted.escape.is_some() {
@@ -315,6 +367,29 @@ fn answer(rt: &HostRuntime, wanted: &Wanted<'_>) -> io::Result<u8> {
     }
 }
 
+/// Writes a message of a PO file, or why there is none.
+fn answer_po(rt: &HostRuntime, asked: &Asked<'_>, wanted: &Wanted<'_>) -> io::Result<u8> {
+    let Some(file) = read(rt, wanted.file)? else {
+        return Ok(REFUSED);
+    };
+    let sought = Sought {
+        context: asked.context.unwrap_or(""),
+        key: wanted.key,
+        words: wanted.values,
+    };
+    match in_po(rt.alloc(), &file, wanted.escape, Some(sought)) {
+        Ok(Answer::Message(message)) => {
+            println!(rt; "{message}")?;
+            Ok(WRITTEN)
+        }
+        Ok(answer) => tell(rt, &answer, &[], wanted),
+        Err(error) => {
+            eprintln!(rt; "{error}")?;
+            Ok(FAULT)
+        }
+    }
+}
+
 /// Checks files, and writes what is wrong with those that can be read.
 fn check_files(rt: &HostRuntime, asked: &Asked<'_>) -> io::Result<u8> {
     let mut files = Vec::new(rt.alloc());
@@ -325,13 +400,22 @@ fn check_files(rt: &HostRuntime, asked: &Asked<'_>) -> io::Result<u8> {
             None => status = REFUSED,
         }
     }
-    let told = told_by_check(rt.alloc(), files.as_slice(), asked.escape);
+    let told = if asked.is_po {
+        told_by_po(rt.alloc(), files.as_slice(), asked.escape)
+    } else {
+        told_by_check(rt.alloc(), files.as_slice(), asked.escape)
+    };
     match &told {
         Ok(told) if told.is_empty() => return Ok(status),
         Ok(told) => eprint!(rt; "{told}")?,
         Err(error) => eprintln!(rt; "{error}")?,
     }
     Ok(status.max(FAULT))
+}
+
+/// Whether a message of a file of messages is asked for.
+fn is_po_free(asked: &Asked<'_>) -> bool {
+    !asked.is_po && !asked.is_check && asked.context.is_none()
 }
 
 /// Runs a command line, and returns the status.
@@ -351,11 +435,15 @@ fn run(rt: &HostRuntime) -> io::Result<u8> {
     let Some(asked) = asked_by(line.as_slice()) else {
         return tell_usage(rt);
     };
-    if asked.is_check && asked.second.is_none() && !asked.words.is_empty() {
+    let is_plain = asked.second.is_none() && asked.context.is_none();
+    if asked.is_check && is_plain && !asked.words.is_empty() {
         return check_files(rt, &asked);
     }
     match wanted_by(&asked) {
-        Some(wanted) if !asked.is_check => answer(rt, &wanted),
+        Some(wanted) if asked.is_po && !asked.is_check && asked.second.is_none() => {
+            answer_po(rt, &asked, &wanted)
+        }
+        Some(wanted) if is_po_free(&asked) => answer(rt, &wanted),
         _ => tell_usage(rt),
     }
 }

@@ -10,12 +10,11 @@ ghost use Rattle.interpolator.specs.Faults.{answer_of, no_memory};
 ghost use Rattle.interpolator.specs.Meaning.Environments.{environment};
 ghost use Rattle.interpolator.specs.Meaning.Meanings.{means};
 ghost use Rattle.interpolator.specs.Meaning.Outcomes.{Formats};
-ghost use Rattle.interpolator_escapes.specs.Escapes.{escape_of};
 ghost use Rattle.interpolator_escapes.specs.Formats.{escaped_shows};
 ghost use Rattle.catalogue.specs.Declarations.{declared_by};
 ghost use Rattle.catalogue.specs.Entries.{held_by_entry};
 ghost use Rattle.catalogue.specs.Examples.{view_shows};
-ghost use Rattle.catalogue.specs.Files.{as_file, as_line};
+ghost use Rattle.catalogue.specs.Files.{as_line, as_page, page_of};
 ghost use Rattle.catalogue.specs.Messages.{Answers, IsMadeOrTold, Replies, escaped_by, given};
 ghost use Rattle.catalogue.specs.Sound.{IsSoundOver};
 ghost use Rattle.catalogue.specs.Told.{told_absent, told_of_absent};
@@ -23,7 +22,7 @@ ghost use Rattle.catalogue.specs.Objects.{IsGiven};
 
 use crate::checks::{Found, Verdict, checked};
 use crate::entries::{Entry, Object, pairs_of};
-use crate::files::{File, lines_of};
+use crate::files::{File, Page, pages_of};
 use crate::forms::{choice_in, or_form};
 use crate::line_faults::told_of_fault;
 use crate::objects::objects_of;
@@ -52,18 +51,17 @@ pub enum Answer {
 /// Reports that a file has no message under a key, nor under its form.
 fn told_absent(
     alloc: Global,
-    file: &File,
+    page: &Page<'_>,
     key: &str,
     objects: &[Object<'_>],
 ) -> Result<String, Error>
     ensures told { IfOk result (λ told.
-        string_bytes told ≡ told_absent objects.now key.now (as_file file.now)) }
+        string_bytes told ≡ told_absent objects.now key.now (as_page page.now)) }
     ensures refused { IfErr result (λ error. answer_of error ≡ no_memory) }
 {
-    let lines = lines_of(alloc, file)?;
-    let choice = choice_in(alloc, objects, lines.as_slice())?;
+    let choice = choice_in(alloc, objects, page.texts.as_slice())?;
     let form = or_form(alloc, key, choice)?;
-    let name = file.name.as_str();
+    let name = page.file;
     let told = format!(in alloc; "{name}: no message `{key}`{form}\n")?;
     Ok(told)
 }
@@ -71,17 +69,17 @@ fn told_absent(
 /// Reports that no file has a message under a key, nor under its form, for each of them.
 fn told_of_absent(
     alloc: Global,
-    files: &[File],
+    pages: &[Page<'_>],
     key: &str,
     objects: &[Object<'_>],
 ) -> Result<String, Error>
     ensures told { IfOk result (λ told.
-        string_bytes told ≡ told_of_absent objects.now key.now (map as_file files.now)) }
+        string_bytes told ≡ told_of_absent objects.now key.now (map as_page pages.now)) }
     ensures refused { IfErr result (λ error. answer_of error ≡ no_memory) }
 {
     let mut told = String::new(alloc);
-    for file in files {
-        let more = told_absent(alloc, file, key, objects)?;
+    for page in pages {
+        let more = told_absent(alloc, page, key, objects)?;
         told.push_str(more.as_str())?;
     }
     Ok(told)
@@ -94,7 +92,7 @@ fn made_escaped<V: Value>(
     format: &str,
     pairs: &Pairs<'_, V>,
 ) -> Result<String, Error>
-    ensures { Formats (means (escaped_shows (escape_of escape) V.shows)
+    ensures { Formats (means (escaped_shows escape V.shows)
         (environment (found_by_pairs pairs.now.0.now)) (outermost (chars format.now))) result }
 {
     match escape {
@@ -107,7 +105,7 @@ fn made_escaped<V: Value>(
 }
 
 /// The text of a format with these pairs, each value escaped, if that is asked for.
-fn made(
+pub fn made(
     alloc: Global,
     escape: Option<Escape>,
     template: &Template,
@@ -127,7 +125,7 @@ fn made(
 fn said(
     alloc: Global,
     escape: Option<Escape>,
-    found: &Found<'_>,
+    found: &Found<'_, '_>,
     entries: &[Entry<'_>],
 ) -> Result<Answer, Error>
     ensures said { IfOk result (λ answer. IsMadeOrTold escape (as_line found.now.line)
@@ -154,7 +152,7 @@ fn message(
     alloc: Global,
     escape: Option<Escape>,
     key: &str,
-    found: &Found<'_>,
+    found: &Found<'_, '_>,
     objects: &[Object<'_>],
 ) -> Result<Answer, Error>
     ensures replies { IfOk result (λ answer. IsSoundOver (declared_by found.now.heading)
@@ -181,7 +179,7 @@ fn reply(
     alloc: Global,
     escape: Option<Escape>,
     key: &str,
-    found: &Found<'_>,
+    found: &Found<'_, '_>,
     objects: &[Object<'_>],
 ) -> Result<Answer, Error>
     ensures replies { IfOk result (λ answer. IsSoundOver (declared_by found.now.heading)
@@ -209,6 +207,39 @@ fn given<'o, 'a>(objects: &'o Result<Vec<Object<'a>>, &'a str>) -> &'o [Object<'
     match objects {
         Ok(objects) => objects.as_slice(),
         Err(_) => &[],
+    }
+}
+
+/// What `look_up` answers, by the lines of the files.
+fn look_up_in(
+    alloc: Global,
+    escape: Option<Escape>,
+    pages: &[Page<'_>],
+    key: &str,
+    words: &[String],
+) -> Result<Answer, Error>
+    ensures answers { IfOk result (λ answer.
+        Answers escape (map as_page pages.now) key.now words.now answer) }
+    ensures refused { IfErr result (λ error. answer_of error ≡ no_memory) }
+{
+    let values = objects_of(alloc, words)?;
+    let objects = given(&values);
+    let Verdict { told, found } = checked(alloc, pages, key, objects)?;
+    if !told.is_empty() {
+        return Ok(Answer::Faults(told));
+    }
+    match &values {
+        Err(word) => {
+            let bad = String::from_str(alloc, word)?;
+            Ok(Answer::BadWord(bad))
+        }
+        Ok(_) => match &found {
+            Some(found) => reply(alloc, escape, key, found, objects),
+            None => {
+                let absent = told_of_absent(alloc, pages, key, objects)?;
+                Ok(Answer::Absent(absent))
+            }
+        },
     }
 }
 
@@ -244,26 +275,9 @@ pub fn look_up(
     words: &[String],
 ) -> Result<Answer, Error>
     ensures answers { IfOk result (λ answer.
-        Answers escape (map as_file files.now) key.now words.now answer) }
+        Answers escape (map page_of files.now) key.now words.now answer) }
     ensures refused { IfErr result (λ error. answer_of error ≡ no_memory) }
 {
-    let values = objects_of(alloc, words)?;
-    let objects = given(&values);
-    let Verdict { told, found } = checked(alloc, files, key, objects)?;
-    if !told.is_empty() {
-        return Ok(Answer::Faults(told));
-    }
-    match &values {
-        Err(word) => {
-            let bad = String::from_str(alloc, word)?;
-            Ok(Answer::BadWord(bad))
-        }
-        Ok(_) => match &found {
-            Some(found) => reply(alloc, escape, key, found, objects),
-            None => {
-                let absent = told_of_absent(alloc, files, key, objects)?;
-                Ok(Answer::Absent(absent))
-            }
-        },
-    }
+    let pages = pages_of(alloc, files)?;
+    look_up_in(alloc, escape, pages.as_slice(), key, words)
 }

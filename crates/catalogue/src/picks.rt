@@ -107,7 +107,7 @@ fn shape_of(kind: Kind) -> &'static str
 /// Reports which word is missing for a declaration of a line.
 pub fn told_of_lacking(
     alloc: Global,
-    line: &Line<'_>,
+    line: &Line<'_, '_>,
     key: &str,
     lacking: &Declaration<'_>,
 ) -> Result<String, AllocError>

@@ -2,21 +2,21 @@
 
 ghost use Rattle.std.specs.Prelude.{◌≡◌, IfOk, length, map, string_bytes};
 ghost use Rattle.std.specs.List.{All};
-ghost use Rattle.catalogue.specs.Files.{as_file};
+ghost use Rattle.catalogue.specs.Files.{as_line, as_page, page_of};
 ghost use Rattle.catalogue.specs.Places.{AllPlaced, IsPlaced, IsPlacedFile, IsPlacedLine};
-ghost use Rattle.words.specs.Items.{texts_of};
 
-use crate::files::{File, Line, lines_of};
+use crate::files::{File, Line, Page, lines_of, pages_of};
+use crate::formats::{format_of, told_of_place};
 use crate::lines::message_of;
-use interpolator::{Error, Escape, Misplaced, PlaceError, Source, explain_place, places_of};
+use interpolator::{Error, Escape, Misplaced, PlaceError, Template, places_of};
 use interpolator_escapes::check_format;
 use std::alloc::Global;
 
 /// Reports a value of a line's format that is in no place of an escape, shown in its line.
-fn told_of_value<'a>(
+fn told_of_value(
     alloc: Global,
-    line: &Line<'a>,
-    format: &'a str,
+    line: &Line<'_, '_>,
+    format: &str,
     escape: Escape,
     misplaced: Misplaced,
 ) -> Result<String, Error>
@@ -24,31 +24,22 @@ fn told_of_value<'a>(
 {
     let places = places_of(escape);
     let why = format!(in alloc; "{}; a value may stand {places}", misplaced.why)?;
-    let source = Source {
-        name: line.file,
-        first_line: line.number,
-        text: line.text,
-        start: line.text.len().saturating_sub(format.len()),
-        format,
-    };
-    let picture = explain_place(alloc, &source, misplaced.place, why.as_str())?;
-    let told = format!(in alloc; "{picture}\n")?;
-    Ok(told)
+    told_of_place(alloc, line, format, misplaced.place, why.as_str())
 }
 
 /// Reports the first value of a line's format that is in no place of an escape, if there is one.
-fn told_of_format<'a>(
+fn told_of_format(
     alloc: Global,
-    line: &Line<'a>,
-    format: &'a str,
+    line: &Line<'_, '_>,
+    template: &Template,
     escape: Escape,
 ) -> Result<String, Error>
-    ensures { IfOk result (λ told. length (string_bytes told) ≡ 0 → IsPlaced escape format.now) }
+    ensures { IfOk result (λ told. length (string_bytes told) ≡ 0 → IsPlaced escape template.now) }
 {
-    match check_format(alloc, escape, format) {
+    match check_format(alloc, escape, template.text()) {
         Ok(_) => Ok(String::new(alloc)),
         Err(PlaceError::Misplaced(misplaced)) => {
-            told_of_value(alloc, line, format, escape, misplaced)
+            told_of_value(alloc, line, template.text(), escape, misplaced)
         }
         Err(PlaceError::NoMemory) => Err(Error::NoMemory),
     }
@@ -56,39 +47,52 @@ fn told_of_format<'a>(
 
 /// Reports the first value of a line that is in no place of an escape, if the line has a message
 /// with such a value.
-fn told_of_line(alloc: Global, line: &Line<'_>, escape: Escape) -> Result<String, Error>
+fn told_of_line(alloc: Global, line: &Line<'_, '_>, escape: Escape) -> Result<String, Error>
     ensures { IfOk result (λ told. length (string_bytes told) ≡ 0
-        → IsPlacedLine escape line.now.text.now) }
+        → IsPlacedLine escape (as_line line.now)) }
 {
-    match message_of(line.text) {
-        Some((_, format)) => told_of_format(alloc, line, format, escape),
-        None => Ok(String::new(alloc)),
+    if message_of(line.text).is_none() {
+        return Ok(String::new(alloc));
+    }
+    match format_of(alloc, line)? {
+        Ok(template) => told_of_format(alloc, line, &template, escape),
+        Err(_) => Ok(String::new(alloc)),
     }
 }
 
 /// Reports such values of the lines of a file.
-fn told_of_lines(alloc: Global, file: &str, lines: &[&str], escape: Escape) -> Result<String, Error>
+fn told_of_lines(alloc: Global, lines: &[Line<'_, '_>], escape: Escape) -> Result<String, Error>
     ensures { IfOk result (λ told. length (string_bytes told) ≡ 0
-        → AllPlaced escape (texts_of lines.now)) }
+        → AllPlaced escape (map as_line lines.now)) }
 {
     let mut told = String::new(alloc);
-    let mut number = 0usize;
-    for text in lines {
-        number += 1;
-        let line = Line { file, number, text };
-        let more = told_of_line(alloc, &line, escape)?;
+    for line in lines {
+        let more = told_of_line(alloc, line, escape)?;
         told.push_str(more.as_str())?;
     }
     Ok(told)
 }
 
 /// Reports such values of a file.
-fn told_of_file(alloc: Global, file: &File, escape: Escape) -> Result<String, Error>
+fn told_of_file(alloc: Global, page: &Page<'_>, escape: Escape) -> Result<String, Error>
     ensures { IfOk result (λ told. length (string_bytes told) ≡ 0
-        → IsPlacedFile escape (as_file file.now)) }
+        → IsPlacedFile escape (as_page page.now)) }
 {
-    let lines = lines_of(alloc, file)?;
-    told_of_lines(alloc, file.name.as_str(), lines.as_slice(), escape)
+    let lines = lines_of(alloc, page)?;
+    told_of_lines(alloc, lines.as_slice(), escape)
+}
+
+/// Reports such values of some files.
+fn misplaced_in(alloc: Global, pages: &[Page<'_>], escape: Escape) -> Result<String, Error>
+    ensures { IfOk result (λ told. length (string_bytes told) ≡ 0
+        → All (IsPlacedFile escape) (map as_page pages.now)) }
+{
+    let mut told = String::new(alloc);
+    for page in pages {
+        let more = told_of_file(alloc, page, escape)?;
+        told.push_str(more.as_str())?;
+    }
+    Ok(told)
 }
 
 /// Reports the values of some files that are in no place of an escape, of each message the first,
@@ -99,12 +103,8 @@ fn told_of_file(alloc: Global, file: &File, escape: Escape) -> Result<String, Er
 /// `NoMemory`.
 pub fn misplaced(alloc: Global, files: &[File], escape: Escape) -> Result<String, Error>
     ensures { IfOk result (λ told. length (string_bytes told) ≡ 0
-        → All (IsPlacedFile escape) (map as_file files.now)) }
+        → All (IsPlacedFile escape) (map page_of files.now)) }
 {
-    let mut told = String::new(alloc);
-    for file in files {
-        let more = told_of_file(alloc, file, escape)?;
-        told.push_str(more.as_str())?;
-    }
-    Ok(told)
+    let pages = pages_of(alloc, files)?;
+    misplaced_in(alloc, pages.as_slice(), escape)
 }

@@ -24,7 +24,7 @@ fn after_first_line(text: &str) -> &str
 /// A line with a mark under the character at a byte, as `explain_in` shows it for a fault at the
 /// beginning of an empty format.
 #[tactic(auto, unfolding(crate::specs::Reports::picture_at))]
-fn picture_at(alloc: Global, line: &Line<'_>, place: usize) -> Result<String, Error>
+fn picture_at(alloc: Global, line: &Line<'_, '_>, place: usize) -> Result<String, Error>
     ensures picture { IfOk result (λ picture.
         string_bytes picture ≡ picture_at (as_line line.now) place) }
     ensures refused { IfErr result (λ error. answer_of error ≡ no_memory) }
@@ -43,7 +43,12 @@ fn picture_at(alloc: Global, line: &Line<'_>, place: usize) -> Result<String, Er
 
 /// Reports something at a byte of a line of the file, with the line and a mark under the byte's
 /// character.
-pub fn told_at(alloc: Global, line: &Line<'_>, place: usize, what: &str) -> Result<String, Error>
+pub fn told_at(
+    alloc: Global,
+    line: &Line<'_, '_>,
+    place: usize,
+    what: &str,
+) -> Result<String, Error>
     ensures told { IfOk result (λ told.
         string_bytes told ≡ told_at (as_line line.now) place what.now) }
     ensures refused { IfErr result (λ error. answer_of error ≡ no_memory) }

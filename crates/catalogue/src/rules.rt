@@ -78,7 +78,7 @@ impl Numbers for Counts<'_, '_> {
 }
 
 /// What is reported of a problem in a rule.
-fn problem_text(problem: Problem) -> &'static str
+pub fn problem_text(problem: Problem) -> &'static str
     ensures { result.now ≡ problem_text problem }
 {
     match problem {

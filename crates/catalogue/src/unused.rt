@@ -1,10 +1,11 @@
 //! Words that no message uses.
 
 use crate::declarations::{Heading, heading_of};
-use crate::files::{File, lines_of};
+use crate::files::{File, Line, lines_of, page_of};
+use crate::formats::format_of;
 use crate::lines::message_of;
 use crate::rules::rule_in;
-use interpolator::{Error, Template};
+use interpolator::Error;
 use plurals::{Expression, ParseError, parse};
 use std::alloc::Global;
 use words::{Declaration, Word, classify};
@@ -70,9 +71,9 @@ fn is_among(name: &str, names: &[String]) -> bool {
 }
 
 /// Leaves out the names that a line uses: its rule, or its declarations and its format.
-fn leave_line(alloc: Global, left: &mut Vec<&str>, line: &str) -> Result<(), Error> {
-    let Some((head, format)) = message_of(line) else {
-        return match rule_in(line) {
+fn leave_line(alloc: Global, left: &mut Vec<&str>, line: &Line<'_, '_>) -> Result<(), Error> {
+    let Some(head) = message_of(line.text) else {
+        return match rule_in(line.text) {
             Some(rule) => leave_rule(alloc, left, rule),
             None => Ok(()),
         };
@@ -80,14 +81,17 @@ fn leave_line(alloc: Global, left: &mut Vec<&str>, line: &str) -> Result<(), Err
     if let (_, Heading::Declares(declared)) = heading_of(alloc, head)? {
         left.retain(|name| !is_declared(name, declared.as_slice()));
     }
-    let names = Template::parse(alloc, format)?.names(alloc)?;
-    left.retain(|name| !is_among(name, names.as_slice()));
+    if let Ok(template) = format_of(alloc, line)? {
+        let names = template.names(alloc)?;
+        left.retain(|name| !is_among(name, names.as_slice()));
+    }
     Ok(())
 }
 
 /// Leaves out the names that a file uses.
 fn leave_file(alloc: Global, left: &mut Vec<&str>, file: &File) -> Result<(), Error> {
-    let lines = lines_of(alloc, file)?;
+    let page = page_of(alloc, file)?;
+    let lines = lines_of(alloc, &page)?;
     for line in &lines {
         if left.is_empty() {
             return Ok(());

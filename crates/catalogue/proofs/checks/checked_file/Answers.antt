@@ -1,11 +1,14 @@
 use Rattle.catalogue.proofs.checks.checked_file.Goals as goal
 
+pub returns-clause-told : goal.returns-clause-told
+returns-clause-told c =
+    rw (c.as_slice-2.ensures.value, c.in_ok-lines.ensures) at c.checked_lines.ensures.told
+
 pub returns-clause-found : goal.returns-clause-found
 returns-clause-found c =
     rw (
-      c.as_str.ensures.value,
       c.as_slice-2.ensures.value,
+      c.in_ok-lines.ensures,
       c.in_ok-wanted.ensures,
       c.as_slice.ensures.value,
-      c.in_ok-lines.ensures,
     ) at c.checked_lines.ensures.found

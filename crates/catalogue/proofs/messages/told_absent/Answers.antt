@@ -3,9 +3,7 @@ use Rattle.catalogue.proofs.messages.told_absent.Goals as goal
 pub returns-clause-told : goal.returns-clause-told
 returns-clause-told c =
     rw (
-      c.as_str-name.ensures.value,
       c.in_ok-form.ensures,
       c.in_ok-choice.ensures,
       c.as_slice.ensures.value,
-      c.in_ok-lines.ensures,
     ) at c.in_ok-told.ensures.ok

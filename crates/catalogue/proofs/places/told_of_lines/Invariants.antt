@@ -1,11 +1,9 @@
 use Rattle.std.proofs.Common.{◌≡◌, length, string_bytes, take}
 use Rattle.std.specs.List.{All}
+use Rattle.catalogue.specs.Files.{as_line}
 use Rattle.catalogue.specs.Places.{IsPlacedLine}
 use Rattle.catalogue.proofs.places.told_of_lines.Given as goal
 
-abbrev pub invariant-loop-text : goal.invariant-loop-text
-invariant-loop-text l = record {
-  counted : l.number ≡ l.text-index;
-  placed : length (string_bytes l.told) ≡ 0
-      → All (λ text. IsPlacedLine l.escape text.now) (take l.text-index l.lines);
-}
+abbrev pub invariant-loop-line : goal.invariant-loop-line
+invariant-loop-line l = length (string_bytes l.told) ≡ 0
+    → All (λ line. IsPlacedLine l.escape (as_line line)) (take l.line-index l.lines)

@@ -1,18 +1,18 @@
 use Rattle.std.proofs.Common.{◌≡◌, length, map, arith, string_bytes, sym}
 use Rattle.std.proofs.lemmas.Bool.Decides.{nat_tests}
 use Rattle.std.proofs.lemmas.Result.{IfOk-weaker}
-use Rattle.catalogue.specs.Files.{as_file}
+use Rattle.catalogue.specs.Files.{as_page}
 use Rattle.catalogue.specs.Messages.{GiveValues}
 use Rattle.catalogue.specs.Sought.{as_found}
 use Rattle.catalogue.proofs.AnswerLemmas.{answers_line}
 use Rattle.catalogue.proofs.KindLemmas.{all_given}
 use Rattle.catalogue.proofs.SoundLemmas.{sound_among}
-use Rattle.catalogue.proofs.messages.look_up.Goals as goal
+use Rattle.catalogue.proofs.messages.look_up_in.Goals as goal
 
 pub returns-in-Some-clause-answers : goal.returns-in-Some-clause-answers
 returns-in-Some-clause-answers c =
     let clean : length (string_bytes c.in_ok-told.field-0.told) ≡ 0 = grind (arith, nat_tests) in
-    let files = map as_file c.args.files.now in
+    let pages = map as_page c.args.pages.now in
     let words = c.args.words.now in
     let objects = c.given-objects.result.now in
     let sound = c.in_ok-told.ensures.sound clean in
@@ -21,14 +21,14 @@ returns-in-Some-clause-answers c =
     let gives : GiveValues words objects =
     rw (c.given-objects.ensures, c.in-Ok.is) (rw c.in-Ok.is at c.in_ok-values.ensures.given) in
     IfOk-weaker c.reply.result _ _ (λ answer replies.
-    answers_line c.args.escape files c.args.key.now words answer (record {
+    answers_line c.args.escape pages c.args.key.now words answer (record {
       sound = sound;
       values = objects;
       given = gives;
       known = known;
       under = under;
       replies = replies
-          (sound_among objects c.args.key.now files known sound under)
+          (sound_among objects c.args.key.now pages known sound under)
           (all_given string_bytes words objects gives);
     })) c.reply.ensures.replies
 

@@ -1,0 +1,124 @@
+//! The header of a PO file: its Plural-Forms, and its character set.
+
+use crate::files::File;
+use crate::rules::problem_text;
+use crate::translations::{is_head, told_in};
+use interpolator::Error;
+use plurals::{ParseError, parse};
+use po::{Entry, Placed};
+use std::alloc::Global;
+
+/// The forms that a file tells: how many, and the rule that chooses by a number `n`.
+#[derive(Clone, Copy)]
+pub struct PluralForms<'h> {
+    pub count: usize,
+    pub rule: &'h str,
+    /// The byte of the header at which the rule begins.
+    place: usize,
+    /// The strings of the header, if the file has one.
+    header: &'h [Placed],
+}
+
+/// The strings of the header of a file: the translation of the empty message.
+pub fn header_of<'t>(entries: &[Entry<'t>]) -> &'t [Placed] {
+    for entry in entries {
+        if let Some(text) = entry.texts.first() {
+            if is_head(entry) {
+                return *text;
+            }
+        }
+    }
+    &[]
+}
+
+/// The number and the rule of a header `Plural-Forms: nplurals=2; plural=n != 1;`. A file that tells
+/// none has two forms, as English.
+pub fn plural_forms<'h>(header: &'h [Placed], text: &'h str) -> PluralForms<'h> {
+    let told = count_in(text).zip(text.split_once("plural="));
+    match told {
+        Some((count, (before, rest))) => PluralForms {
+            count,
+            rule: rule_in(rest),
+            place: before.len().saturating_add(7),
+            header,
+        },
+        None => PluralForms {
+            count: 2,
+            rule: "n != 1",
+            place: 0,
+            header,
+        },
+    }
+}
+
+/// The front of a text before a `;` or the end of its line.
+fn rule_in(text: &str) -> &str {
+    let line = text.lines().next().unwrap_or("");
+    match line.split_once(';') {
+        Some((rule, _)) => rule,
+        None => line,
+    }
+}
+
+/// The number behind `nplurals=`.
+fn count_in(text: &str) -> Option<usize> {
+    let (_, rest) = text.split_once("nplurals=")?;
+    rule_in(rest).trim().parse::<usize>().ok()
+}
+
+/// The first number up to 1000 for which a rule chooses no form that there is, with what it chooses.
+fn beyond(read: &plurals::Expression<'_>, count: usize) -> Option<(u128, u128)> {
+    for index in 0..1001usize {
+        let n = index as u128;
+        let value = read.value(&n);
+        match usize::try_from(value) {
+            Ok(form) if form < count => {}
+            _ => return Some((n, value)),
+        }
+    }
+    None
+}
+
+/// Reports what is wrong with the rule of a file: it is none, or chooses a form that is not there for
+/// a number up to 1000.
+pub fn told_of_rule(alloc: Global, file: &File, forms: &PluralForms<'_>) -> Result<String, Error> {
+    match parse(alloc, forms.rule) {
+        Ok(read) => match beyond(&read, forms.count) {
+            None => Ok(String::new(alloc)),
+            Some((n, value)) => {
+                let count = forms.count;
+                let what = format!(in alloc; "the rule chooses form {value} of {count} for {n}")?;
+                told_in(alloc, file, forms.header, forms.place, what.as_str())
+            }
+        },
+        Err(ParseError::Broken(fault)) => {
+            let place = forms.place.saturating_add(fault.place);
+            told_in(
+                alloc,
+                file,
+                forms.header,
+                place,
+                problem_text(fault.problem),
+            )
+        }
+        Err(ParseError::NoMemory) => Err(Error::NoMemory),
+    }
+}
+
+/// Reports that the header of a file tells another character set than that by which it is read, if
+/// that matters.
+pub fn told_of_charset(
+    alloc: Global,
+    file: &File,
+    header: &[Placed],
+    text: &str,
+) -> Result<String, Error> {
+    let Some((before, rest)) = text.split_once("charset=") else {
+        return Ok(String::new(alloc));
+    };
+    if rule_in(rest).trim().eq_ignore_ascii_case("utf-8") || file.text.as_str().is_ascii() {
+        return Ok(String::new(alloc));
+    }
+    let place = before.len().saturating_add(8);
+    told_in(alloc, file, header, place, "a PO file is read as UTF-8")
+}

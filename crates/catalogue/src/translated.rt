@@ -1,0 +1,167 @@
+//! The message under a text of a PO file.
+
+use crate::entries::{Object, entries_of, pairs_of};
+use crate::files::File;
+use crate::messages::{Answer, made};
+use crate::objects::objects_of;
+use crate::plural_forms::{PluralForms, header_of, plural_forms, told_of_charset};
+use crate::rules::Counts;
+use crate::translations::{
+    is_translated, template_of, told_at_byte, told_of_entries, told_of_error,
+};
+use interpolator::{Error, Escape};
+use plurals::{Numbers, ParseError, parse};
+use po::{Entry, Placed, ReadError, text_of, tokens_of};
+use std::alloc::Global;
+
+/// The message that is looked up.
+#[derive(Clone, Copy)]
+pub struct Sought<'a> {
+    /// Its `msgctxt`; empty for one that has none.
+    pub context: &'a str,
+    /// Its `msgid`.
+    pub key: &'a str,
+    pub words: &'a [String],
+}
+
+/// Reports where a file is no PO file.
+fn broken(alloc: Global, file: &File, error: ReadError) -> Result<Answer, Error> {
+    match error {
+        ReadError::NoMemory => Err(Error::NoMemory),
+        ReadError::Broken(fault) => {
+            let told = told_at_byte(alloc, file, fault.place, fault.problem.as_str())?;
+            Ok(Answer::Faults(told))
+        }
+    }
+}
+
+/// Whether strings make this text.
+fn is_text(alloc: Global, strings: &[Placed], text: &str) -> Result<bool, Error> {
+    let made = text_of(alloc, strings)?;
+    Ok(made.as_str() == text)
+}
+
+/// The message that is looked up.
+fn found_in<'e, 't>(
+    alloc: Global,
+    entries: &'e [Entry<'t>],
+    sought: &Sought<'_>,
+) -> Result<Option<&'e Entry<'t>>, Error> {
+    for entry in entries {
+        if is_text(alloc, entry.context, sought.context)? && is_text(alloc, entry.id, sought.key)? {
+            return Ok(Some(entry));
+        }
+    }
+    Ok(None)
+}
+
+/// The strings of the form that a rule chooses of a message for a number, or of its own text, if it
+/// has no translation that counts.
+fn form_of<'t>(
+    alloc: Global,
+    forms: &PluralForms<'_>,
+    entry: &Entry<'t>,
+    number: u128,
+) -> Result<&'t [Placed], Error> {
+    let own = if entry.plural.is_empty() || number == 1 {
+        entry.id
+    } else {
+        entry.plural
+    };
+    if !is_translated(entry) {
+        return Ok(own);
+    }
+    let index = match parse(alloc, forms.rule) {
+        Ok(read) if !entry.plural.is_empty() => read.value(&number),
+        Err(ParseError::NoMemory) => return Err(Error::NoMemory),
+        _ => 0,
+    };
+    let index = usize::try_from(index).unwrap_or(usize::MAX);
+    Ok(entry.texts.get(index).copied().unwrap_or(own))
+}
+
+/// The text of a format that strings make, with the values of objects; or its fault.
+fn said(
+    alloc: Global,
+    file: &File,
+    escape: Option<Escape>,
+    strings: &[Placed],
+    objects: &[Object<'_>],
+) -> Result<Answer, Error> {
+    let template = template_of(alloc, strings)?;
+    let entries = entries_of(alloc, objects)?;
+    let pairs = pairs_of(alloc, entries.as_slice())?;
+    match made(alloc, escape, &template, pairs.as_slice()) {
+        Ok(message) => Ok(Answer::Message(message)),
+        Err(Error::NoMemory) => Err(Error::NoMemory),
+        Err(error) => Ok(Answer::Faults(told_of_error(alloc, file, strings, &error)?)),
+    }
+}
+
+/// The message that is looked up among those of a file without a fault; or what is missing for it.
+fn message(
+    alloc: Global,
+    file: &File,
+    escape: Option<Escape>,
+    forms: &PluralForms<'_>,
+    entries: &[Entry<'_>],
+    sought: &Sought<'_>,
+) -> Result<Answer, Error> {
+    let values = objects_of(alloc, sought.words)?;
+    let objects = match &values {
+        Ok(objects) => objects.as_slice(),
+        Err(word) => return Ok(Answer::BadWord(String::from_str(alloc, word)?)),
+    };
+    let name = file.name.as_str();
+    let key = sought.key;
+    let Some(entry) = found_in(alloc, entries, sought)? else {
+        let told = format!(in alloc; "{name}: no message `{key}`\n")?;
+        return Ok(Answer::Faults(told));
+    };
+    match Counts(objects).number("n") {
+        None if !entry.plural.is_empty() => {
+            let told = format!(in alloc; "{name}: `{key}` wants `n:=NUMBER`\n")?;
+            Ok(Answer::Faults(told))
+        }
+        number => {
+            let strings = form_of(alloc, forms, entry, number.unwrap_or(1))?;
+            said(alloc, file, escape, strings, objects)
+        }
+    }
+}
+
+/// All that is wrong with a PO file; if nothing is, the message that is looked up, if one is.
+///
+/// A message that is fuzzy, or has no translation, has its own text. The form of one with a plural
+/// is that which the file's Plural-Forms choose by the number `n`.
+///
+/// # Errors
+///
+/// `NoMemory`.
+pub fn in_po(
+    alloc: Global,
+    file: &File,
+    escape: Option<Escape>,
+    sought: Option<Sought<'_>>,
+) -> Result<Answer, Error> {
+    let tokens = match tokens_of(alloc, file.text.as_str()) {
+        Ok(tokens) => tokens,
+        Err(error) => return broken(alloc, file, error),
+    };
+    let entries = match po::entries_of(alloc, file.text.len(), tokens.as_slice()) {
+        Ok(entries) => entries,
+        Err(error) => return broken(alloc, file, error),
+    };
+    let header = header_of(entries.as_slice());
+    let head = text_of(alloc, header)?;
+    let forms = plural_forms(header, head.as_str());
+    let mut told = told_of_charset(alloc, file, header, head.as_str())?;
+    let more = told_of_entries(alloc, file, escape, &forms, entries.as_slice())?;
+    told.push_str(more.as_str())?;
+    match sought {
+        Some(sought) if told.is_empty() => {
+            message(alloc, file, escape, &forms, entries.as_slice(), &sought)
+        }
+        _ => Ok(Answer::Faults(told)),
+    }
+}
