@@ -7,7 +7,7 @@
 set -u
 
 usage='usage: merge [--separator , | ; | tab] [--latin1] [--partial] [--html | --csv | --json] '
-usage+='[--if-empty NAME=TEMPLATE] [--] TEMPLATE TABLE'
+usage+='[--if-empty NAME=TEMPLATE] [--out NAMES] [--] TEMPLATE TABLE'
 out_of_place='this value is out of place; a value may stand'
 html_places='in text, or between the quotes of an attribute that is a text'
 next='and the next letter would begin there'
@@ -19,7 +19,7 @@ wanted_number='wants a number, such as -7 or 12.50'
 greatest=170141183460469231731687303715884105727
 here=$(cd "$(dirname "$0")" && pwd)
 name=merge
-wanted=140
+wanted=158
 . "$here/../../.ci/cases.sh"
 
 # files TEMPLATE TABLE: what stands in the files `t` and `r`.
@@ -200,6 +200,15 @@ escape_cases() {
     refusals_of 0 '<b>&lt;é&gt;</b>' '' --html t r
 }
 
+whole_cases() {
+    # as Python's json reads the lines: {'a': 'x"<', 'b': -2.5} and {'a': '', 'b': 7}
+    escaped --json $'{"a":"x\\"\\u003c","b":-2.50}\n{"a":"","b":7}\n' $'{{"a":{a:?},"b":{b:?}}}\n' \
+        $'a,b:\n"x""<",-2.50\n,7\n'
+    escaped --json '[null, 1e300]' '[{a:?}, {b:?}]' $'a:~,b:~\nnan,1e300\n'
+    misplaced "$(printf '%s\n' "t:1:3: $out_of_place in a string, or under \`?\` between strings" '  |' \
+        '1 | ["{b:?}"]' '  |   ^')" '["{b:?}"]' --json
+}
+
 place_cases() {
     misplaced "$(printf '%s\n' "t:1:10: $out_of_place $html_places" '  |' '1 | <p title={a}>' \
         '  |          ^')" '<p title={a}>' --html
@@ -207,7 +216,7 @@ place_cases() {
         '  |        ^')" $'<p>\n{a} <i {b}>' --html --partial
     misplaced "$(printf '%s\n' "t:1:7: $out_of_place between double quotes" '  |' '1 | "{a}",{b}' \
         '  |       ^')" '"{a}",{b}' --csv
-    misplaced "$(printf '%s\n' "t:1:7: $out_of_place in a string" '  |' '1 | {{"n":{b}}}' \
+    misplaced "$(printf '%s\n' "t:1:7: $out_of_place in a string, or under \`?\` between strings" '  |' '1 | {{"n":{b}}}' \
         '  |       ^')" '{{"n":{b}}}' --json
     printf '%s' '<p id={b}>' >o
     misplaced "$(printf '%s\n' "o:1:7: $out_of_place $html_places" '  |' '1 | <p id={b}>' \
@@ -240,6 +249,53 @@ partial_cases() {
     case_of file file 1 '' $'r:1: column 2 has the name of an earlier column\n' --partial t r
     files '<{a}>' $'a\n1\n2\n'
     case_of file file 0 '<1><2>' '' --partial t r
+}
+
+# in_files WANTED NAMES TEMPLATE TABLE FLAG..: letters in files of the folder `o`, with status 0. What
+# stands in it after that is WANTED, a line for each file.
+in_files() {
+    local file made=
+    rm -rf o && mkdir o
+    files "$3" "$4"
+    case_of file file 0 '' '' --out "$2" "${@:5}" t r
+    for file in o/* o/*/*; do
+        [[ -f $file ]] && made+="$file: $(cat "$file")"$'\n'
+    done
+    printf '%s' "$made" >made
+    is_text 'the files' "$1" made "--out $2"
+}
+
+# unnamed WANTED NAMES TABLE: records that give no name of a file, with status 1; no letter is written.
+unnamed() {
+    rm -rf o && mkdir o
+    files '{a}' "$3"
+    case_of file file 1 '' "$1"$'\n' --out "$2" t r
+    [[ -z $(ls o) ]] || fail "--out $2: a letter is written"
+}
+
+file_cases() {
+    in_files $'o/1.txt: <x>\no/2.txt: <é>\n' 'o/{n}.txt' '<{a}>' $'a,n:\nx,1\né,02\n'
+    in_files $'o/a b: a b\no/x..: x..\n' 'o/{a}' '{a}' $'a\nx..\na b\n'
+    in_files $'o/ 1: &lt;\n' './o/{n:2}' '{a}' $'a,n:\n<,1\n' --html
+    in_files $'o/1: new\n' 'o/1' 'new' $'a\nx\n'
+    in_files '' 'o/{a}' '{a}' $'a\n'
+    unnamed 'r:3: `o/x/y`: a value has a `/`' 'o/{a}' $'a\nx\nx/y\nz\n'
+    unnamed $'r:2: `o/..` is no name of a file\nr:3: `o/.` is no name of a file\nr:4: `o/` is no name of a file' \
+        'o/{a}' $'a\n..\n.\n""\n'
+    unnamed 'r:2: `o/../x` is no name of a file' 'o/{a}/x' $'a\n..\n'
+    unnamed $'r:4: `o/x` is the file of line 2\nr:5: `o/x` is the file of line 4' 'o/{a}' $'a\nx\ny\nx\nx\n'
+    unnamed 'r:2: 2 fields, but line 1 has 1' 'o/{a}' $'a\nx,y\nx/y\n'
+    unnamed "$(printf '%s\n' '--out:1:4: specified value not in context `b` at 3' '  |' '1 | o/{b}' \
+        '  |   ~^~' '  = did you mean `a`? names: `a`')" 'o/{b}' $'a\nx\n'
+    files '{a}' $'a,n:\nx,1\ny,2\nz\n'
+    case_of file file 1 '' $'r:4: 1 field, but line 1 has 2\n' --partial --out 'o/{n}' t r
+    [[ $(cat o/1 o/2) == xy ]] || fail '--partial --out: other files'
+    case_of file file 3 '' $'none/1: No such file or directory (os error 2)\n' \
+        --out 'none/{n}' --partial t r
+    case_of file file 2 '' "$usage"$'\n' --out t r
+    files '{a}' $'a,n:\nx,1\ny,2\n'
+    refusals_of 0 '' '' --out 'o/{n}' t r
+    rm -r o
 }
 
 # More columns than a comparison of each with all before it could take, and more letters than the
@@ -345,9 +401,11 @@ all_cases() {
     template_cases
     other_template_cases
     escape_cases
+    whole_cases
     place_cases
     ending_cases
     partial_cases
+    file_cases
     large_cases
     table_cases
     other_cases

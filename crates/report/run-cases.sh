@@ -1,6 +1,6 @@
 #!/usr/bin/env bash
 # Runs the built program on tables, and compares what it writes to both streams and its status with
-# what is worked out by hand: widths count characters, a total is the sum of all numbers of its
+# what is worked out by hand: widths count columns of a terminal, a total is the sum of all numbers of its
 # column, at the greatest scale of these, and fields are those of RFC 4180. Then it runs the line of
 # crates/README.md.
 #
@@ -37,7 +37,7 @@ next=17014118346046923173168730371588410573
 zeros=0.0000000000000000000000000000000000000000
 here=$(cd "$(dirname "$0")" && pwd)
 name=report
-wanted=98
+wanted=100
 . "$here/../../.ci/cases.sh"
 
 # table WANTED TEXT FLAG..: the report of a file with this text, which goes to the output, with
@@ -59,6 +59,8 @@ table_cases() {
         $'item,count:\nbread,7\ncrème,-1234\n'
     table $' n  t\n 1\n20  é\n' $'n,t\n1,\n20,é\n'
     table $'a  b\n' $'a:,b\n'
+    table $'名      n\n漢字    1\ne\xcc\x81      12\ntotal  13\n' $'名,n:\n漢字,1\ne\xcc\x81,12\n'
+    table $'a   b\n😀  1\n\xe1\x84\x92\xe1\x85\xa1\xe1\x86\xab  2\n\xef\xbc\xa1  3\n' $'a,b\n😀,1\n\xe1\x84\x92\xe1\x85\xa1\xe1\x86\xab,2\n\xef\xbc\xa1,3\n'
     table $'{a}    )#\n{b}     1\n{c}     2\ntotal   3\n' $'{a},)#:\n{b},1\n{c},2\n'
     table $'n  m\n1  2\n1  2\n' $'\xef\xbb\xbfn:,m :\r\n1,2\r\n'
     table $'  n\n007\n +1\n  8\n' $'n:\n007\n+1\n'

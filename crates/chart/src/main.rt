@@ -121,7 +121,7 @@ fn drawn(alloc: Global, page: &EscapedTemplate, rows: Rows<'_>) -> Result<String
     let mut context = ContextMap::new(alloc);
     context.put("height", Formattable::integer(&height))?;
     context.put("rows", Formattable::iter(&lists))?;
-    context.format_escaped(alloc, page)
+    context.format_page(alloc, page)
 }
 
 /// The picture of rows, or the fault of the format, whose text this is.

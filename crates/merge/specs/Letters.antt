@@ -13,7 +13,6 @@ use Rattle.interpolator.specs.Prepared.Rows.{PreparedFormat, found_by_row, pair_
 use Rattle.interpolator.specs.Slots.{slots_of}
 use Rattle.interpolator.specs.Template.NodeSamples.{faults_over}
 use Rattle.interpolator.specs.Views.{Shown, shown_as_value}
-use Rattle.interpolator_escapes.specs.Escapes.{escape_of}
 use Rattle.interpolator_escapes.specs.Formats.{escaped_shows}
 use Rattle.interpolator_escapes.specs.Placing.{EndsFor, FailsFor}
 use Rattle.interpolator_escapes.specs.declared.ending.Ending.TheVariants as endings
@@ -58,7 +57,7 @@ view_shows view _ _ = shown_as_value view
 -- the same in a letter: escaped, if that is asked for
 abbrev pub letter_shows : Option Escape → View → Trait → Spec → Shown
 letter_shows None = view_shows
-letter_shows (Some escape) = escaped_shows (escape_of escape) view_shows
+letter_shows (Some escape) = escaped_shows escape view_shows
 
 -- a sample has these names, and under each an example of its column
 pub record HasNames (names : List (List ℕ)) (kinds : List Kind) (sample : Sample) : Type 0 where

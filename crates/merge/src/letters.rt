@@ -9,7 +9,6 @@ ghost use Rattle.interpolator.specs.Meaning.Environments.{environment};
 ghost use Rattle.interpolator.specs.Meaning.Meanings.{means};
 ghost use Rattle.interpolator.specs.Meaning.Outcomes.{Outcome};
 ghost use Rattle.interpolator.specs.Prepared.Rows.{found_by_row, row_at};
-ghost use Rattle.interpolator_escapes.specs.Escapes.{escape_of};
 ghost use Rattle.interpolator_escapes.specs.Formats.{escaped_shows};
 ghost use Rattle.merge.specs.Columns.{kinds_in, names_in};
 ghost use Rattle.merge.specs.Letters.{AreReady, IsOneFault, IsReady};
@@ -43,7 +42,7 @@ fn write_escaped<W: TextWrite, V: Value>(
     row: &Row<'_, V>,
 ) -> Result<(), Error>
     ensures { Outcome
-        (means (escaped_shows (escape_of escape) V.shows)
+        (means (escaped_shows escape V.shows)
         (environment (found_by_row letter.now.names (row_at row.now.0.now)))
         (outermost (chars letter.now.text)))
         (W.written out.old) (W.written out.new) (result_answer result) }
@@ -115,7 +114,7 @@ fn write_fields<W: TextWrite>(
 }
 
 /// Writes the letter of a record, if it is asked to, or returns what is wrong with it.
-fn write_record<W: TextWrite>(
+pub fn write_record<W: TextWrite>(
     alloc: Global,
     out: &mut W,
     letters: &Letters,
@@ -174,7 +173,7 @@ fn write_next<'a, W: TextWrite>(
 
 /// Finds what is wrong with the names of a table and with the records that a reader has left of it;
 /// and writes, if it is asked to, the letters of those before the first that is wrong.
-fn write_rows<W: TextWrite>(
+pub fn write_rows<W: TextWrite>(
     alloc: Global,
     out: &mut W,
     letters: &Letters,
@@ -263,7 +262,7 @@ fn one_fault(alloc: Global, line: usize, trouble: Trouble) -> Fault
 }
 
 /// Fills in the fields of the header, which the reader of a table begins with.
-fn read_header<'a>(
+pub fn read_header<'a>(
     alloc: Global,
     reader: &mut Reader<'a>,
     fields: &mut Vec<Field<'a>>,

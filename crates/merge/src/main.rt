@@ -21,7 +21,8 @@
 //!
 //! With `--html`, `--csv` or `--json`, of which one may be given, once, values are written
 //! escaped: as in the text and the attributes of a page, in the quoted fields of a table, or in
-//! the strings of JSON. Each value of a template has to stand in such a place, and a template has to
+//! the strings of JSON, where `{name:?}` between strings is a whole value, with its quotes if it is a
+//! text. Each value of a template has to stand in such a place, and a template has to
 //! end as it began, so that the next letter begins as this one did: one of CSV ends with a newline.
 //!
 //! Templates are checked with the columns before the first letter, and all faults of the first
@@ -31,6 +32,10 @@
 //! `--partial` those of the records before the first fault are. So the table is read twice, or
 //! once with `--partial`, and each letter is written as it is made.
 //!
+//! With `--out letters/{name}.txt`, each letter is written into a file of its own, which this
+//! template names by the record. A value in a name has no `/` and makes no part of it `..`, and no
+//! two records give the same name; else this is told of all records, and no letter is written.
+//!
 //! A flag that is given again counts as it was given last; `--` ends the flags, and `--help` as the
 //! first word prints help. The status is 0 if the letters are written, 1 after a fault of a template
 //! or of the table, 2 after wrong use, and 3 after a refused write or for a file that cannot be read.
@@ -39,6 +44,7 @@
 ghost use Rattle.std.specs.Prelude.{◌<◌, IfSome, length};
 
 mod columns;
+mod files;
 mod letters;
 mod output;
 mod table;
@@ -46,6 +52,7 @@ mod templates;
 mod told;
 mod values;
 
+use files::{FileFault, Named, write_files};
 use interpolator::{Error, Escape, IoWriter};
 use letters::merge;
 use output::Output;
@@ -53,13 +60,13 @@ use records::{BadByte, Separator, latin1, text_in};
 use std::fs;
 use std::process::ExitCode;
 use templates::{Fault, Templates};
-use told::{Files, told};
+use told::{Files, told, told_files};
 use words::program::{
     FAULT, REFUSED, WRITTEN, arguments, ended, is_flag, usage, without_mark, without_words,
 };
 
 const USAGE: &str = "usage: merge [--separator , | ; | tab] [--latin1] [--partial] \
-    [--html | --csv | --json] [--if-empty NAME=TEMPLATE] [--] TEMPLATE TABLE";
+    [--html | --csv | --json] [--if-empty NAME=TEMPLATE] [--out NAMES] [--] TEMPLATE TABLE";
 
 const HELP: &str = "\
 Writes a letter for each record of a table.
@@ -71,10 +78,11 @@ usage: merge [FLAG..] [--] TEMPLATE TABLE
   --partial                  if a record is wrong, write the letters of those before it
   --html, --csv or --json    values escaped: in text or quoted attributes, quoted fields, or strings
   --if-empty NAME=TEMPLATE   another template for the records whose field NAME is empty
+  --out NAMES                a file for each letter, as 'letters/{name}.txt' names it
   --help                     print this
 
 The first line of the table names its columns; `price:` names a column of numbers, `price`, and
-`x:~` one of floats, `x`.
+`x:~` one of floats, `x`. With --json, `{x:?}` is a whole value: a number, or a text with quotes.
 
 example: with `Dear {name}, {item} costs {price:.2}.` in letter.txt, and in people.csv
   name,item,price:
@@ -94,6 +102,8 @@ struct Asked<'a> {
     escape: Option<Escape>,
     /// The name of a column, and of the template for its empty fields.
     if_empty: Option<(&'a str, &'a str)>,
+    /// The template of the names of files, if each letter has one of its own.
+    out: Option<&'a str>,
 }
 
 /// The escape that a flag asks for.
@@ -135,6 +145,10 @@ fn after_flag<'a>(asked: &mut Asked<'a>, words: &'a [String]) -> Option<&'a [Str
             asked.if_empty = Some(word.as_str().split_once('=')?);
             Some(more)
         }
+        [flag, word, more @ ..] if flag.as_str() == "--out" => {
+            asked.out = Some(word.as_str());
+            Some(more)
+        }
         [flag, more @ ..] => {
             take_word(asked, flag.as_str())?;
             Some(more)
@@ -153,6 +167,7 @@ fn asked_by<'a>(words: &'a [String]) -> Option<Asked<'a>> {
         is_partial: false,
         escape: None,
         if_empty: None,
+        out: None,
     };
     let mut rest = words;
     while let Some(next) = after_flag(&mut asked, rest) {
@@ -188,20 +203,43 @@ fn stopped(rt: &HostRuntime, output: Output<'_>) -> ExitCode {
     }
 }
 
-/// Writes the letters of templates and a table, or why they are missing.
-fn write_letters(rt: &HostRuntime, files: Files<'_>) -> ExitCode {
-    let alloc = rt.alloc();
-    let mut out = IoWriter::new(alloc, Output::new(rt));
-    let templates = Templates {
+/// The templates of letters.
+fn templates_of<'a>(files: Files<'a>) -> Templates<'a> {
+    Templates {
         letter: files.template,
         other: files.other,
         column: files.column,
         escape: files.escape,
+    }
+}
+
+/// Writes the letters of templates and a table into files, which this template names, or why they
+/// are missing.
+fn write_named(rt: &HostRuntime, files: Files<'_>, pattern: &str) -> ExitCode {
+    let templates = templates_of(files);
+    let named = Named { templates, pattern };
+    let written = write_files(rt, named, files.table, files.separator, files.is_partial);
+    let Err(fault) = written else {
+        return ExitCode::from(WRITTEN);
     };
+    let status = match fault {
+        FileFault::Refused(..) => REFUSED,
+        _ => FAULT,
+    };
+    match told_files(rt.alloc(), files, pattern, &fault) {
+        Ok(told) => ended(eprint!(rt; "{told}"), status),
+        Err(_) => out_of_memory(rt),
+    }
+}
+
+/// Writes the letters of templates and a table, or why they are missing.
+fn write_letters(rt: &HostRuntime, files: Files<'_>) -> ExitCode {
+    let alloc = rt.alloc();
+    let mut out = IoWriter::new(alloc, Output::new(rt));
     let merged = merge(
         alloc,
         &mut out,
-        templates,
+        templates_of(files),
         files.table,
         files.separator,
         files.is_partial,
@@ -281,7 +319,10 @@ fn merge_texts(
         is_partial: asked.is_partial,
         escape: asked.escape,
     };
-    write_letters(rt, files)
+    match asked.out {
+        Some(pattern) => write_named(rt, files, pattern),
+        None => write_letters(rt, files),
+    }
 }
 
 /// Merges files, or ends the run without one.

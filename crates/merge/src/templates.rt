@@ -79,6 +79,18 @@ pub struct Templates<'a> {
     pub escape: Option<Escape>,
 }
 
+impl<'a> Templates<'a> {
+    /// One template, for all records, whose values are as they are.
+    pub fn plain(letter: &'a str) -> Templates<'a> {
+        Templates {
+            letter,
+            other: "",
+            column: None,
+            escape: None,
+        }
+    }
+}
+
 /// The templates, prepared for the columns of a table.
 #[derive(Drop)]
 pub struct Letters {

@@ -1,6 +1,7 @@
 //! Why letters are missing, in lines.
 
 use crate::columns::{columns_of, names_of};
+use crate::files::{FileFault, NameFault, Unnamed};
 use crate::table::{LineFault, Trouble};
 use crate::templates::{Fault, Unfit};
 use interpolator::{Error, Escape, Source, explain_place, explain_with_names, places_of};
@@ -196,5 +197,40 @@ pub fn told(alloc: Global, files: Files<'_>, fault: &Fault) -> Result<String, Er
             Ok(format!(in alloc; "{table}:1: no column has the name `{name}`\n")?)
         }
         Fault::Stopped => Err(Error::NoMemory),
+    }
+}
+
+/// Why a record gives no name of a file, as a line of text.
+fn told_name(alloc: Global, table: &str, fault: &NameFault) -> Result<String, Error> {
+    let line = fault.line;
+    let name = fault.name.as_str();
+    let told = match fault.why {
+        Unnamed::Slash => format!(in alloc; "{table}:{line}: `{name}`: a value has a `/`\n")?,
+        Unnamed::Part => format!(in alloc; "{table}:{line}: `{name}` is no name of a file\n")?,
+        Unnamed::Twice(before) => format!(in alloc;
+            "{table}:{line}: `{name}` is the file of line {before}\n"
+        )?,
+    };
+    Ok(told)
+}
+
+/// Why files are missing; of one that could not be written, its name and why.
+pub fn told_files(
+    alloc: Global,
+    files: Files<'_>,
+    pattern: &str,
+    fault: &FileFault,
+) -> Result<String, Error> {
+    match fault {
+        FileFault::Letters(fault) => told(alloc, files, fault),
+        FileFault::Pattern(faults) => told_template(alloc, files, "--out", pattern, faults),
+        FileFault::Names(faults) => {
+            let mut lines = String::new(alloc);
+            for fault in faults {
+                lines.push_str(told_name(alloc, files.table_name, fault)?.as_str())?;
+            }
+            Ok(lines)
+        }
+        FileFault::Refused(name, error) => Ok(format!(in alloc; "{name}: {error}\n")?),
     }
 }

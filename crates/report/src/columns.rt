@@ -4,6 +4,7 @@ use crate::asked::Asked;
 use crate::faults::Faults;
 use crate::rows::{Group, entries_of, entry_in};
 use crate::totals::{Cell, NoTotal, Total, cells_of, total_of};
+use crate::widths::width;
 use interpolator::Error;
 use records::Record;
 use std::alloc::{AllocError, Global};
@@ -12,7 +13,7 @@ use std::alloc::{AllocError, Global};
 #[derive(Drop)]
 pub struct Column<'a> {
     pub name: &'a str,
-    /// How many characters the widest of its name and its entries has.
+    /// How many columns of a terminal the widest of its name and its entries takes.
     pub width: usize,
     /// Whether what it has are numbers.
     pub is_numeric: bool,
@@ -57,13 +58,13 @@ fn is_among(names: &str, name: &str) -> bool {
     false
 }
 
-/// How many characters the widest of some texts has.
+/// How many columns of a terminal the widest of some texts takes.
 fn widest(name: &str, entries: &[&str]) -> usize {
-    let mut width = name.chars().count();
+    let mut most = width(name);
     for entry in entries {
-        width = width.max(entry.chars().count());
+        most = most.max(width(entry));
     }
-    width
+    most
 }
 
 /// Tells the cells of a column, at this index, that are no numbers.

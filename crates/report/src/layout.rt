@@ -3,44 +3,77 @@
 use crate::columns::Column;
 use crate::feet::{Foot, push_feet};
 use crate::rows::{Group, entry_in};
+use crate::widths::width;
 use interpolator::{
-    Error, Escape, EscapedPrepared, Formattable, Pairs, PlaceError, Prepared, Row, Template,
-    TextBuffer, TextWrite, Value, View, items_of, values,
+    Error, Escape, EscapedPrepared, Formattable, PlaceError, Row, Template, TextBuffer, TextWrite,
+    Value, View, items_of, values,
 };
 use records::Record;
 use std::alloc::Global;
 use std::fmt;
 
-/// How many characters wide a column is, with what it has below it.
-fn width_of(column: &Column<'_>, index: usize, feet: &[Foot]) -> usize {
-    let mut width = column.width;
+/// How a column is shown in a line.
+#[derive(Clone, Copy)]
+struct Side {
+    /// How many columns of a terminal it takes, with what it has below it.
+    width: usize,
+    /// Whether its entries stand at the right.
+    is_right: bool,
+}
+
+/// How a column is shown, with these totals below it.
+fn side_of(column: &Column<'_>, index: usize, feet: &[Foot]) -> Side {
+    let mut most = column.width;
     for foot in feet {
         if let Some(text) = foot.texts.get(index) {
-            width = width.max(text.chars().count());
+            most = most.max(width(text.as_str()));
         }
     }
-    width
-}
-
-/// The format of a row: its items by their indices, each in the width of its column.
-fn row_format(alloc: Global, columns: &[Column<'_>], feet: &[Foot]) -> Result<String, Error> {
-    let mut format = String::new(alloc);
-    for (index, column) in columns.iter().enumerate() {
-        let gap = if index == 0 { "" } else { "  " };
-        let side = if column.is_numeric { '>' } else { '<' };
-        let width = width_of(column, index, feet);
-        let item = format!(in alloc; "{gap}{{:i{index}({{:{side}{width}}})}}")?;
-        format.push_str(item.as_str())?;
+    Side {
+        width: most,
+        is_right: column.is_numeric,
     }
-    Ok(format)
 }
 
-/// The format of a row, prepared for a list of entries under the empty name.
-fn prepared_row(alloc: Global, format: &str) -> Result<Prepared, Error> {
-    let entry = View::Text("");
-    let items = [Formattable::display(&entry)];
-    let template = Template::parse(alloc, format)?;
-    template.prepare(alloc, &Pairs(&[("", Formattable::iter(&items))]))
+/// How columns are shown.
+fn sides_of(alloc: Global, columns: &[Column<'_>], feet: &[Foot]) -> Result<Vec<Side>, Error> {
+    let mut sides = Vec::with_capacity(alloc, columns.len())?;
+    for (index, column) in columns.iter().enumerate() {
+        sides.push(side_of(column, index, feet))?;
+    }
+    Ok(sides)
+}
+
+/// Adds blanks.
+fn push_blanks(out: &mut String, count: usize) -> Result<(), Error> {
+    for _ in 0..count {
+        out.push(' ')?;
+    }
+    Ok(())
+}
+
+/// Adds an entry, padded.
+fn push_padded(out: &mut String, side: Side, entry: &str) -> Result<(), Error> {
+    let blanks = side.width.saturating_sub(width(entry));
+    if side.is_right {
+        push_blanks(out, blanks)?;
+        out.push_str(entry)?;
+        return Ok(());
+    }
+    out.push_str(entry)?;
+    push_blanks(out, blanks)
+}
+
+/// The line of some entries.
+fn line_of(alloc: Global, sides: &[Side], entries: &[&str]) -> Result<String, Error> {
+    let mut line = String::new(alloc);
+    for (index, (side, entry)) in sides.iter().zip(entries).enumerate() {
+        if index > 0 {
+            line.push_str("  ")?;
+        }
+        push_padded(&mut line, *side, entry)?;
+    }
+    Ok(line)
 }
 
 /// The format of a record of CSV: the items of `row` by their indices, each between quotes.
@@ -70,12 +103,12 @@ fn prepared_record(alloc: Global, format: &str) -> Result<EscapedPrepared, Error
 #[derive(Drop)]
 enum Form {
     /// As a line of the table.
-    Line(Prepared),
+    Line(Vec<Side>),
     /// As a record of CSV.
     Record(EscapedPrepared),
 }
 
-/// The prepared format of a row.
+/// How rows are written.
 fn form_of(
     alloc: Global,
     columns: &[Column<'_>],
@@ -86,8 +119,7 @@ fn form_of(
         let format = record_format(alloc, columns)?;
         return Ok(Form::Record(prepared_record(alloc, format.as_str())?));
     }
-    let format = row_format(alloc, columns, feet)?;
-    Ok(Form::Line(prepared_row(alloc, format.as_str())?))
+    Ok(Form::Line(sides_of(alloc, columns, feet)?))
 }
 
 /// The page, as far as it is written.
@@ -98,24 +130,15 @@ struct Page {
     out: String,
 }
 
-/// Writes a row of entries.
-fn write_row<V: Value>(
+/// The record of some entries.
+fn record_of<V: Value>(
     alloc: Global,
-    out: &mut TextBuffer,
-    form: &Form,
-    row: &Row<'_, V>,
-) -> Result<(), Error> {
-    match form {
-        Form::Line(line) => line.write(alloc, out, row),
-        Form::Record(record) => record.write(alloc, out, row),
-    }
-}
-
-/// The text of a row of entries.
-fn row_text<V: Value>(alloc: Global, form: &Form, entries: &[V]) -> Result<String, Error> {
+    record: &EscapedPrepared,
+    entries: &[V],
+) -> Result<String, Error> {
     let items = items_of(alloc, entries)?;
     let mut out = TextBuffer::new(alloc);
-    let answer = write_row(alloc, &mut out, form, &Row(&[Formattable::iter(&items)]));
+    let answer = record.write(alloc, &mut out, &Row(&[Formattable::iter(&items)]));
     // The buffer refuses a text only if memory runs out.
     if out.refused() {
         return Err(Error::NoMemory);
@@ -144,11 +167,16 @@ fn push_shown(out: &mut String, text: &str) -> Result<(), Error> {
 impl Page {
     /// Adds a line of entries.
     fn push(&mut self, entries: &[&str]) -> Result<(), Error> {
-        let views = views_of(self.alloc, entries)?;
-        let text = row_text(self.alloc, &self.form, &views)?;
         match &self.form {
-            Form::Line(_) => push_shown(&mut self.out, text.trim_end())?,
-            Form::Record(_) => self.out.push_str(text.as_str())?,
+            Form::Line(sides) => {
+                let line = line_of(self.alloc, sides, entries)?;
+                push_shown(&mut self.out, line.trim_end())?;
+            }
+            Form::Record(record) => {
+                let views = views_of(self.alloc, entries)?;
+                let text = record_of(self.alloc, record, &views)?;
+                self.out.push_str(text.as_str())?;
+            }
         }
         self.out.push('\n')?;
         Ok(())

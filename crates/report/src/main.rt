@@ -15,8 +15,8 @@
 //! line `counted` below it says of how many it is. `--group city` puts records of one city
 //! together, with totals below them. Below the header alone there are none.
 //!
-//! A column is as wide, in characters, as the widest of its name, its entries and its totals, and
-//! aligned to the right if it is summed or all its entries are numbers. A line end in a field is
+//! A column is as wide, in columns of a terminal, as the widest of its name, its entries and its
+//! totals: an East Asian character takes two, a mark on another none. It is aligned to the right if it is summed or all its entries are numbers. A line end in a field is
 //! shown as a blank, as is any other control character, and blanks at the end of a line are left
 //! out. `--csv` writes records of CSV, each field as it is, between quotes.
 //!
@@ -37,6 +37,7 @@ mod layout;
 mod places;
 mod rows;
 mod totals;
+mod widths;
 
 use asked::{Asked, HELP, USAGE, asked_by};
 use columns::{check_names, columns_of, index_of};
