@@ -261,7 +261,7 @@ enum {
   INTERPOLATOR_ESCAPE_LINE,  /* a line, as of a log: anywhere */
   INTERPOLATOR_ESCAPE_HTML,  /* a page: in text, or between the quotes of an attribute that is a text */
   INTERPOLATOR_ESCAPE_CSV,   /* a table: between double quotes */
-  INTERPOLATOR_ESCAPE_JSON,  /* a JSON text: in a string */
+  INTERPOLATOR_ESCAPE_JSON,  /* a JSON text: in a string, or under `?` between strings */
   INTERPOLATOR_ESCAPE_SHELL  /* a command: between single quotes, with nothing but words before it */
 };
 

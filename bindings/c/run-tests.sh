@@ -169,26 +169,46 @@ block() {
 
 # The programs of README.md, by its own CMakeLists.txt or else by pkg-config, and what it says of them.
 readme() {
-    local room=$scratch/readme language
+    local room=$scratch/readme found
     mkdir -p "$room"
+    found="$(pkg-config --cflags --libs interpolator) -Wl,-rpath,$scratch/unpacked/lib"
     block cmake 1 >"$room/CMakeLists.txt"
     block c 1 >"$room/lists.c"
+    block c 2 >"$room/fault.c"
     block cpp 1 >"$room/lists.cpp"
-    block cpp 2 >"$room/page.cpp"
+    block cpp 2 >"$room/faults.cpp"
+    block cpp 3 >"$room/page.cpp"
     if command -v cmake >/dev/null; then
         cmake -S "$room" -B "$room/made" -DCMAKE_PREFIX_PATH="$scratch/unpacked" -DCMAKE_BUILD_TYPE=Release &&
             cmake --build "$room/made" || return 1
     else
         mkdir -p "$room/made"
-        local found
-        found="$(pkg-config --cflags --libs interpolator) -Wl,-rpath,$scratch/unpacked/lib"
         cc -std=c99 "$room/lists.c" $found -o "$room/made/lists_c" &&
             c++ -std=c++17 "$room/lists.cpp" $found -o "$room/made/lists_cpp" || return 1
     fi
-    c++ -std=c++17 "$room/page.cpp" $(pkg-config --cflags --libs interpolator) \
-        -Wl,-rpath,"$scratch/unpacked/lib" -o "$room/page_cpp" || return 1
-    diff <(block text 1) <("$room/made/lists_c") && diff <(block text 2) <("$room/made/lists_cpp") &&
-        diff <(block text 3) <("$room/page_cpp")
+    cc -std=c99 "${sanitized[@]}" "$room/fault.c" build/libinterpolator.a -o "$room/fault_c" &&
+        c++ -std=c++17 "${sanitized[@]}" "$room/faults.cpp" build/libinterpolator.a \
+            -o "$room/faults_cpp" &&
+        c++ -std=c++17 "$room/page.cpp" $found -o "$room/page_cpp" || return 1
+    diff <(block text 1) <("$room/made/lists_c") && diff <(block text 2) <("$room/fault_c") &&
+        diff <(block text 3) <("$room/made/lists_cpp") && diff <(block text 4) <("$room/faults_cpp") &&
+        diff <(block text 5) <("$room/page_cpp") &&
+        diff <(echo 'Ann 7 true') <("$room/fault_c" '{name} {count:x} {ready}') &&
+        diff <(echo 'Ann 7 true') <("$room/faults_cpp" '{name} {count:x} {ready}')
+}
+
+# Those of them that take a format from the command line.
+hostile_readme() {
+    local program format status count=0
+    for program in fault_c faults_cpp; do
+        while IFS= read -r format; do
+            status=0
+            "$scratch/readme/$program" "$format" >"$scratch/out" 2>"$scratch/errors" || status=$?
+            ended "$status" "$format" || { cat "$scratch/errors"; return 1; }
+            count=$((count + 1))
+        done < <(python3 tests/hostile.py name count ready)
+    done
+    [[ $count -eq 200 ]]
 }
 
 # A later version than there is, and one of another major number, are not found.
@@ -254,6 +274,7 @@ step 'a hundred hostile formats for the prices' hostile_prices
 step 'an installed copy' installed_copy
 step 'a package' package
 step 'the programs of README.md' readme
+step 'a hundred hostile formats for those that take one' hostile_readme
 command -v cmake >/dev/null && step 'versions by CMake' cmake_versions
 command -v man >/dev/null && step 'the page of the manual' man_page
 step 'no file is left' diff <(echo "$before") <(find . | sort)

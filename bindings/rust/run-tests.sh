@@ -1,6 +1,6 @@
 #!/usr/bin/env bash
 # Runs the tests of bindings/rust against libinterpolator.a: without a warning, the documentation's
-# examples too, and without the network. With valgrind, it runs src/sys.rs over a library of which a
+# examples and the programs of README.md too, and without the network. With valgrind, it runs src/sys.rs over a library of which a
 # caller gets nothing but what the C header says, with each allocation refused (tests/filled).
 #
 # The library is looked for in the folder that INTERPOLATOR_LIB names, else in ../c/build, where
@@ -100,6 +100,26 @@ filled() {
         --test faults --test lists --test values
 }
 
+# block LANGUAGE NUMBER: a block of README.md.
+block() {
+    awk -v fence="\`\`\`$1" -v wanted="$2" \
+        '/^```/ {inside = $0 == fence && ++seen == wanted; next} inside' README.md
+}
+
+# The programs of README.md, each as a crate of its own would have it.
+readme() {
+    local room=$scratch/readme number=1
+    mkdir -p "$room/src/bin"
+    printf '[package]\nname = "readme"\nversion = "0.1.0"\nedition = "2021"\n\n' >"$room/Cargo.toml"
+    block toml 1 | sed "s|path = \"[^\"]*\"|path = \"$PWD\"|" >>"$room/Cargo.toml"
+    while [[ -n $(block rust "$number") ]]; do
+        block rust "$number" >"$room/src/bin/program$number.rs"
+        (cd "$room" && cargo run --offline --quiet --bin "program$number") || return 1
+        number=$((number + 1))
+    done
+    [[ $number -gt 4 ]]
+}
+
 origin=${INTERPOLATOR_ORIGIN:+$(cd "$INTERPOLATOR_ORIGIN" && pwd)}
 unset INTERPOLATOR_ORIGIN
 
@@ -107,6 +127,7 @@ step 'tests' cargo test --offline --quiet --all-targets
 step 'tests, optimized' cargo test --offline --quiet --all-targets --release
 step 'tests of the feature pointer' cargo test --offline --quiet --features pointer --test pointers --test faults
 step 'examples of the documentation' cargo test --offline --quiet --doc
+step 'the programs of README.md' readme
 step 'documentation' cargo doc --offline --quiet --no-deps
 if has_valgrind >/dev/null 2>&1; then
     (filled)

@@ -584,6 +584,7 @@ static const struct {
     {INTERPOLATOR_ESCAPE_JSON, "{{\"a\": \"{a}\", \"b\": \"{b}\"}}",
      "{\"a\": \"\\u003c&>\\\"x\", \"b\": \"it's\"}"},
     {INTERPOLATOR_ESCAPE_JSON, "\"{c}{n}\"", "\"\\t\\\\-7\""},
+    {INTERPOLATOR_ESCAPE_JSON, "[{a:?}, {n:?}]", "[\"\\u003c&>\\\"x\", -7]"},
     {INTERPOLATOR_ESCAPE_SHELL, "echo '{b}' -- '{c}'", "echo 'it'\\''s' -- '\t\\'"},
     {INTERPOLATOR_ESCAPE_LINE, "{a} {b} {c}", "<&>\"x it's \\t\\\\"},
     {INTERPOLATOR_ESCAPE_NONE, "<p id={a}>{c}", "<p id=<&>\"x>\t\\"},
@@ -599,6 +600,7 @@ static const struct {
     {INTERPOLATOR_ESCAPE_HTML, "{l:i({})(<br)}", 0, INTERPOLATOR_MISPLACED_JOIN},
     {INTERPOLATOR_ESCAPE_CSV, "\"{a}\",{n}", 6, INTERPOLATOR_MISPLACED_VALUE},
     {INTERPOLATOR_ESCAPE_JSON, "{{\"n\": {n}}}", 7, INTERPOLATOR_MISPLACED_VALUE},
+    {INTERPOLATOR_ESCAPE_JSON, "\"{a:?}\"", 1, INTERPOLATOR_MISPLACED_VALUE},
     {INTERPOLATOR_ESCAPE_SHELL, "echo {b}", 5, INTERPOLATOR_MISPLACED_VALUE},
     {INTERPOLATOR_ESCAPE_LINE, "{a}{l:\t>9i({})}", 3, INTERPOLATOR_MISPLACED_FILL},
 };

@@ -11,6 +11,7 @@ from __future__ import annotations
 import csv
 import io
 import json
+import math
 import random
 import shlex
 import subprocess
@@ -57,7 +58,8 @@ def a_value(r: random.Random) -> str:
 
 
 class Value(NamedTuple):
-    """A value, or the item of a list, under a spec that Python has, too."""
+    """A value, or the item of a list, under a spec that Python has, too, or under `?`: then it is
+    written as a whole value of JSON."""
 
     spec: str
 
@@ -115,8 +117,9 @@ def a_row(r: random.Random, pieces: List[Piece], value: Callable[[random.Random]
     shown: List[str] = []
 
     def mark(spec: str, of: str) -> str:
-        shown.append(format(of, spec))
-        return f"Qm{len(shown) - 1}Z"
+        shown.append(of if spec == "?" else format(of, spec))
+        name = f"Qm{len(shown) - 1}Z"
+        return f'"{name}"' if spec == "?" else name
 
     text = ""
     for number, piece in enumerate(pieces):
@@ -307,17 +310,75 @@ def a_string(r: random.Random) -> List[Piece]:
 def a_json(r: random.Random, depth: int = 3) -> List[Piece]:
     kind = r.randrange(6) if depth else r.randrange(3)
     if kind == 0:
-        return [one_of(r, ["1", "-2.5e3", "null", "true"], 0.02)]
+        return [one_of(r, ["1", "-2.5e3", "null", "true"], 0.02)] if r.random() < 0.5 else [Value("?")]
     if kind < 3:
         return a_string(r)
     if kind == 3:
-        return ["[", Listed('"', Value(a_spec(r)), '"', ", "), "]"]
+        item = r.choice([Listed('"', Value(a_spec(r)), '"', ", "), Listed("", Value("?"), "", ", ")])
+        return ["[", item, "]"]
     pieces: List[Piece] = ["[" if kind == 4 else "{"]
     for number in range(r.randrange(4)):
         pieces += [", "] * (number > 0)
         pieces += [*a_string(r), ": "] if kind == 5 else []
         pieces += a_json(r, depth - 1)
     return [*pieces, "]" if kind == 4 else "}"]
+
+
+class Document(NamedTuple):
+    """A format of JSON, its values, and what json reads of it."""
+
+    format: str
+    values: Dict[str, Any]
+    read: Any
+
+
+def a_whole(r: random.Random) -> Any:
+    """A text, a number or a truth value."""
+    kind = r.randrange(8)
+    if kind < 4:
+        return a_value(r)
+    if kind == 4:
+        return r.random() < 0.5
+    if kind == 5:
+        return r.choice([1, -1]) * r.randrange(1 << r.choice([1, 8, 32, 64, 127]))
+    number = r.choice([0.1, 1.0, r.random(), 1e300, 5e-324, 2.0**53, float("inf"), float("nan")])
+    return r.choice([1, -1]) * number * 10.0 ** r.randrange(-20, 20)
+
+
+def as_read(value: Any) -> Any:
+    """A value, and None for a float that is not finite."""
+    return value if not isinstance(value, float) or math.isfinite(value) else None
+
+
+def a_document(r: random.Random, depth: int = 3) -> Document:
+    """A document whose values are whole, but for some texts that stand in strings."""
+    values: Dict[str, Any] = {}
+
+    def named(value: Any) -> str:
+        name = f"v{len(values)}"
+        values[name] = value
+        return name
+
+    def some_value(depth: int) -> Tuple[str, Any]:
+        kind = r.randrange(7) if depth else r.randrange(4)
+        if kind < 2:
+            value, spec = a_whole(r), r.choice(["", "", "", "", ">5", "^9", " <3", "30"])
+            return f"{{{named(value)}:{spec}?}}", as_read(value)
+        if kind == 2:
+            text = a_value(r)
+            return f'"a{{{named(text)}}}b"', f"a{text}b"
+        if kind == 3:
+            items = [a_whole(r) for _ in range(r.randrange(4))]
+            pad = r.choice(["", "", "9", ">30"])
+            return f"[{{{named(items)}:{pad}i({{:?}})(, )}}]", list(map(as_read, items))
+        inside = [some_value(depth - 1) for _ in range(r.randrange(4))]
+        if kind < 6:
+            return "[" + ",".join(text for text, _ in inside) + "]", [read for _, read in inside]
+        members = ", ".join(f'"k{number}": {text}' for number, (text, _) in enumerate(inside))
+        return f"{{{{{members}}}}}", {f"k{number}": read for number, (_, read) in enumerate(inside)}
+
+    text, read = some_value(depth)
+    return Document(text, values, read)
 
 
 def read_json(text: str) -> Any:
@@ -402,6 +463,17 @@ class Escapes(unittest.TestCase):
 
     def test_json(self) -> None:
         self.compare("json", a_json, read_json)
+
+    def test_documents_of_whole_values(self) -> None:
+        r = random.Random("documents")
+        seen = 0
+        while seen < VALUES:
+            document = a_document(r)
+            text = interpolator.Template(document.format).format_escaped("json", **document.values)
+            # a whole number is not a float, and is told from one by its text
+            self.assertEqual(repr(document.read), repr(json.loads(text)), document)
+            self.assertNotIn("<", text)
+            seen += len(document.values)
 
     def test_commands(self) -> None:
         self.compare("shell", a_command, shlex.split, without="\0")

@@ -75,14 +75,21 @@ def a_text(r: random.Random, escape: str) -> str:
     return "".join(r.choice(ALPHABETS[escape]) for _ in range(r.choice((0, 1, 1, 2, 3, 5, 8))))
 
 
+def a_slot(r: random.Random, escape: str) -> Value:
+    """A value under a spec; for JSON, sometimes a whole value."""
+    if escape == "json" and r.random() < 0.3:
+        return Value("?")
+    return Value(a_spec(r))
+
+
 def some_pieces(r: random.Random, escape: str, pad: str) -> List[Piece]:
     pieces: List[Piece] = [a_text(r, escape)]
     for _ in range(r.choice((1, 1, 2, 3))):
         if r.random() < 0.75:
-            pieces.append(Value(a_spec(r)))
+            pieces.append(a_slot(r, escape))
         else:
             before, after, join = (a_text(r, escape) if r.random() < 0.5 else "" for _ in range(3))
-            pieces.append(Listed(before, Value(a_spec(r)), after, join, r.choice(["", pad])))
+            pieces.append(Listed(before, a_slot(r, escape), after, join, r.choice(["", pad])))
         pieces.append(a_text(r, escape))
     return pieces
 

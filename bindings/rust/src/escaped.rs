@@ -16,7 +16,7 @@ pub enum Escape {
     Html,
     /// A table: between double quotes.
     Csv,
-    /// A JSON text: in a string.
+    /// A JSON text: in a string, or under `?` between strings.
     Json,
     /// A command: between single quotes, with nothing but words before it.
     Shell,

@@ -200,6 +200,13 @@ impl<'a> Formattable<'a> {
         self.filled == self.covered && self.filled != 0
     }
 
+    /// Whether the library writes all of it by itself, and its debug, if the format asks for it, is
+    /// std's: without a `?` a format asks for none.
+    #[inline(always)]
+    pub(crate) fn is_known_in(&self, format: &str) -> bool {
+        self.is_known() && !(self.is_escaped() && format.contains('?'))
+    }
+
     /// Whether it has debug of a text that std escapes more of than the library.
     #[inline]
     pub(crate) fn is_escaped(&self) -> bool {
@@ -209,32 +216,42 @@ impl<'a> Formattable<'a> {
     /// The field for what the library writes by itself, without a name.
     #[inline]
     pub(crate) fn known_field(&self) -> Field<'a> {
-        match self.covered {
-            0 => Field::NOTHING,
-            covered => self.known.field(covered),
+        if self.covered == 0 {
+            return Field::NOTHING;
         }
+        let mut field = Field::EMPTY;
+        self.known.put(&mut field);
+        field.with_slots(self.covered)
     }
 
-    /// The same for an item of a list.
+    /// Puts what the library writes by itself into an empty item of a list, and returns how many bytes
+    /// it is written with, about.
     #[inline]
-    pub(crate) fn known_item(&self) -> Field<'a> {
-        match self.covered {
-            0 => Field::NOTHING,
-            covered => self.known.field(covered).with_own_slots(),
-        }
+    pub(crate) fn put_known(&self, item: &mut Field<'a>) -> usize {
+        self.put_known_under(self.covered, item)
     }
 
-    /// The same, but without the debug of a text of which std escapes more, so that a format that asks
-    /// for it has a fault.
-    pub(crate) fn known_alike(&self) -> Field<'a> {
+    /// The field for what the library writes by itself, but without the debug of a text of which std
+    /// escapes more, so that a format that asks for it has a fault; and how many bytes that is.
+    pub(crate) fn known_alike(&self) -> (Field<'a>, usize) {
         let escaped = match self.is_escaped() {
             true => mask(slot::DEBUG),
             false => 0,
         };
-        match self.covered & !escaped {
-            0 => Field::NOTHING,
-            covered => self.known.field(covered).with_own_slots(),
+        let mut field = Field::EMPTY;
+        let bytes = self.put_known_under(self.covered & !escaped, &mut field);
+        (field, bytes)
+    }
+
+    #[inline]
+    fn put_known_under(&self, slots: u32, item: &mut Field<'a>) -> usize {
+        if slots == 0 {
+            *item = Field::NOTHING;
+            return 0;
         }
+        let bytes = self.known.put(item);
+        item.put_slots(slots);
+        bytes
     }
 
     /// Whether the library writes the value by itself under a request, or it has no such slot.

@@ -85,23 +85,62 @@ impl<'a> Known<'a> {
         }
     }
 
-    /// The field for it, with these slots, without a name.
+    /// Puts it into an empty field, and returns how many bytes it is written with, about, in base ten.
     #[inline]
-    pub(crate) fn field(self, slots: u32) -> Field<'a> {
-        let field = match self {
-            Known::Nothing => Field::NOTHING,
-            Known::Text(text) => Field::text(text),
-            Known::Truth(truth) => Field::natural(kind::TRUTH, u64::from(truth)),
-            Known::Character(character) => Field::natural(kind::CHARACTER, u64::from(character)),
-            Known::Unsigned(number) => Field::natural(kind::UNSIGNED, number),
-            Known::Unsigned128(number) => Field::unsigned128(*number),
-            Known::Signed(kind, number) => Field::signed(kind, number),
-            Known::Signed128(number) => Field::signed128(*number),
-            Known::Double(bits) => Field::double(f64::from_bits(bits)),
-            Known::Float(bits) => Field::float(f32::from_bits(bits)),
-        };
-        field.with_slots(slots)
+    pub(crate) fn put(self, field: &mut Field<'a>) -> usize {
+        match self {
+            Known::Nothing => {
+                field.put_natural(kind::NOTHING, 0);
+                0
+            }
+            Known::Text(text) => {
+                field.put_text(text);
+                text.len()
+            }
+            Known::Truth(truth) => {
+                field.put_natural(kind::TRUTH, u64::from(truth));
+                "false".len()
+            }
+            Known::Character(character) => {
+                field.put_natural(kind::CHARACTER, u64::from(character));
+                character.len_utf8()
+            }
+            Known::Unsigned(number) => {
+                field.put_natural(kind::UNSIGNED, number);
+                digits(number)
+            }
+            Known::Signed(kind, number) => {
+                field.put_signed(kind, number);
+                1 + digits(number.unsigned_abs())
+            }
+            Known::Unsigned128(number) => {
+                field.put_unsigned128(*number);
+                NUMBER_BYTES
+            }
+            Known::Signed128(number) => {
+                field.put_signed128(*number);
+                NUMBER_BYTES
+            }
+            Known::Double(bits) => {
+                field.put_double(f64::from_bits(bits));
+                NUMBER_BYTES
+            }
+            Known::Float(bits) => {
+                field.put_float(f32::from_bits(bits));
+                NUMBER_BYTES
+            }
+        }
     }
+}
+
+/// How many bytes most floats are written with: 17 digits, a point and a sign.
+const NUMBER_BYTES: usize = 19;
+
+/// How many digits a number has, about: each ten bits make at most four.
+#[inline]
+const fn digits(number: u64) -> usize {
+    let bits = u64::BITS - number.leading_zeros();
+    2 + bits as usize * 4 / 10
 }
 
 fn signed<'a>(kind: u32, number: i64) -> Known<'a> {

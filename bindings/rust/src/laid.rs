@@ -52,15 +52,26 @@ impl<'a> Laid<'a> {
         self.fields.push(field);
     }
 
-    /// Adds the items of such values.
-    pub(crate) fn push_known_items(&mut self, values: &[Formattable<'a>]) {
+    /// Adds the items of such values. If one of them is no such value, adds none, and returns false.
+    pub(crate) fn push_known_items(&mut self, values: &[Formattable<'a>], format: &str) -> bool {
+        if values
+            .first()
+            .is_some_and(|value| !value.is_known_in(format))
+        {
+            return false;
+        }
+        let first = self.items.len();
         let mut bytes = 0;
-        self.items.extend(values.iter().map(|value| {
-            let item = value.known_item();
-            bytes += item.bytes();
-            item
-        }));
+        self.items.resize(first + values.len(), Field::EMPTY);
+        for (item, value) in self.items[first..].iter_mut().zip(values) {
+            if !value.is_known_in(format) {
+                self.items.truncate(first);
+                return false;
+            }
+            bytes += value.put_known(item);
+        }
         self.bytes += bytes;
+        true
     }
 
     /// Takes room for so many items.
@@ -73,8 +84,8 @@ impl<'a> Laid<'a> {
     /// another.
     pub(crate) fn field(&mut self, value: &Formattable<'a>, requests: &[Request]) -> Field<'a> {
         if requests.iter().all(|request| value.is_known_by(request)) {
-            let field = value.known_alike();
-            self.bytes += field.bytes();
+            let (field, bytes) = value.known_alike();
+            self.bytes += bytes;
             return field;
         }
         Field::lending(self.make(value, requests))

@@ -105,7 +105,7 @@ impl<'a> Fields<'a> {
         let mut others = Vec::new();
         for name in Names::of(format) {
             match context.get(name) {
-                Some(value) if self.is_known(&value) => self.laid.push_known(name, &value),
+                Some(value) if value.is_known_in(format) => self.laid.push_known(name, &value),
                 Some(value) if !others.contains(&name) => {
                     others.push(name);
                     self.take_other(name, &value);
@@ -121,18 +121,11 @@ impl<'a> Fields<'a> {
 
     #[inline(never)]
     fn take(&mut self, name: &'a str, value: &Formattable<'a>) {
-        if self.is_known(value) {
+        if value.is_known_in(self.format) {
             self.laid.push_known(name, value);
         } else {
             self.take_other(name, value);
         }
-    }
-
-    /// Whether the library writes all of the value by itself, and its debug, if asked for, is
-    /// std's: without a `?` a format asks for none.
-    #[inline(always)]
-    fn is_known(&self, value: &Formattable<'a>) -> bool {
-        value.is_known() && !(value.is_escaped() && self.format.contains('?'))
     }
 
     #[inline(never)]
@@ -169,9 +162,7 @@ impl<'a> Fields<'a> {
         let mut items = list;
         loop {
             self.laid.expect_items(items.len(), self.format);
-            if items.iter().all(|item| self.is_known(item)) {
-                self.laid.push_known_items(items);
-            } else {
+            if !self.laid.push_known_items(items, self.format) {
                 for item in items {
                     let list = item.list_alone()?;
                     inner.push(list);

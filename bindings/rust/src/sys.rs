@@ -121,9 +121,6 @@ mod slots {
     pub(super) const ALL: u32 = 255;
 }
 
-/// How many bytes most floats are written with: 17 digits, a point and a sign.
-const FLOAT_BYTES: usize = 19;
-
 /// A value under a name, or an item of a list.
 #[repr(C)]
 #[derive(Clone, Copy)]
@@ -169,56 +166,45 @@ impl<'a> Field<'a> {
         }
     }
 
-    pub(crate) const fn text(text: &'a str) -> Self {
-        Field {
-            text: Bytes::of(text.as_bytes()),
-            ..Field::of(kind::TEXT)
-        }
+    /// An empty text, to be made another value.
+    pub(crate) const EMPTY: Self = Field::of(kind::TEXT);
+
+    /// Makes an empty field this text.
+    pub(crate) const fn put_text(&mut self, text: &'a str) {
+        self.text = Bytes::of(text.as_bytes());
     }
 
-    /// What is not negative and has at most 64 bits.
-    pub(crate) const fn natural(kind: u32, natural: u64) -> Self {
-        Field {
-            natural,
-            ..Field::of(kind)
-        }
+    /// Makes an empty field what is not negative and has at most 64 bits.
+    pub(crate) const fn put_natural(&mut self, kind: u32, natural: u64) {
+        self.kind = kind;
+        self.natural = natural;
     }
 
-    pub(crate) const fn signed(kind: u32, number: i64) -> Self {
-        Field {
-            number,
-            ..Field::of(kind)
-        }
+    pub(crate) const fn put_signed(&mut self, kind: u32, number: i64) {
+        self.kind = kind;
+        self.number = number;
     }
 
-    pub(crate) const fn unsigned128(number: u128) -> Self {
-        Field {
-            upper: (number >> 64) as u64,
-            natural: number as u64,
-            ..Field::of(kind::UNSIGNED128)
-        }
+    pub(crate) const fn put_unsigned128(&mut self, number: u128) {
+        self.kind = kind::UNSIGNED128;
+        self.upper = (number >> 64) as u64;
+        self.natural = number as u64;
     }
 
-    pub(crate) const fn signed128(number: i128) -> Self {
-        Field {
-            number: (number >> 64) as i64,
-            natural: number as u64,
-            ..Field::of(kind::SIGNED128)
-        }
+    pub(crate) const fn put_signed128(&mut self, number: i128) {
+        self.kind = kind::SIGNED128;
+        self.number = (number >> 64) as i64;
+        self.natural = number as u64;
     }
 
-    pub(crate) const fn double(real: f64) -> Self {
-        Field {
-            real,
-            ..Field::of(kind::DOUBLE)
-        }
+    pub(crate) const fn put_double(&mut self, real: f64) {
+        self.kind = kind::DOUBLE;
+        self.real = real;
     }
 
-    pub(crate) const fn float(single: f32) -> Self {
-        Field {
-            single,
-            ..Field::of(kind::FLOAT)
-        }
+    pub(crate) const fn put_float(&mut self, single: f32) {
+        self.kind = kind::FLOAT;
+        self.single = single;
     }
 
     /// The items from `first` up to `end`, and for other slots the texts that [`settle`](Self::settle)
@@ -266,32 +252,16 @@ impl<'a> Field<'a> {
         self.text.length
     }
 
-    /// How many bytes it is written with, about, if it is a text, a float, or a number of at most 64
-    /// bits in base ten: each ten bits make at most four digits.
+    /// Gives it these slots, or the mask 0 if they are those of its kind: the library takes such an
+    /// item faster.
     #[inline]
-    pub(crate) const fn bytes(&self) -> usize {
-        if matches!(self.kind, kind::DOUBLE | kind::FLOAT) {
-            return FLOAT_BYTES;
-        }
-        let number = self.natural | self.number.unsigned_abs();
-        let bits = u64::BITS - number.leading_zeros();
-        self.text.length + 2 + bits as usize * 4 / 10
-    }
-
-    /// The same, but with the mask 0 if its slots are those of its kind: the library takes such an item
-    /// faster.
-    #[inline]
-    pub(crate) const fn with_own_slots(self) -> Self {
+    pub(crate) const fn put_slots(&mut self, slots: u32) {
         let own = match self.kind {
             kind::TEXT..=kind::CHARACTER => slots::DEBUG_DISPLAY,
             kind::DOUBLE | kind::FLOAT => slots::FLOAT,
             _ => slots::ALL,
         };
-        if self.slots == own {
-            self.with_slots(0)
-        } else {
-            self
-        }
+        self.slots = if slots == own { 0 } else { slots };
     }
 
     /// The same under a name.

@@ -50,6 +50,11 @@ fn values_are_escaped() {
             "[\"\\u003c\", \"\\\"\"]",
         ),
         (
+            Escape::Json,
+            "[{c:?}, {n:?}]",
+            "[\"\\t\\\\\", -7]",
+        ),
+        (
             Escape::Shell,
             "echo '{b}' -- '{c}'",
             "echo 'it'\\''s' -- '\t\\'",

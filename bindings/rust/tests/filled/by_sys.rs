@@ -115,19 +115,37 @@ const LENT: [Lent<'static>; 2] = [
     },
 ];
 
-const FAILING: Field<'static> = Field::natural(kind::CHARACTER, 0xD800);
+const FAILING: Field<'static> = natural(kind::CHARACTER, 0xD800);
+
+const fn natural(kind: u32, number: u64) -> Field<'static> {
+    let mut field = Field::EMPTY;
+    field.put_natural(kind, number);
+    field
+}
+
+const fn signed(kind: u32, number: i64) -> Field<'static> {
+    let mut field = Field::EMPTY;
+    field.put_signed(kind, number);
+    field
+}
+
+const fn text(text: &str) -> Field<'_> {
+    let mut field = Field::EMPTY;
+    field.put_text(text);
+    field
+}
 
 impl Values {
     fn new() -> Self {
         let mut fields = vec![
-            Field::text("Ann").named("name"),
-            Field::natural(kind::UNSIGNED, 255).named("number"),
+            text("Ann").named("name"),
+            natural(kind::UNSIGNED, 255).named("number"),
             FAILING.named("failing"),
             Field::lending((0, 1)).named("lent"),
             Field::list(0, 2, (1, 2)).named("list"),
         ];
         fields.iter_mut().for_each(|field| field.settle(&LENT));
-        let items = vec![Field::text("a"), Field::signed(kind::SIGNED8, -1)];
+        let items = vec![text("a"), signed(kind::SIGNED8, -1)];
         Values { fields, items }
     }
 
@@ -143,7 +161,7 @@ impl Values {
     /// The fields as the columns of a table, where lists have no items and each value has a text.
     fn columns(&self) -> Vec<Field<'static>> {
         let mut columns = self.fields.clone();
-        columns[2] = Field::natural(kind::CHARACTER, 97).named("failing");
+        columns[2] = natural(kind::CHARACTER, 97).named("failing");
         columns[4] = Field::list(0, 0, (1, 2)).named("list");
         columns[4].settle(&LENT);
         columns
