@@ -5,7 +5,7 @@ use crate::fields::RecordEscaper;
 use crate::misplaced::{Misplaced, PlaceError, Why};
 use crate::records::check_record;
 use interpolator_eval::Escaper;
-use interpolator_render::{Bits, Spec, TextBuffer, Trait, View};
+use interpolator_render::{Bits, Spec, TextBuffer, Trait, Value, View};
 use std::alloc::Global;
 
 /// A format, and where it ends, or the place of what does not stand, and why.
@@ -96,7 +96,8 @@ fn is_written(alloc: Global, row: &Written) -> bool {
     let (view, wanted, text) = row;
     let spec = Spec::default();
     let mut out = TextBuffer::new(alloc);
-    RecordEscaper::put(&mut out, *view, *wanted, &spec).is_ok() && out.as_str() == *text
+    let answer = RecordEscaper::put(&mut out, view.view(*wanted, &spec), *wanted, &spec);
+    answer.is_ok() && out.as_str() == *text
 }
 
 #[test]
