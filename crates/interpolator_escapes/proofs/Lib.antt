@@ -18,7 +18,6 @@ pub mod RecordPassLemmas
 pub mod RowLemmas
 pub mod WholeLemmas
 -- of this crate alone
-mod CodeLemmas
 mod HandSteps
 mod PassingLemmas
 mod EscapingLemmas
@@ -26,6 +25,6 @@ mod HtmlLemmas
 mod MarkLemmas
 mod PlacingLemmas
 mod RecordPieceLemmas
-mod RunLemmas
+mod RoomLemmas
 mod SearchLemmas
 mod DoubtLemmas

@@ -19,6 +19,7 @@ pub mod RecordFormats
 pub mod WorkedParts
 pub mod EscapedFormats
 pub mod Search
+pub mod Rooms
 pub mod Passing
 pub mod EscapingWriters
 pub mod CodeHtml

@@ -1,17 +1,22 @@
 //! Texts, written escaped.
-ghost use Rattle.std.specs.Prelude.{◌≡◌, ◌<◌, ◌∷◌, ◌++◌, []};
+ghost use Rattle.std.specs.Prelude.{◌≡◌, ◌+◌, ◌≤◌, ◌<◌, ◌∷◌, ◌++◌, [], length, take, drop};
+ghost use Rattle.std.specs.Prelude.{IsUtf8, MatchResult, OnOk};
 ghost use Rattle.std.specs.List.{flat_map};
-ghost use Rattle.std.specs.Str.{chars};
-ghost use Rattle.interpolator_render.specs.Written.{Puts, Writes};
-ghost use Rattle.interpolator_escapes.specs.Escapes.{escape_of, escaped, line_escape, html_escape};
-ghost use Rattle.interpolator_escapes.specs.Escapes.{csv_escape, json_escape, shell_escape};
-ghost use Rattle.interpolator_escapes.specs.Escapes.{hex_digit, two_digits, four_digits};
-ghost use Rattle.interpolator_escapes.specs.Escapes.{is_control, control_escape};
+ghost use Rattle.std.specs.Str.{chars, IsCharBoundary};
+ghost use Rattle.interpolator_render.specs.Written.{AppendsBeginning, Puts, Writes, byte_count};
+ghost use Rattle.interpolator_escapes.specs.Escapes.{escape_of, escaped, json_escape};
+ghost use Rattle.interpolator_escapes.specs.Rooms.{HasPlace, Moves};
 ghost use Rattle.interpolator_escapes.specs.Wholes.{json_null, json_string};
 
 use crate::escape::Escape;
-use crate::search::split_escaped;
+use crate::laid::lay_one;
+use crate::room::Room;
+use crate::search::{BLOCK, front_of_block, split_escaped};
 use interpolator_render::{Refusal, TextWrite};
+use interpolator_syntax::split_first;
+
+/// How full a room may be before a step: it then has place for a block and an escape.
+const MOST: usize = 298;
 
 /// Writes one character.
 #[tactic(auto, using(interpolator_render::proofs::LayoutLemmas::one_write))]
@@ -34,192 +39,161 @@ fn put_text<W: TextWrite>(out: &mut W, text: &str) -> Result<(), Refusal>
     out.write_str(text)
 }
 
-/// Returns the digit of a number below 16, in base sixteen.
-fn hex_digit(number: u32) -> char
-    requires { number < 16 }
-    ensures { result ≡ hex_digit number }
-{
-    let number = number as u8;
-    if number < 10 {
-        (b'0' + number) as char
-    } else {
-        (b'a' + (number - 10)) as char
-    }
-}
-
-/// Writes a beginning, and the last two digits of a code in base sixteen.
-#[tactic(auto, using(crate::proofs::CodeLemmas::code_outcomes))]
-fn put_two_digits<W: TextWrite>(out: &mut W, front: &str, code: u32) -> Result<(), Refusal>
-    ensures { Writes (W.written out.old) (chars front.now ++ two_digits code) result
-        (W.written out.new) }
-{
-    put_text(out, front)?;
-    put_char(out, hex_digit(code / 16 % 16))?;
-    put_char(out, hex_digit(code % 16))
-}
-
-/// Writes a beginning, and the last four digits of a code in base sixteen.
-#[inline(never)]
-fn put_four_digits<W: TextWrite>(out: &mut W, front: &str, code: u32) -> Result<(), Refusal>
-    ensures { Writes (W.written out.old) (chars front.now ++ four_digits code) result
-        (W.written out.new) }
-{
-    put_two_digits(out, front, code / 256)?;
-    put_two_digits(out, "", code)
-}
-
-/// Returns whether a character is a control of a line.
-pub(crate) fn is_control(c: char) -> bool
-    ensures { result ≡ is_control c }
-{
-    match c {
-        '\0'..='\x1f' | '\x7f'..='\u{9f}' => true,
-        '\u{61c}' | '\u{200e}' | '\u{200f}' => true,
-        '\u{2028}'..='\u{202e}' | '\u{2066}'..='\u{2069}' => true,
-        _ => false,
-    }
-}
-
-/// Writes a character of a line.
-#[tactic(auto, using(interpolator_render::proofs::LayoutLemmas::writes_from_puts))]
+/// Lays a front of a text that has a block or more, and returns what comes after it.
 #[inline(always)]
-fn put_line<W: TextWrite>(out: &mut W, c: char) -> Result<(), Refusal>
-    ensures { Writes (W.written out.old) (line_escape c) result (W.written out.new) }
+fn lay_run<'t>(room: &mut Room, text: &'t str, count: usize) -> &'t str
+    requires place { HasPlace room.old 16 }
+    requires block { 16 ≤ length text.now }
+    requires few { count ≤ 16 }
+    requires cut { IsCharBoundary text.now count }
+    ensures text { room.new ≡ room.old ++ chars (take count text.now) }
+    ensures size { byte_count room.new ≡ byte_count room.old + count }
+    ensures rest { result.now ≡ drop count text.now }
+    ensures utf8 { IsUtf8 result.now }
 {
-    if c == '\\' {
-        put_text(out, "\\\\")
-    } else if c == '\n' {
-        put_text(out, "\\n")
-    } else if c == '\r' {
-        put_text(out, "\\r")
-    } else if c == '\t' {
-        put_text(out, "\\t")
-    } else if is_control(c) {
-        put_control(out, c)
-    } else {
-        put_char(out, c)
-    }
+    room.lay_front(text, count);
+    let (_, rest) = text.split_at(count);
+    rest
 }
 
-/// Writes a character as `\x1b` or `\u202e`.
-#[inline(never)]
-fn put_control<W: TextWrite>(out: &mut W, c: char) -> Result<(), Refusal>
-    ensures { Writes (W.written out.old) (control_escape c) result (W.written out.new) }
-{
-    if c < '\u{100}' {
-        put_two_digits(out, "\\x", c as u32)
-    } else {
-        put_four_digits(out, "\\u", c as u32)
-    }
-}
-
-/// Writes a character of text or of an attribute's value.
-#[tactic(auto, using(interpolator_render::proofs::LayoutLemmas::writes_from_puts))]
+/// Lays the first character of a text, escaped if it is to be, and returns what comes after it.
 #[inline(always)]
-fn put_html<W: TextWrite>(out: &mut W, c: char) -> Result<(), Refusal>
-    ensures { Writes (W.written out.old) (html_escape c) result (W.written out.new) }
+fn lay_first<'t>(room: &mut Room, escape: Escape, text: &'t str) -> &'t str
+    requires { HasPlace room.old 6 }
+    ensures same { room.new ++ escaped escape (chars result.now)
+        ≡ room.old ++ escaped escape (chars text.now) }
+    ensures size { byte_count room.new ≤ byte_count room.old + 6 }
+    ensures shorter { 0 < length text.now → length result.now < length text.now }
+    ensures utf8 { IsUtf8 result.now }
 {
-    if c == '&' {
-        put_text(out, "&amp;")
-    } else if c == '<' {
-        put_text(out, "&lt;")
-    } else if c == '>' {
-        put_text(out, "&gt;")
-    } else if c == '"' {
-        put_text(out, "&quot;")
-    } else if c == '\'' {
-        put_text(out, "&#39;")
-    } else {
-        put_char(out, c)
+    match split_first(text) {
+        Some((c, after)) => {
+            lay_one(room, escape, c);
+            after
+        }
+        None => text,
     }
 }
 
-/// Writes a character of a quoted field.
-#[tactic(auto, using(interpolator_render::proofs::LayoutLemmas::writes_from_puts))]
+/// Lays a text of less than a block up to the first character that may be escaped, and that one.
 #[inline(always)]
-fn put_csv<W: TextWrite>(out: &mut W, c: char) -> Result<(), Refusal>
-    ensures { Writes (W.written out.old) (csv_escape c) result (W.written out.new) }
+fn lay_short<'t>(room: &mut Room, escape: Escape, text: &'t str) -> &'t str
+    requires place { HasPlace room.old 22 }
+    requires short { length text.now < 16 }
+    requires some { 0 < length text.now }
+    ensures same { room.new ++ escaped escape (chars result.now)
+        ≡ room.old ++ escaped escape (chars text.now) }
+    ensures size { byte_count room.new ≤ byte_count room.old + 22 }
+    ensures shorter { length result.now < length text.now }
+    ensures utf8 { IsUtf8 result.now }
 {
-    if c == '"' {
-        put_text(out, "\"\"")
-    } else {
-        put_char(out, c)
+    match split_escaped(escape, text) {
+        Some((run, c, after)) => {
+            room.lay(run);
+            lay_one(room, escape, c);
+            after
+        }
+        None => {
+            room.lay(text);
+            ""
+        }
     }
 }
 
-/// Writes a character of a string.
-#[tactic(auto, using(interpolator_render::proofs::LayoutLemmas::writes_from_puts))]
+/// Lays a beginning of a text, escaped: up to the first character of a block that may be escaped,
+/// and that one, or else the whole block. Returns what comes after it.
 #[inline(always)]
-fn put_json<W: TextWrite>(out: &mut W, c: char) -> Result<(), Refusal>
-    ensures { Writes (W.written out.old) (json_escape c) result (W.written out.new) }
+fn lay_next<'t>(room: &mut Room, escape: Escape, text: &'t str) -> &'t str
+    requires place { HasPlace room.old 22 }
+    requires some { 0 < length text.now }
+    ensures same { room.new ++ escaped escape (chars result.now)
+        ≡ room.old ++ escaped escape (chars text.now) }
+    ensures size { byte_count room.new ≤ byte_count room.old + 22 }
+    ensures shorter { length result.now < length text.now }
+    ensures utf8 { IsUtf8 result.now }
 {
-    if c == '\\' {
-        put_text(out, "\\\\")
-    } else if c == '"' {
-        put_text(out, "\\\"")
-    } else if c == '\n' {
-        put_text(out, "\\n")
-    } else if c == '\r' {
-        put_text(out, "\\r")
-    } else if c == '\t' {
-        put_text(out, "\\t")
-    } else if c < ' ' || c == '<' {
-        put_four_digits(out, "\\u", c as u32)
-    } else {
-        put_char(out, c)
+    if text.len() < BLOCK {
+        return lay_short(room, escape, text);
     }
-}
-
-/// Writes a character of a word.
-#[tactic(auto, using(interpolator_render::proofs::LayoutLemmas::writes_from_puts))]
-#[inline(always)]
-fn put_shell<W: TextWrite>(out: &mut W, c: char) -> Result<(), Refusal>
-    ensures { Writes (W.written out.old) (shell_escape c) result (W.written out.new) }
-{
-    if c == '\'' {
-        put_text(out, "'\\''")
-    } else {
-        put_char(out, c)
+    let front = front_of_block(escape, text.as_bytes(), 0);
+    if front < BLOCK {
+        let rest = lay_run(room, text, front);
+        return lay_first(room, escape, rest);
     }
+    lay_run(room, text, text.floor_char_boundary(BLOCK))
 }
 
-/// Writes a character, escaped if it is to be.
-#[inline(always)]
-fn put_one<W: TextWrite>(out: &mut W, escape: Escape, c: char) -> Result<(), Refusal>
-    ensures { Writes (W.written out.old) (escape_of escape c) result (W.written out.new) }
+/// Writes what was laid, and empties the room.
+fn put_room<W: TextWrite>(out: &mut W, room: &mut Room) -> Result<(), Refusal>
+    ensures moved { MatchResult result
+        (λ _. Moves (W.written out.old) room.old room.new (W.written out.new))
+        (λ _. AppendsBeginning (W.written out.old) room.old (W.written out.new)) }
+    ensures place { OnOk result (room.new ≡ []) }
 {
-    match escape {
-        Escape::Line => put_line(out, c),
-        Escape::Html => put_html(out, c),
-        Escape::Csv => put_csv(out, c),
-        Escape::Json => put_json(out, c),
-        Escape::Shell => put_shell(out, c),
+    put_text(out, room.as_str())?;
+    room.clear();
+    Ok(())
+}
+
+/// Writes what was laid, if the room has no place for a step.
+#[inline(always)]
+fn make_place<W: TextWrite>(out: &mut W, room: &mut Room) -> Result<(), Refusal>
+    ensures moved { MatchResult result
+        (λ _. Moves (W.written out.old) room.old room.new (W.written out.new))
+        (λ _. AppendsBeginning (W.written out.old) room.old (W.written out.new)) }
+    ensures place { OnOk result (HasPlace room.new 22) }
+{
+    if room.len() <= MOST {
+        return Ok(());
     }
+    put_room(out, room)
 }
 
-/// Writes a run of characters as they are, and the character after it, escaped if it is to be.
-#[tactic(auto, using(interpolator_render::proofs::LayoutLemmas::run_outcomes))]
+/// Writes a character and the text after it escaped, by way of a room.
 #[inline(always)]
-fn put_run<W: TextWrite>(out: &mut W, escape: Escape, run: &str, c: char) -> Result<(), Refusal>
-    ensures { Writes (W.written out.old) (chars run.now ++ escape_of escape c) result
-        (W.written out.new) }
+fn put_from<W: TextWrite>(out: &mut W, escape: Escape, c: char, after: &str) -> Result<(), Refusal>
+    ensures { Writes (W.written out.old)
+        (escape_of escape c ++ escaped escape (chars after.now)) result (W.written out.new) }
 {
-    put_text(out, run)?;
-    put_one(out, escape, c)
+    let mut room = Room::new();
+    lay_one(&mut room, escape, c);
+    put_rest(out, &mut room, escape, after)
 }
 
-/// Writes a text escaped, by [`put_run`]. It is compiled for each escape by itself.
+/// Writes what was laid in a room and a text after it, escaped.
+#[inline(always)]
+fn put_rest<W: TextWrite>(
+    out: &mut W,
+    room: &mut Room,
+    escape: Escape,
+    text: &str,
+) -> Result<(), Refusal>
+    requires { HasPlace room.old 22 }
+    ensures { Writes (W.written out.old)
+        (room.old ++ escaped escape (chars text.now)) result (W.written out.new) }
+{
+    let mut rest = text;
+    while !rest.is_empty() {
+        rest = lay_next(room, escape, rest);
+        make_place(out, room)?;
+    }
+    put_text(out, room.as_str())
+}
+
+/// Writes a text escaped: what comes before the first character that may be escaped as it is, and
+/// the others by way of a room. It is compiled for each escape by itself.
 #[inline(always)]
 fn put_runs<W: TextWrite>(out: &mut W, escape: Escape, text: &str) -> Result<(), Refusal>
     ensures { Writes (W.written out.old) (escaped escape (chars text.now)) result
         (W.written out.new) }
 {
-    let mut rest = text;
-    while let Some((run, c, after)) = split_escaped(escape, rest, rest.len() == text.len()) {
-        put_run(out, escape, run, c)?;
-        rest = after;
+    match split_escaped(escape, text) {
+        Some((run, c, after)) => {
+            put_text(out, run)?;
+            put_from(out, escape, c, after)
+        }
+        None => put_text(out, text),
     }
-    put_text(out, rest)
 }
 
 /// Writes a text escaped as a string of JSON, and the quote after it.
@@ -247,8 +221,9 @@ pub(crate) fn put_json_null<W: TextWrite>(out: &mut W) -> Result<(), Refusal>
     put_text(out, "null")
 }
 
-/// Writes a text escaped. A run of characters that are not escaped is written by one call, so a
-/// text without any that is costs little more than a copy.
+/// Writes a text escaped. What comes before the first character that is escaped is written by one
+/// call, so a text without any costs little more than a copy; what comes then by parts of some 300
+/// bytes.
 ///
 /// An `Err` means that the writer refused a part: it then has a beginning of the escaped text,
 /// which may end amid an escape.

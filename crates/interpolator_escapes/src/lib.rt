@@ -20,6 +20,7 @@ mod escaped;
 mod escapers;
 mod escaping;
 mod fields;
+mod laid;
 pub mod laws;
 mod misplaced;
 pub mod place_laws;
@@ -33,6 +34,7 @@ pub mod record_laws;
 #[cfg(test)]
 mod record_tests;
 mod records;
+mod room;
 mod search;
 mod taken;
 #[cfg(test)]

@@ -15,12 +15,12 @@ use interpolator_syntax::split_first;
 use std::simd::prelude::*;
 
 /// How many bytes are tested at once.
-const BLOCK: usize = 16;
+pub(crate) const BLOCK: usize = 16;
 
 /// How many bytes are tested at once for what is rare in plain texts.
 const WIDE_BLOCK: usize = 64;
 
-/// How many are where nothing has been escaped so far.
+/// How many are tested at once at first.
 const WIDEST_BLOCK: usize = 256;
 
 /// Returns whether a character that begins with this byte may be escaped. In a line, past ASCII,
@@ -158,7 +158,7 @@ fn first_mark(marks: u64, count: usize) -> usize
 /// Returns how many bytes of the block at this place come before the first that begins a character
 /// that may be escaped.
 #[inline(always)]
-fn front_of_block(escape: Escape, bytes: &[u8], from: usize) -> usize
+pub(crate) fn front_of_block(escape: Escape, bytes: &[u8], from: usize) -> usize
     requires { from + BLOCK ≤ length bytes.now }
     ensures { result ≡ prefix_len (λ byte. not (may_begin_escaped escape byte))
         (take 16 (drop from bytes.now)) }
@@ -197,21 +197,6 @@ fn past_wide_blocks<const N: usize>(escape: Escape, bytes: &[u8], from: usize) -
         end += N;
     }
     end
-}
-
-/// As [`past_wide_blocks`], of the widest blocks, if none has been escaped yet.
-#[inline(always)]
-fn past_widest_blocks(escape: Escape, bytes: &[u8], from: usize, is_first: bool) -> usize
-    requires within { from ≤ length bytes.now }
-    requires plain { ArePlain escape bytes.now from }
-    ensures within { result ≤ length bytes.now }
-    ensures plain { ArePlain escape bytes.now result }
-{
-    if is_first {
-        past_wide_blocks::<WIDEST_BLOCK>(escape, bytes, from)
-    } else {
-        from
-    }
 }
 
 /// As [`past_wide_blocks`], but the first byte that begins such a character, if it is in a whole
@@ -256,7 +241,7 @@ fn first_between(escape: Escape, bytes: &[u8], from: usize, end: usize) -> usize
 /// Returns the place of the first byte that begins a character that may be escaped, from a place on
 /// up to which none does; the end, if there is none.
 #[inline(always)]
-fn first_from(escape: Escape, bytes: &[u8], from: usize, is_first: bool) -> usize
+fn first_from(escape: Escape, bytes: &[u8], from: usize) -> usize
     requires within { from ≤ length bytes.now }
     requires plain { ArePlain escape bytes.now from }
     ensures within { result ≤ length bytes.now }
@@ -264,7 +249,7 @@ fn first_from(escape: Escape, bytes: &[u8], from: usize, is_first: bool) -> usiz
     ensures begins { result < length bytes.now
         → may_begin_escaped escape (get_or bytes.now result 0) ≡ true }
 {
-    let widest = past_widest_blocks(escape, bytes, from, is_first);
+    let widest = past_wide_blocks::<WIDEST_BLOCK>(escape, bytes, from);
     let wide = past_wide_blocks::<WIDE_BLOCK>(escape, bytes, widest);
     let blocks = past_blocks(escape, bytes, wide);
     first_between(escape, bytes, blocks, bytes.len())
@@ -272,7 +257,7 @@ fn first_from(escape: Escape, bytes: &[u8], from: usize, is_first: bool) -> usiz
 
 /// As [`first_from`], which is compiled for each escape by itself.
 #[inline(never)]
-fn far_front(escape: Escape, bytes: &[u8], from: usize, is_first: bool) -> usize
+fn far_front(escape: Escape, bytes: &[u8], from: usize) -> usize
     requires within { from ≤ length bytes.now }
     requires plain { ArePlain escape bytes.now from }
     ensures within { result ≤ length bytes.now }
@@ -281,18 +266,18 @@ fn far_front(escape: Escape, bytes: &[u8], from: usize, is_first: bool) -> usize
         → may_begin_escaped escape (get_or bytes.now result 0) ≡ true }
 {
     match escape {
-        Escape::Line => first_from(Escape::Line, bytes, from, is_first),
-        Escape::Html => first_from(Escape::Html, bytes, from, is_first),
-        Escape::Csv => first_from(Escape::Csv, bytes, from, is_first),
-        Escape::Json => first_from(Escape::Json, bytes, from, is_first),
-        Escape::Shell => first_from(Escape::Shell, bytes, from, is_first),
+        Escape::Line => first_from(Escape::Line, bytes, from),
+        Escape::Html => first_from(Escape::Html, bytes, from),
+        Escape::Csv => first_from(Escape::Csv, bytes, from),
+        Escape::Json => first_from(Escape::Json, bytes, from),
+        Escape::Shell => first_from(Escape::Shell, bytes, from),
     }
 }
 
 /// Returns the place of the first byte that begins a character that may be escaped; the end, if
 /// there is none.
 #[inline(always)]
-fn plain_front(escape: Escape, bytes: &[u8], is_first: bool) -> usize
+fn plain_front(escape: Escape, bytes: &[u8]) -> usize
     ensures within { result ≤ length bytes.now }
     ensures plain { ArePlain escape bytes.now result }
     ensures begins { result < length bytes.now
@@ -305,24 +290,21 @@ fn plain_front(escape: Escape, bytes: &[u8], is_first: bool) -> usize
     if near < BLOCK {
         return near;
     }
-    far_front(escape, bytes, BLOCK, is_first)
+    far_front(escape, bytes, BLOCK)
 }
 
 /// Returns the longest front that has no character that may be escaped, the character after it, and
 /// what comes then; none, if the whole text is such a front.
 #[inline(always)]
-pub(crate) fn split_escaped(
-    escape: Escape,
-    text: &str,
-    is_first: bool,
-) -> Option<(&str, char, &str)>
+pub(crate) fn split_escaped(escape: Escape, text: &str) -> Option<(&str, char, &str)>
     ensures parts { MatchOption result (escaped escape (chars text.now) ≡ chars text.now)
         (λ r. (chars text.now ≡ chars r.0.now ++ r.1 ∷ chars r.2.now)
         × (escaped escape (chars r.0.now) ≡ chars r.0.now)) }
     ensures utf8 { IfSome result (λ r. IsUtf8 r.2.now) }
+    ensures within { IfSome result (λ r. length r.0.now ≤ length text.now) }
     ensures shorter { IfSome result (λ r. length r.2.now < length text.now) }
 {
-    let (run, rest) = text.split_at(plain_front(escape, text.as_bytes(), is_first));
+    let (run, rest) = text.split_at(plain_front(escape, text.as_bytes()));
     match split_first(rest) {
         Some((c, after)) => Some((run, c, after)),
         None => None,

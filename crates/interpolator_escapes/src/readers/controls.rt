@@ -1,7 +1,7 @@
 //! Reading the controls of a line.
 ghost use Rattle.interpolator_escapes.specs.Lines.{control_step, everywhere};
 
-use crate::escaped::is_control;
+use crate::laid::is_control;
 use crate::readers::Reader;
 use interpolator_render::{Spec, Trait};
 use std::alloc::AllocError;
