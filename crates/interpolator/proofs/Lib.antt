@@ -16,5 +16,6 @@ mod NamedValueLemmas
 mod NamingLemmas
 mod OwnedLemmas
 mod PositionLemmas
+mod RecordPlaceLemmas
 mod SampleWalkLemmas
 mod SeamLemmas
