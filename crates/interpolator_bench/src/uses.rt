@@ -1,11 +1,8 @@
 //! Uses of a format, again and again.
 
 use crate::failure::Failure;
-use interpolator::{
-    Error, Formattable, Interpolate, Pairs, Prepared, Row, Template, TextBuffer, Value,
-};
+use interpolator::{Error, Interpolate, Pairs, Prepared, Row, Template, TextBuffer, Value};
 use std::alloc::Global;
-use std::collections::HashMap;
 
 /// How a format is used.
 #[derive(Clone, Copy)]
@@ -24,56 +21,6 @@ pub enum How {
     Prepare,
 }
 
-/// How many names a format has at most that is used over [`Pairs`]. Those of more are looked up in a
-/// map.
-const FEW: usize = 16;
-
-/// The values of a format.
-#[derive(Drop)]
-enum Names<'a, V> {
-    Few(Pairs<'a, V>),
-    Many(HashMap<&'a str, Formattable<'a, V>>),
-}
-
-impl<'a, V: Value> Names<'a, V> {
-    fn new(alloc: Global, pairs: &Pairs<'a, V>) -> Result<Self, Failure> {
-        if pairs.0.len() <= FEW {
-            return Ok(Names::Few(*pairs));
-        }
-        let mut map = HashMap::new(alloc);
-        for (name, value) in pairs.0 {
-            map.insert(*name, *value)?;
-        }
-        Ok(Names::Many(map))
-    }
-
-    // Makes a new text.
-    fn format(&self, alloc: Global, format: &str) -> Result<String, Error> {
-        match self {
-            Names::Few(pairs) => pairs.format(alloc, format),
-            Names::Many(map) => map.format(alloc, format),
-        }
-    }
-
-    // Appends the output of a format.
-    fn write(&self, alloc: Global, out: &mut TextBuffer, format: &str) -> Result<(), Error> {
-        match self {
-            Names::Few(pairs) => pairs.write_to(alloc, out, format)?,
-            Names::Many(map) => map.write_to(alloc, out, format)?,
-        }
-        Ok(())
-    }
-
-    // Appends the output of a template.
-    fn put(&self, alloc: Global, out: &mut TextBuffer, template: &Template) -> Result<(), Error> {
-        match self {
-            Names::Few(pairs) => pairs.write_template_to(alloc, out, template)?,
-            Names::Many(map) => map.write_template_to(alloc, out, template)?,
-        }
-        Ok(())
-    }
-}
-
 /// Uses a format `repeats` times. Returns the last text, or the format itself if it is not written.
 pub fn repeat_format<V: Value>(
     alloc: Global,
@@ -83,11 +30,11 @@ pub fn repeat_format<V: Value>(
     repeats: u32,
 ) -> Result<String, Failure> {
     match how {
-        How::Format => repeat_new(alloc, format, &Names::new(alloc, pairs)?, repeats),
-        How::Write => repeat_write(alloc, format, &Names::new(alloc, pairs)?, repeats),
+        How::Format => repeat_new(alloc, format, pairs, repeats),
+        How::Write => repeat_write(alloc, format, pairs, repeats),
         How::Template => {
             let template = Template::parse(alloc, format)?;
-            repeat_template(alloc, &template, &Names::new(alloc, pairs)?, repeats)
+            repeat_template(alloc, &template, pairs, repeats)
         }
         How::Prepared => repeat_prepared(alloc, format, pairs, repeats),
         How::Parse => repeat_parse(alloc, format, repeats),
@@ -99,12 +46,12 @@ pub fn repeat_format<V: Value>(
 fn repeat_new<V: Value>(
     alloc: Global,
     format: &str,
-    names: &Names<'_, V>,
+    pairs: &Pairs<'_, V>,
     repeats: u32,
 ) -> Result<String, Failure> {
     let mut text = String::new(alloc);
     for _ in 0..repeats {
-        text = names.format(alloc, format)?;
+        text = pairs.format(alloc, format)?;
     }
     Ok(text)
 }
@@ -113,13 +60,13 @@ fn repeat_new<V: Value>(
 fn repeat_write<V: Value>(
     alloc: Global,
     format: &str,
-    names: &Names<'_, V>,
+    pairs: &Pairs<'_, V>,
     repeats: u32,
 ) -> Result<String, Failure> {
     let mut out = TextBuffer::new(alloc);
     for _ in 0..repeats {
         out.clear();
-        names.write(alloc, &mut out, format)?;
+        pairs.write_to(alloc, &mut out, format)?;
     }
     Ok(out.into_string())
 }
@@ -128,13 +75,13 @@ fn repeat_write<V: Value>(
 fn repeat_template<V: Value>(
     alloc: Global,
     template: &Template,
-    names: &Names<'_, V>,
+    pairs: &Pairs<'_, V>,
     repeats: u32,
 ) -> Result<String, Failure> {
     let mut out = TextBuffer::new(alloc);
     for _ in 0..repeats {
         out.clear();
-        names.put(alloc, &mut out, template)?;
+        pairs.write_template_to(alloc, &mut out, template)?;
     }
     Ok(out.into_string())
 }
