@@ -11,7 +11,8 @@ use Rattle.interpolator_escapes.specs.Escapes.{escape_of, escaped, line_escape, 
 use Rattle.interpolator_escapes.specs.Escapes.{is_control}
 use Rattle.interpolator_escapes.specs.Wholes.{escaped_text}
 use Rattle.interpolator_escapes.specs.Passing.{layers, or_refused}
-use Rattle.interpolator_escapes.specs.EscapingWriters.{escaping_written, way_of}
+use Rattle.interpolator_escapes.specs.EscapingWriters.{escaping_written}
+use Rattle.interpolator_escapes.specs.Rooms.{way_of}
 use Rattle.interpolator_escapes.specs.declared.escape.Escape.{Escape}
 use Rattle.interpolator_escapes.specs.declared.escape.Escape.TheVariants.{Line, Html, Csv, Json}
 use Rattle.interpolator_escapes.specs.declared.escape.Escape.TheVariants.{Shell}

@@ -1,19 +1,9 @@
 -- What a writer that escapes its text has taken.
-use Rattle.std.specs.Prelude.{ℕ, None, Some}
+use Rattle.std.specs.Prelude.{None, Some}
 use Rattle.interpolator_render.specs.Written.{Written}
 use Rattle.interpolator_escapes.specs.Passing.{layers}
-use Rattle.interpolator_escapes.specs.declared.escape.Escape.{Escape}
-use Rattle.interpolator_escapes.specs.declared.escape.Escape.TheVariants.{Line, Html, Csv, Json}
-use Rattle.interpolator_escapes.specs.declared.escape.Escape.TheVariants.{Shell}
+use Rattle.interpolator_escapes.specs.Rooms.{way_of}
 use Rattle.interpolator_escapes.specs.declared.escaping.Escaping.{Escaping}
-
--- each escape by a number
-abbrev pub way_of : Escape → ℕ
-way_of Line = 0
-way_of Html = 1
-way_of Csv = 2
-way_of Json = 3
-way_of Shell = 4
 
 -- the text taken, as it was before it was escaped; `written` is what the writer below has taken
 abbrev pub escaping_written : {W : Type 0} {g : _} → (written : W → Written) → Escaping W g

@@ -5,7 +5,7 @@ ghost use Rattle.std.specs.List.{flat_map};
 ghost use Rattle.std.specs.Str.{chars, IsCharBoundary};
 ghost use Rattle.interpolator_render.specs.Written.{AppendsBeginning, Puts, Writes, byte_count};
 ghost use Rattle.interpolator_escapes.specs.Escapes.{escape_of, escaped, json_escape};
-ghost use Rattle.interpolator_escapes.specs.Rooms.{HasPlace, Moves};
+ghost use Rattle.interpolator_escapes.specs.Rooms.{HasPlace, Moves, way_of};
 ghost use Rattle.interpolator_escapes.specs.Wholes.{json_null, json_string};
 
 use crate::escape::Escape;
@@ -160,8 +160,58 @@ fn put_from<W: TextWrite>(out: &mut W, escape: Escape, c: char, after: &str) -> 
     put_rest(out, &mut room, escape, after)
 }
 
-/// Writes what was laid in a room and a text after it, escaped.
+/// Returns the escape, which its number tells as well: where that is a constant, so is the answer.
 #[inline(always)]
+fn known(way: u8, escape: Escape) -> Escape
+    requires { way ≡ way_of escape }
+    ensures { result ≡ escape }
+{
+    match way {
+        0 => Escape::Line,
+        1 => Escape::Html,
+        2 => Escape::Csv,
+        3 => Escape::Json,
+        _ => Escape::Shell,
+    }
+}
+
+/// As [`lay_next`], compiled for one escape.
+#[inline(always)]
+fn lay_known<'t, const WAY: u8>(room: &mut Room, escape: Escape, text: &'t str) -> &'t str
+    requires way { WAY ≡ way_of escape }
+    requires place { HasPlace room.old 22 }
+    requires some { 0 < length text.now }
+    ensures same { room.new ++ escaped escape (chars result.now)
+        ≡ room.old ++ escaped escape (chars text.now) }
+    ensures size { byte_count room.new ≤ byte_count room.old + 22 }
+    ensures shorter { length result.now < length text.now }
+    ensures utf8 { IsUtf8 result.now }
+{
+    lay_next(room, known(WAY, escape), text)
+}
+
+/// Writes what was laid in a room and a text after it, escaped.
+fn put_steps<W: TextWrite, const WAY: u8>(
+    out: &mut W,
+    room: &mut Room,
+    escape: Escape,
+    text: &str,
+) -> Result<(), Refusal>
+    requires way { WAY ≡ way_of escape }
+    requires place { HasPlace room.old 22 }
+    ensures { Writes (W.written out.old)
+        (room.old ++ escaped escape (chars text.now)) result (W.written out.new) }
+{
+    let mut rest = text;
+    while !rest.is_empty() {
+        rest = lay_known::<WAY>(room, escape, rest);
+        make_place(out, room)?;
+    }
+    put_text(out, room.as_str())
+}
+
+/// As [`put_steps`].
+#[inline(never)]
 fn put_rest<W: TextWrite>(
     out: &mut W,
     room: &mut Room,
@@ -169,15 +219,16 @@ fn put_rest<W: TextWrite>(
     text: &str,
 ) -> Result<(), Refusal>
     requires { HasPlace room.old 22 }
-    ensures { Writes (W.written out.old)
-        (room.old ++ escaped escape (chars text.now)) result (W.written out.new) }
+    ensures { Writes (W.written out.old) (room.old ++ escaped escape (chars text.now)) result
+        (W.written out.new) }
 {
-    let mut rest = text;
-    while !rest.is_empty() {
-        rest = lay_next(room, escape, rest);
-        make_place(out, room)?;
+    match escape {
+        Escape::Line => put_steps::<W, 0>(out, room, Escape::Line, text),
+        Escape::Html => put_steps::<W, 1>(out, room, Escape::Html, text),
+        Escape::Csv => put_steps::<W, 2>(out, room, Escape::Csv, text),
+        Escape::Json => put_steps::<W, 3>(out, room, Escape::Json, text),
+        Escape::Shell => put_steps::<W, 4>(out, room, Escape::Shell, text),
     }
-    put_text(out, room.as_str())
 }
 
 /// Writes a text escaped: what comes before the first character that may be escaped as it is, and

@@ -39,6 +39,41 @@ fn put_over(row: &mut [u8], at: usize, text: &[u8])
     row[at..at + text.len()].copy_from_slice(text);
 }
 
+/// The bytes of a block, as a value. A copy that is read as a whole before it is written needs no
+/// test whether the two places overlap.
+#[inline(always)]
+fn block_of(text: &[u8]) -> [u8; BLOCK]
+    requires { length text.now ≡ 16 }
+    ensures { result ≡ text.now }
+{
+    match text.as_array::<BLOCK>() {
+        Some(block) => *block,
+        None => unreachable!(),
+    }
+}
+
+/// Writes a block over as many places.
+#[inline(always)]
+fn put_block(to: &mut [u8], block: [u8; BLOCK])
+    requires { length to.old ≡ 16 }
+    ensures { to.new ≡ block }
+{
+    match to.as_mut_array::<BLOCK>() {
+        Some(places) => *places = block,
+        None => unreachable!(),
+    }
+}
+
+/// Writes a block over the places of a row from `at` on.
+#[inline(always)]
+fn put_block_over(row: &mut [u8], at: usize, text: &[u8])
+    requires block { length text.now ≡ 16 }
+    requires within { at + 16 ≤ length row.old }
+    ensures { row.new ≡ take at row.old ++ text.now ++ drop (at + length text.now) row.old }
+{
+    put_block(&mut row[at..at + BLOCK], block_of(text));
+}
+
 impl Room {
     /// A room with the empty text.
     #[tactic(auto, using(interpolator_render::proofs::WrittenLemmas::empty_text))]
@@ -82,7 +117,7 @@ impl Room {
         ensures text { self.new ≡ self.old ++ chars (take count text.now) }
         ensures size { byte_count self.new ≡ byte_count self.old + count }
     {
-        put_over(&mut self.bytes, self.filled, &text.as_bytes()[..BLOCK]);
+        put_block_over(&mut self.bytes, self.filled, &text.as_bytes()[..BLOCK]);
         self.filled += count;
     }
 

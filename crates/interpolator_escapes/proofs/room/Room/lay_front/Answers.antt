@@ -6,8 +6,8 @@ use Rattle.interpolator_escapes.proofs.RoomLemmas.{held_size, holds_more, laid_t
 use Rattle.interpolator_escapes.proofs.RoomLemmas.{front_laid}
 use Rattle.interpolator_escapes.proofs.room.Room.lay_front.Goals as goal
 
-pub put_over-requires : goal.put_over-requires
-put_over-requires c =
+pub put_block_over-requires-clause-within : goal.put_block_over-requires-clause-within
+put_block_over-requires-clause-within c =
     let size : byte_count c.args.self.now ≡ c.self.inside.filled = ap byte_count (sym c.self.view_is)
     ∙ held_size c.self.inside.bytes c.self.inside.filled c.self.told c.self.invariant in
     grind (arith, length-take-le)
@@ -19,7 +19,7 @@ invariant_of-self c =
     holds_more _ _ (take c.args.count c.args.text.now) _ _ c.self.invariant
     (IsUtf8-take c.args.text.now c.args.count c.utf8.text c.requires.cut)
     (front_laid _ _ c.args.text.now _ _ _ c.self.told c.self.invariant.within c.requires.block
-    c.requires.few (rw c.as_bytes.ensures.value at c.put_over.ensures)) (grind arith)
+    c.requires.few (rw c.as_bytes.ensures.value at c.put_block_over.ensures)) (grind arith)
 
 pub returns-clause-text : goal.returns-clause-text
 returns-clause-text c =
@@ -27,7 +27,7 @@ returns-clause-text c =
     ∙ held_size c.self.inside.bytes c.self.inside.filled c.self.told c.self.invariant in
     laid_text _ _ (take c.args.count c.args.text.now) _ _ c.self.invariant
     (front_laid _ _ c.args.text.now _ _ _ c.self.told c.self.invariant.within c.requires.block
-    c.requires.few (rw c.as_bytes.ensures.value at c.put_over.ensures))
+    c.requires.few (rw c.as_bytes.ensures.value at c.put_block_over.ensures))
     ∙ ap (λ (l : List ℕ). l ++ chars (take c.args.count c.args.text.now)) c.self.view_is
 
 pub returns-clause-size : goal.returns-clause-size

@@ -4,7 +4,7 @@ use denote.Shadow.{shadow}
 use Rattle.interpolator_escapes.specs.Escapes.{escaped}
 use Rattle.interpolator_escapes.specs.Rooms.{HasPlace}
 use Rattle.interpolator_escapes.proofs.RoomLemmas.{LaysOn}
-use Rattle.interpolator_escapes.proofs.escaped.put_rest.Given as goal
+use Rattle.interpolator_escapes.proofs.escaped.put_steps.Given as goal
 
 abbrev pub invariant-loop-rest : goal.invariant-loop-rest
 invariant-loop-rest g l =
