@@ -13,7 +13,7 @@ usage+='[NAME=TEXT | NAME:=NUMBER | NAME:.=DECIMAL | NAME:~=FLOAT | NAME[]=ITEM,
 usage+='catalogue --check [--line | --html] [--] FILE.. | '
 usage+='catalogue --po [--context TEXT] [--line | --html] [--] FILE KEY WORD.. | '
 usage+='catalogue --po --check [--line | --html] [--] FILE..'
-wanted=235
+wanted=262
 . "$here/../../.ci/cases.sh"
 
 # message WANTED WORD..: a message, which goes to standard output, with status 0.
@@ -320,9 +320,39 @@ form_cases() {
     message g whole.txt w n:=0
 }
 
+# Forms that texts choose.
+text_cases() {
+    printf '%s\n' "plural: gender == 'f' ? she : gender == 'm' ? he : they" \
+        'likes.she(name) = {name} likes her cat.' 'likes.he(name) = {name} likes his cat.' \
+        'likes.they(name) = {name} like their cat.' 'hat.she = her hat' 'hat.they = their hat' >texts.txt
+    message 'Ann likes her cat.' texts.txt likes gender=f name=Ann
+    message 'Bob likes his cat.' texts.txt likes name=Bob gender=f gender=m
+    message 'Kim like their cat.' texts.txt likes name=Kim gender=x
+    message 'Kim like their cat.' texts.txt likes name=Kim gender=
+    message 'Kim like their cat.' texts.txt likes name=Kim gender=F
+    noted 'her hat' 'texts.txt: no message uses `n`' texts.txt hat gender=f n:=1
+    told 'texts.txt:2: `likes` wants `gender=TEXT`' texts.txt likes name=Ann
+    told 'texts.txt:2: `likes` wants `gender=TEXT`' texts.txt likes name=Ann gender:=1
+    told 'texts.txt:2: `likes` wants `gender=TEXT`' texts.txt likes name=Ann 'gender[]=f'
+    told 'texts.txt: no message `hat` or `hat.he`' texts.txt hat gender=m
+    told "$(printf '%s\n' 'texts.txt:5:1: `hat` lacks forms that the rule can choose: `he`' '  |' \
+        '5 | hat.she = her hat' '  | ^')" --check texts.txt
+    printf '%s\n' "plural: n == 1 && g == 'f' ? one_f : !(g != 'a ? b' || n) ? odd : n!=1 ? more : one" \
+        'cat.one_f = Katze' 'cat.odd = ?' 'cat.more = Tiere' 'cat.one = Kater' >mixed.txt
+    case_of file file 0 '' '' --check mixed.txt
+    message Katze mixed.txt cat g=f n:=1
+    message Kater mixed.txt cat g=m n:=1
+    message Tiere mixed.txt cat g=f n:=2
+    message '?' mixed.txt cat 'g=a ? b' n:=0
+    told 'mixed.txt:2: `cat` wants `n:=NUMBER`' mixed.txt cat g=f
+    told 'mixed.txt:2: `cat` wants `n:=NUMBER`' mixed.txt cat
+    told 'mixed.txt:2: `cat` wants `g=TEXT`' mixed.txt cat n:=1
+}
+
 # Rules that are none.
 broken_rule_cases() {
     local signs='a rule has names, numbers below 2^64 and `! % < <= > >= == != && || ? : ( )`'
+    local quotes='a text in quotes follows a name and `==` or `!=`'
     printf '%s\n' 'plural: é == 1 ? one : n = 2 ? two : three' 'a = 1' 'plural: other' \
         'b == 1 ? c : d' >rules.txt
     told "$(printf '%s\n' "rules.txt:1:26: $signs" \
@@ -343,6 +373,14 @@ broken_rule_cases() {
         'each part of a rule ends in a form, as in `n == 1 ? one : other`'
     broken_rule 'n != 1' 9 'each part of a rule ends in a form, as in `n == 1 ? one : other`'
     broken_rule "$(times 1000 '!')n" 1009 'a rule has at most 1000 words'
+    broken_rule "gender == 'f ? she : they" 19 'a quote is not closed'
+    broken_rule "gender < 'f' ? she : they" 18 "$quotes"
+    broken_rule "'f' == gender ? she : they" 9 "$quotes"
+    broken_rule "1 == 'f' ? she : they" 14 "$quotes"
+    broken_rule "n % 2 == 'f' ? she : they" 18 "$quotes"
+    broken_rule "n == 1 ? 'f' : they" 18 "$quotes"
+    broken_rule "n == 1 ? g == 'f' : they" 9 \
+        'each part of a rule ends in a form, as in `n == 1 ? one : other`'
 }
 
 # broken_rule RULE COLUMN WHAT: a rule that is told so at a column.
@@ -558,6 +596,10 @@ po_cases() {
         '  |                                               ^' \
         'rule.po:4:11: this value is out of place' '  |' '4 | msgid "<p {x}>"' '  |           ^')" \
         --po --check --html rule.po
+    printf '%s\n' 'msgid ""' "msgstr \"Plural-Forms: nplurals=2; plural=n == 'f';\\n\"" >text.po
+    told "$(printf '%s\n' 'text.po:2:42: a rule of a PO file compares no texts' '  |' \
+        "2 | msgstr \"Plural-Forms: nplurals=2; plural=n == 'f';\\n\"" \
+        '  |                                          ^')" --po --check text.po
     printf '%s\n' 'msgid ""' 'msgstr "text/plain; charset=ISO-8859-1\n"' '' 'msgid "a"' 'msgstr "é"' >latin.po
     told "$(printf '%s\n' 'latin.po:2:29: a PO file is read as UTF-8' '  |' \
         '2 | msgstr "text/plain; charset=ISO-8859-1\n"' '  |                             ^')" \
@@ -644,6 +686,7 @@ all_cases() {
     key_cases
     fallback_cases
     form_cases
+    text_cases
     broken_rule_cases
     language_cases
     escape_cases

@@ -1,4 +1,4 @@
--- The form of a message, which the rule of a file chooses by numbers. Texts are bytes.
+-- The form of a message, which the rule of a file chooses by numbers and texts. Texts are bytes.
 use Rattle.std.specs.Prelude.{ℕ, List, [], ◌∷◌, ◌++◌, codes}
 use Rattle.std.specs.Prelude.{Option, None, Some, Result, Ok, Err, string_bytes}
 use Rattle.std.specs.Option.{option_map, option_or}
@@ -6,7 +6,9 @@ use Rattle.plurals.specs.Readings.{tree_at}
 use Rattle.plurals.specs.Trees.{Tree}
 use Rattle.plurals.specs.Values.{as_form, form_by, missing_in}
 use Rattle.plurals.specs.declared.fault.Fault.{Fault}
-use Rattle.catalogue.specs.Rules.{numbers_of, rule_in}
+use Rattle.catalogue.specs.Rules.{declared_for, numbers_of, rule_in, texts_of}
+use Rattle.words.specs.Declarations.{as_declaration}
+use Rattle.words.specs.declared.Kind.{Kind}
 use Rattle.catalogue.specs.declared.entries.Object.{Object}
 use Rattle.catalogue.specs.declared.forms.Choice.{Choice}
 use Rattle.catalogue.specs.declared.forms.Sought.{Sought}
@@ -16,21 +18,25 @@ abbrev pub first_given : {A B : Type 0} → (A → Option B) → List A → Opti
 first_given gives [] = None
 first_given gives (x ∷ xs) = option_or (gives x) (first_given gives xs)
 
--- a form, and the name of a number that is missing for the tests by which it is chosen
+-- a form, or a key; and what is missing for the tests by which it is chosen, a number or a text
 abbrev pub Chosen : Type 0
-Chosen = List ℕ × Option (List ℕ)
+Chosen = List ℕ × Option (List ℕ × Kind)
 
 abbrev pub as_choice : Choice → Chosen
-as_choice choice = (as_form choice.form, option_map (λ name. name.now) choice.lacks)
+as_choice choice = (as_form choice.form, option_map as_declaration choice.lacks)
 
--- the key that is looked up, and the name of a number that is missing
-abbrev pub as_sought : Sought → List ℕ × Option (List ℕ)
-as_sought sought = (string_bytes sought.key, option_map (λ name. name.now) sought.lacks)
+-- the key that is looked up, and what is missing for it
+abbrev pub as_sought : Sought → Chosen
+as_sought sought = (string_bytes sought.key, option_map as_declaration sought.lacks)
 
 -- what a rule chooses, if it is whole
 abbrev pub chosen_by : List Object → Result Tree Fault → Option Chosen
-chosen_by objects (Ok tree) = option_map (λ form. (form, missing_in (numbers_of objects) tree))
-    (form_by (numbers_of objects) tree)
+chosen_by objects (Ok tree) = option_map (λ form. (
+  form,
+  option_map declared_for
+      (missing_in (numbers_of objects) (texts_of objects) tree),
+))
+    (form_by (numbers_of objects) (texts_of objects) tree)
 chosen_by objects (Err fault) = None
 
 abbrev pub choice_of : List Object → List ℕ → Option Chosen
@@ -49,8 +55,8 @@ choice_with objects (Some rule) = choice_of objects rule
 abbrev pub key_of_form : (key form : List ℕ) → List ℕ
 key_of_form key form = key ++ (codes "." ++ form)
 
--- the key that is looked up, and the number that is missing: the key itself, or its form
-abbrev pub key_by : List ℕ → Option Chosen → List ℕ × Option (List ℕ)
+-- the key that is looked up, and what is missing for it: the key itself, or its form
+abbrev pub key_by : List ℕ → Option Chosen → Chosen
 key_by key None = (key, None)
 key_by key (Some chosen) = (key_of_form key chosen.0, chosen.1)
 

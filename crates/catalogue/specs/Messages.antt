@@ -25,7 +25,6 @@ use Rattle.catalogue.specs.Sound.{IsSoundFile}
 use Rattle.catalogue.specs.Told.{told_of_absent, told_of_fault, told_of_files}
 use Rattle.catalogue.specs.Objects.{Gives, IsFirstBad}
 use Rattle.words.specs.declared.Kind.{Kind}
-use Rattle.words.specs.declared.Kind.TheVariants as kinds
 use Rattle.catalogue.specs.declared.entries.Object.{Object}
 use Rattle.catalogue.specs.declared.messages.Answer.{Answer}
 use Rattle.catalogue.specs.declared.messages.Answer.TheVariants.{Message, Faults, Absent, BadWord}
@@ -72,8 +71,8 @@ pub record IsToldLacking (line : Line) (key : List ℕ) (declared : Declared)
   pub says : told ≡ told_of_lacking line key lacking
 
 -- what the line that was found comes to: the message; the value that it lacks, or its fault, if it
--- declares nothing; or that the number which chooses its form is missing
-abbrev pub Replies : Option Escape → Answer → Option (List ℕ) → Line → (key : List ℕ) → Declared
+-- declares nothing; or that what chooses its form is missing
+abbrev pub Replies : Option Escape → Answer → Option (List ℕ × Kind) → Line → (key : List ℕ) → Declared
     → (format : List ℕ) → List Object → Type 0
 Replies escape (Message message) None line key declared format objects =
     IsMade escape format declared objects message
@@ -81,9 +80,9 @@ Replies escape (Faults told) None line key declared format objects =
     IsToldLacking line key declared objects (string_bytes told)
     ⊎ ((declared ≡ nothing)
     × IsToldOf escape line format (map held_by objects) (string_bytes told))
-Replies escape (Faults told) (Some name) line key declared format objects =
-    string_bytes told ≡ told_of_lacking line key (name, kinds.Number)
-Replies escape (Message message) (Some name) line key declared format objects = ⊥
+Replies escape (Faults told) (Some lacking) line key declared format objects =
+    string_bytes told ≡ told_of_lacking line key lacking
+Replies escape (Message message) (Some lacking) line key declared format objects = ⊥
 Replies escape (Absent told) lacks line key declared format objects = ⊥
 Replies escape (BadWord word) lacks line key declared format objects = ⊥
 
@@ -129,7 +128,7 @@ module _ {Y : Type 0} (escape : Option Escape) (files : List Page) (key : List �
     pub first : IsFirstBad words word
 
   -- the answer: the message; a word that gives nothing; or what is wrong with the files, else the
-  -- key, or else the line: the number of its form, a value that is missing, or the message, if the
+  -- key, or else the line: what is missing for its form, or for it, or the message, if the
   -- line declares nothing
   abbrev pub Answers : Answer → Type 0
   Answers (Message message) = OfLine (Message message)

@@ -1,4 +1,4 @@
--- The rule of a file, which chooses the form of a message by numbers. Texts are bytes.
+-- The rule of a file, which chooses the form of a message by numbers and texts. Texts are bytes.
 use Rattle.std.specs.Prelude.{ℕ, ℤ, pos, ◌+◌, ◌^◌, int_lt, unsigned_abs, List, codes}
 use Rattle.std.specs.Prelude.{drop, take, if◌then◌else◌, Option, None, Some, Result, Ok, Err}
 use Rattle.std.specs.Borrow.{Bor}
@@ -6,15 +6,17 @@ use Rattle.std.specs.Option.{option_map}
 use Rattle.std.specs.Str.{bytes_eq}
 use Rattle.interpolator.specs.Explained.{usize_sum}
 use Rattle.interpolator.specs.declared.View.{View}
-use Rattle.interpolator.specs.declared.View.TheVariants.{Signed}
+use Rattle.interpolator.specs.declared.View.TheVariants.{Signed, Text}
 use Rattle.plurals.specs.Readings.{tree_at}
 use Rattle.plurals.specs.Trees.{Tree}
-use Rattle.plurals.specs.Values.{has_forms}
+use Rattle.plurals.specs.Values.{Lack, has_forms, no_number, no_text}
 use Rattle.plurals.specs.declared.fault.Fault.{Fault}
 use Rattle.plurals.specs.declared.fault.Problem.{Problem}
 use Rattle.plurals.specs.declared.fault.Problem.TheVariants as problems
 use Rattle.catalogue.specs.Declarations.{begin_of}
 use Rattle.catalogue.specs.Picks.{last_named}
+use Rattle.words.specs.declared.Kind.{Kind}
+use Rattle.words.specs.declared.Kind.TheVariants as kinds
 use Rattle.catalogue.specs.declared.entries.Object.{Object}
 
 -- what a line with a rule begins with
@@ -48,10 +50,31 @@ counted n = if int_lt n (pos 0) then 10 ^ 38 + unsigned_abs n else unsigned_abs 
 abbrev pub numbers_of : List Object → List ℕ → Option ℕ
 numbers_of objects name = option_map counted (number_under objects name)
 
+-- the text that a view has
+abbrev pub text_of : View → Option (List ℕ)
+text_of (Text text) = Some text.now
+text_of _ = None
+
+-- the text of an object, if there is one, and if it is a text
+abbrev pub text_in : Option Object → Option (List ℕ)
+text_in None = None
+text_in (Some object) = text_of object.value
+
+-- the texts that a rule finds: that of the last object of a name
+abbrev pub texts_of : List Object → List ℕ → Option (List ℕ)
+texts_of objects name = text_in (last_named objects name)
+
+-- what has to be declared for what is missing
+abbrev pub declared_for : Lack → List ℕ × Kind
+declared_for (no_number name) = (name, kinds.Number)
+declared_for (no_text name) = (name, kinds.Text)
+
 -- what is reported of a problem in a rule
 abbrev pub problem_text : Problem → List ℕ
 problem_text problems.Token =
     codes "a rule has names, numbers below 2^64 and `! % < <= > >= == != && || ? : ( )`"
+problem_text problems.Text = codes "a text in quotes follows a name and `==` or `!=`"
+problem_text problems.Quote = codes "a quote is not closed"
 problem_text problems.Divisor = codes "a number that is not 0 follows a `%`"
 problem_text problems.Operand = codes "a name, a number, `!` or `(` is missing here"
 problem_text problems.Operator = codes "an operator is missing here, or the end of the rule"

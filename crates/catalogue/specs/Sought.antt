@@ -10,6 +10,8 @@ use Rattle.catalogue.specs.Formats.{format_of}
 use Rattle.catalogue.specs.Forms.{Chosen, choice_with, first_given, key_by, rule_of}
 use Rattle.catalogue.specs.Lines.{declared_of, has_message, is_under, key_of}
 use Rattle.catalogue.specs.declared.checks.Found.{Found}
+use Rattle.words.specs.Declarations.{as_declaration}
+use Rattle.words.specs.declared.Kind.{Kind}
 use Rattle.catalogue.specs.declared.entries.Object.{Object}
 
 -- one of some lines has a message under a key
@@ -22,21 +24,21 @@ choice_for objects key some_lines =
     if has_key key some_lines then None else choice_with objects (rule_of some_lines)
 
 -- the key that is looked up in some lines: the key itself, or the form of it that their rule
--- chooses by the numbers of objects; and the name of a number that is missing for that
-abbrev pub sought : List Object → List ℕ → List (List ℕ) → List ℕ × Option (List ℕ)
+-- chooses by the numbers and texts of objects; and what is missing for that
+abbrev pub sought : List Object → List ℕ → List (List ℕ) → Chosen
 sought objects key some_lines = key_by key (choice_for objects key some_lines)
 
--- a line that was found, the name of the number that chooses its form, if that number is missing,
--- its format, and what it declares
+-- a line that was found, what is missing to choose its form, if anything is, its format, and what
+-- it declares
 pub record Known : Type 0 where
   pub line : Line
-  pub lacks : Option (List ℕ)
+  pub lacks : Option (List ℕ × Kind)
   pub format : List ℕ
   pub declared : Declared
 
 -- a line with this key, these declarations and this format, if that is the key that is looked up
 abbrev pub found_by : Line → (key : List ℕ) → Declared → Result (List ℕ) ℕ
-    → List ℕ × Option (List ℕ) → Option Known
+    → Chosen → Option Known
 found_by line key declared (Err place) wanted = None
 found_by line key declared (Ok format) wanted =
     if bytes_eq key wanted.0 then Some (record {
@@ -47,7 +49,7 @@ found_by line key declared (Ok format) wanted =
     }) else None
 
 -- a line, if it has the key that is looked up
-abbrev pub line_for : List ℕ × Option (List ℕ) → Line → Option Known
+abbrev pub line_for : Chosen → Line → Option Known
 line_for wanted line =
     if has_message line.text
     then found_by line (key_of line.text) (declared_of line.text) (format_of line) wanted else None
@@ -64,7 +66,7 @@ found_among objects key pages = first_given (found_in objects key) pages
 abbrev pub as_found : Found → Known
 as_found one = record {
   line = as_line one.line;
-  lacks = option_map (λ name. name.now) one.lacks;
+  lacks = option_map as_declaration one.lacks;
   format = one.template;
   declared = declared_by one.heading;
 }

@@ -30,6 +30,7 @@ use folds::goes_on;
 use interpolator::{Error, Template};
 use std::alloc::Global;
 use std::collections::HashMap;
+use words::Declaration;
 
 /// A line that has the key.
 #[derive(Drop)]
@@ -37,8 +38,8 @@ pub struct Found<'p, 'a> {
     pub line: Line<'p, 'a>,
     pub template: Template,
     pub heading: Heading<'a>,
-    /// The name of the number that chooses the form of the key, if that number is missing.
-    pub lacks: Option<&'a str>,
+    /// What is missing to choose the form of the key, if anything is.
+    pub lacks: Option<Declaration<'a>>,
 }
 
 /// What is wrong with a line, its own key, or `plural:` for a rule, and the line itself if it has
@@ -202,8 +203,8 @@ fn checked_lines<'p, 'a>(
     Ok(Verdict { told, found })
 }
 
-/// Checks a file, and finds the line of a key, or of its form that the file's rule chooses by the
-/// numbers of objects.
+/// Checks a file, and finds the line of a key, or of its form that the file's rule chooses by
+/// objects.
 fn checked_file<'p, 'a>(
     alloc: Global,
     page: &'p Page<'a>,

@@ -1,35 +1,49 @@
-//! The form of a message, which the rule of a file chooses by numbers.
+//! The form of a message, which the rule of a file chooses by numbers and texts.
 
 ghost use Rattle.std.specs.Prelude.{◌≡◌, IfOk, string_bytes};
 ghost use Rattle.std.specs.Option.{option_map};
 ghost use Rattle.words.specs.Items.{texts_of};
 ghost use Rattle.catalogue.specs.Forms.{as_choice, as_sought, choice_of, choice_with, key_by};
 ghost use Rattle.catalogue.specs.Forms.{key_of_form, or_form, rule_of};
-ghost use Rattle.plurals.specs.Values.{as_form};
+ghost use Rattle.catalogue.specs.Rules.{declared_for};
+ghost use Rattle.plurals.specs.Values.{as_form, as_lack};
+ghost use Rattle.words.specs.Declarations.{as_declaration};
 
 use crate::entries::Object;
-use crate::rules::{Counts, rule_in};
-use plurals::{Form, ParseError, parse};
+use crate::rules::{Named, declared_for, rule_in};
+use plurals::{Form, Missing, ParseError, parse};
 use std::alloc::{AllocError, Global};
+use words::Declaration;
 
 /// The form of a message that a rule chooses.
 #[derive(Clone, Copy, Debug)]
 pub struct Choice<'a> {
     pub form: Form<'a>,
-    /// The name of a number that is missing: the form is then the one before the `:` of the test
+    /// A number or a text that is missing: the form is then the one before the `:` of the test
     /// that needs it.
-    pub lacks: Option<&'a str>,
+    pub lacks: Option<Declaration<'a>>,
 }
 
 /// The key of a message that is looked up.
 #[derive(Drop)]
 pub struct Sought<'a> {
     pub key: String,
-    /// The name of the number that chooses its form, if that number is missing.
-    pub lacks: Option<&'a str>,
+    /// What is missing to choose its form, if anything is.
+    pub lacks: Option<Declaration<'a>>,
 }
 
-/// What a rule chooses by the numbers of objects; nothing, if it is broken.
+/// What has to be given for what is missing, if anything is.
+fn wanted_for(missing: Option<Missing<'_>>) -> Option<Declaration<'_>>
+    ensures { option_map as_declaration result
+        ≡ option_map declared_for (option_map as_lack missing.entry) }
+{
+    match missing {
+        Some(missing) => Some(declared_for(missing)),
+        None => None,
+    }
+}
+
+/// What a rule chooses by the numbers and texts of objects; nothing, if it is broken.
 fn choice_of<'a>(
     alloc: Global,
     objects: &[Object<'_>],
@@ -42,9 +56,9 @@ fn choice_of<'a>(
         Err(ParseError::Broken(_)) => return Ok(None),
         Err(ParseError::NoMemory) => return Err(AllocError),
     };
-    let numbers = Counts(objects);
-    let lacks = read.missing(&numbers);
-    match read.form(&numbers) {
+    let values = Named(objects);
+    let lacks = wanted_for(read.missing(&values));
+    match read.form(&values) {
         Some(form) => Ok(Some(Choice { form, lacks })),
         None => Ok(None),
     }

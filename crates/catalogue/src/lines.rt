@@ -108,7 +108,7 @@ fn choice_for<'a>(
 }
 
 /// The key that is looked up in some lines: the key itself, or its form that their rule chooses by
-/// the numbers of objects.
+/// objects.
 pub fn sought<'a>(
     alloc: Global,
     objects: &[Object<'_>],

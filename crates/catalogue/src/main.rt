@@ -42,6 +42,16 @@
 //! size: `n % 10 == 1` holds for -21, and `n == 1` does not for -1. A check reports what is wrong
 //! with the rule, and a key that lacks a form which the rule can choose.
 //!
+//! A rule may also choose by a text, alone or with numbers:
+//!
+//! ```text
+//! plural: gender == 'f' ? she : gender == 'm' ? he : they
+//! ```
+//!
+//! A name followed by `==` or `!=` and a text between quotes `'` is whether the word `NAME=TEXT` gives
+//! that text, byte for byte; it binds more tightly than any operator, and the text has no quote in
+//! it. Such a text stands nowhere else. One that is missing is reported as a number is.
+//!
 //! Beside a message, the words whose names no message, declaration or rule of the files uses are
 //! told on standard error. Below the report that a key is not there stands the nearest that is: at
 //! most a character inserted, removed or replaced for each three of the key.
@@ -124,7 +134,8 @@ usage: catalogue [--line | --html] [--fallback FILE] [--] FILE KEY WORD..
 
 A line of a file is `KEY = FORMAT`, or `KEY(name, count:, price:., x:~, items[]) = FORMAT`, which
 declares a text, a whole number, a decimal, a float and a list. A line that begins with a blank goes
-on with the format before it.
+on with the format before it. By a line `plural: n == 1 ? one : other` the number n chooses between
+KEY.one and KEY.other, by `plural: gender == 'f' ? she : they` the text gender.
 
 example: with the line `cart(name, n:) = {name} has {n} items.` in m.txt
   catalogue m.txt cart name=Ann n:=3

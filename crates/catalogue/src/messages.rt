@@ -19,6 +19,7 @@ ghost use Rattle.catalogue.specs.Messages.{Answers, IsMadeOrTold, Replies, escap
 ghost use Rattle.catalogue.specs.Sound.{IsSoundOver};
 ghost use Rattle.catalogue.specs.Told.{told_absent, told_of_absent};
 ghost use Rattle.catalogue.specs.Objects.{IsGiven};
+ghost use Rattle.words.specs.Declarations.{as_declaration};
 
 use crate::checks::{Found, Verdict, checked};
 use crate::entries::{Entry, Object, pairs_of};
@@ -33,7 +34,6 @@ use interpolator_escapes::{CsvEscaper, HtmlEscaper, JsonEscaper, LineEscaper, Sh
 use interpolator_laws::samples::{a_checked_format_means_no_fault, a_view_has_a_text_by_its_kind};
 use interpolator_pieces::format_by;
 use std::alloc::Global;
-use words::{Declaration, Kind};
 
 /// What the program prints.
 #[derive(Drop)]
@@ -173,8 +173,7 @@ fn message(
     }
 }
 
-/// What the sound line that was found comes to: the number that is missing to choose its form, or
-/// its message.
+/// What the sound line that was found comes to: what is missing to choose its form, or its message.
 fn reply(
     alloc: Global,
     escape: Option<Escape>,
@@ -184,17 +183,13 @@ fn reply(
 ) -> Result<Answer, Error>
     ensures replies { IfOk result (λ answer. IsSoundOver (declared_by found.now.heading)
         found.now.template → All IsGiven objects.now
-        → Replies escape answer (option_map (λ name. name.now) found.now.lacks)
+        → Replies escape answer (option_map as_declaration found.now.lacks)
         (as_line found.now.line) key.now (declared_by found.now.heading) found.now.template
         objects.now) }
     ensures refused { IfErr result (λ error. answer_of error ≡ no_memory) }
 {
-    let Some(name) = found.lacks else {
+    let Some(lacking) = found.lacks else {
         return message(alloc, escape, key, found, objects);
-    };
-    let lacking = Declaration {
-        name,
-        kind: Kind::Number,
     };
     let told = told_of_lacking(alloc, &found.line, key, &lacking)?;
     Ok(Answer::Faults(told))
@@ -256,9 +251,9 @@ fn look_up_in(
 ///
 /// A line before all messages may be a rule, `plural: n == 0 ? zero : n == 1 ? one : other`. Then
 /// the key `cart` in a file that has no line of it is `cart.one` if the number of the last word of
-/// the name `n` is 1, and so on: the form is that of the first test that holds, or whose number is
-/// missing, or else the last one. That a number is missing is reported, if the line of the form is
-/// there.
+/// the name `n` is 1, and so on: the form is that of the first test that holds, or for which a
+/// number or a text is missing, or else the last one. What is missing is reported, if the line of
+/// the form is there. `plural: gender == 'f' ? she : they` chooses by the text of `gender`.
 ///
 /// The format of a line that declares names gets the words of these names, in any order, and no
 /// others. If one of them is missing, or of another kind, that is reported; else the message has no

@@ -79,18 +79,35 @@ fn beyond(read: &plurals::Expression<'_>, count: usize) -> Option<(u128, u128)> 
     None
 }
 
-/// Reports what is wrong with the rule of a file: it is none, or chooses a form that is not there for
-/// a number up to 1000.
+/// What is reported of a rule that compares a text.
+const NO_TEXTS: &str = "a rule of a PO file compares no texts";
+
+/// Reports that a rule that was read compares a text, or chooses a form that is not there.
+fn told_of_choices(
+    alloc: Global,
+    file: &File,
+    forms: &PluralForms<'_>,
+    read: &plurals::Expression<'_>,
+) -> Result<String, Error> {
+    // A number alone is given for each name, so only a text can be missing.
+    if read.missing_for(&0u128).is_some() {
+        return told_in(alloc, file, forms.header, forms.place, NO_TEXTS);
+    }
+    match beyond(read, forms.count) {
+        None => Ok(String::new(alloc)),
+        Some((n, value)) => {
+            let count = forms.count;
+            let what = format!(in alloc; "the rule chooses form {value} of {count} for {n}")?;
+            told_in(alloc, file, forms.header, forms.place, what.as_str())
+        }
+    }
+}
+
+/// Reports what is wrong with the rule of a file: it is none, compares a text, or chooses a form that
+/// is not there for a number up to 1000.
 pub fn told_of_rule(alloc: Global, file: &File, forms: &PluralForms<'_>) -> Result<String, Error> {
     match parse(alloc, forms.rule) {
-        Ok(read) => match beyond(&read, forms.count) {
-            None => Ok(String::new(alloc)),
-            Some((n, value)) => {
-                let count = forms.count;
-                let what = format!(in alloc; "the rule chooses form {value} of {count} for {n}")?;
-                told_in(alloc, file, forms.header, forms.place, what.as_str())
-            }
-        },
+        Ok(read) => told_of_choices(alloc, file, forms, &read),
         Err(ParseError::Broken(fault)) => {
             let place = forms.place.saturating_add(fault.place);
             told_in(

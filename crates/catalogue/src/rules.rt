@@ -1,16 +1,20 @@
-//! The rule of a file, which chooses the form of a message by numbers.
+//! The rule of a file, which chooses the form of a message by numbers and texts.
 
 ghost use Rattle.std.specs.Prelude.{◌≡◌, ℕ, List, IfOk};
 ghost use Rattle.std.specs.Option.{option_map};
-ghost use Rattle.catalogue.specs.Rules.{as_wrong, counted, number_of, number_under, numbers_of};
-ghost use Rattle.catalogue.specs.Rules.{problem_text, rule_in, wrong_in};
+ghost use Rattle.catalogue.specs.Rules.{as_wrong, counted, declared_for, number_of};
+ghost use Rattle.catalogue.specs.Rules.{number_under, numbers_of, problem_text, rule_in, text_of};
+ghost use Rattle.catalogue.specs.Rules.{texts_of, wrong_in};
+ghost use Rattle.plurals.specs.Values.{as_lack};
+ghost use Rattle.words.specs.Declarations.{as_declaration};
 
 use crate::declarations::begin_of;
 use crate::entries::Object;
 use crate::picks::last_named;
 use interpolator::View;
-use plurals::{Numbers, ParseError, Problem, parse};
+use plurals::{Missing, ParseError, Problem, Values, parse};
 use std::alloc::{AllocError, Global};
+use words::{Declaration, Kind};
 
 /// What a line with a rule begins with.
 pub const HEAD: &str = "plural:";
@@ -60,20 +64,62 @@ fn counted(number: i128) -> u128
     size
 }
 
-/// The numbers that a rule finds under the names of objects.
-#[derive(Clone, Copy)]
-pub struct Counts<'o, 'a>(pub &'o [Object<'a>]);
+/// The text that a view has.
+fn text_of<'a>(view: &View<'a>) -> Option<&'a str>
+    ensures { option_map (λ x. x.now) result ≡ text_of view.now }
+{
+    match view {
+        View::Text(text) => Some(*text),
+        _ => None,
+    }
+}
 
-impl Numbers for Counts<'_, '_> {
-    ghost use Rattle.catalogue.specs.Rules.{numbers_of};
+/// The text under a name.
+fn text_under<'a>(objects: &[Object<'a>], name: &str) -> Option<&'a str>
+    ensures { option_map (λ x. x.now) result ≡ texts_of objects.now name.now }
+{
+    match last_named(objects, name) {
+        Some(object) => text_of(&object.value),
+        None => None,
+    }
+}
+
+/// The numbers and texts that a rule finds under the names of objects.
+#[derive(Clone, Copy)]
+pub struct Named<'o, 'a>(pub &'o [Object<'a>]);
+
+impl Values for Named<'_, '_> {
+    ghost use Rattle.catalogue.specs.Rules.{numbers_of, texts_of};
 
     ghost number = { λ given name. numbers_of given.0.now name };
+
+    ghost text = { λ given name. texts_of given.0.now name };
+
+    fn text(&self, name: &str) -> Option<&str> {
+        text_under(self.0, name)
+    }
 
     fn number(&self, name: &str) -> Option<u128> {
         match number_under(self.0, name) {
             Some(number) => Some(counted(number)),
             None => None,
         }
+    }
+}
+
+/// What has to be given for what is missing.
+pub fn declared_for(missing: Missing<'_>) -> Declaration<'_>
+    ensures { as_declaration result ≡ declared_for (as_lack missing.entry) }
+{
+    match missing {
+        Missing::Number(name) => Declaration {
+            name,
+            kind: Kind::Number,
+        },
+        Missing::Text(name) => Declaration {
+            name,
+            kind: Kind::Text,
+        },
     }
 }
 
@@ -84,6 +130,8 @@ pub fn problem_text(problem: Problem) -> &'static str
     match problem {
         Problem::Token =>
             "a rule has names, numbers below 2^64 and `! % < <= > >= == != && || ? : ( )`",
+        Problem::Text => "a text in quotes follows a name and `==` or `!=`",
+        Problem::Quote => "a quote is not closed",
         Problem::Divisor => "a number that is not 0 follows a `%`",
         Problem::Operand => "a name, a number, `!` or `(` is missing here",
         Problem::Operator => "an operator is missing here, or the end of the rule",

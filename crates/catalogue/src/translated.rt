@@ -5,12 +5,12 @@ use crate::files::File;
 use crate::messages::{Answer, made};
 use crate::objects::objects_of;
 use crate::plural_forms::{PluralForms, header_of, plural_forms, told_of_charset};
-use crate::rules::Counts;
+use crate::rules::Named;
 use crate::translations::{
     is_translated, template_of, told_at_byte, told_of_entries, told_of_error,
 };
 use interpolator::{Error, Escape};
-use plurals::{Numbers, ParseError, parse};
+use plurals::{ParseError, Values, parse};
 use po::{Entry, Placed, ReadError, text_of, tokens_of};
 use std::alloc::Global;
 
@@ -118,7 +118,7 @@ fn message(
         let told = format!(in alloc; "{name}: no message `{key}`\n")?;
         return Ok(Answer::Faults(told));
     };
-    match Counts(objects).number("n") {
+    match Named(objects).number("n") {
         None if !entry.plural.is_empty() => {
             let told = format!(in alloc; "{name}: `{key}` wants `n:=NUMBER`\n")?;
             Ok(Answer::Faults(told))

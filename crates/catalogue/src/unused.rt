@@ -35,7 +35,7 @@ fn names_of(alloc: Global, words: &[String]) -> Result<Vec<&str>, Error> {
     Ok(names)
 }
 
-/// Whether a name is that of a number in an expression.
+/// Whether a name is that of a number or a text in an expression.
 fn is_in(name: &str, read: &Expression<'_>) -> bool {
     match read {
         Expression::Name(one) => *one == name,
@@ -45,6 +45,8 @@ fn is_in(name: &str, read: &Expression<'_>) -> bool {
         Expression::Remainder(a, _) => is_in(name, a),
         Expression::Binary(_, a, b) => is_in(name, a) || is_in(name, b),
         Expression::Choice(a, b, c) => is_in(name, a) || is_in(name, b) || is_in(name, c),
+        Expression::Is(one, _) => *one == name,
+        Expression::IsNot(one, _) => *one == name,
     }
 }
 

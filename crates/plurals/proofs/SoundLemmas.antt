@@ -8,9 +8,9 @@ use Rattle.plurals.specs.Readings.{Frame, State, asking, bracketed, choosing, cl
 use Rattle.plurals.specs.Readings.{ended, finish, grip, halved, has, joining, negating, opened, step}
 use Rattle.plurals.specs.Readings.{wants}
 use Rattle.plurals.specs.Tokens.{Word, bang, between, close_bracket, colon, modulo, name, number}
-use Rattle.plurals.specs.Tokens.{open_bracket, question, ◌>>=◌}
-use Rattle.plurals.specs.Trees.{IsBound, Tree, grouped, level, named, counted}
-use Rattle.plurals.specs.Trees.{reduced, spelling, strength}
+use Rattle.plurals.specs.Tokens.{equal_to, open_bracket, question, unequal_to, ◌>>=◌}
+use Rattle.plurals.specs.Trees.{IsBound, Tree, alike, grouped, level, named, counted}
+use Rattle.plurals.specs.Trees.{reduced, spelling, strength, unlike}
 use Rattle.plurals.specs.declared.fault.Problem.{Problem}
 use Rattle.plurals.proofs.SpellingLemmas.{runs, strength_bounds, wanted}
 
@@ -199,6 +199,8 @@ module _ (stack : List Frame) (a : Tree) (sound : IsSound (has stack a)) where
       → Reads (taken (has stack a) ++ (word ∷ [])) next
   after_operand (name text) next e = absurd (cc)
   after_operand (number n) next e = absurd (cc)
+  after_operand (equal_to tested text) next e = absurd (cc)
+  after_operand (unequal_to tested text) next e = absurd (cc)
   after_operand bang next e = absurd (cc)
   after_operand open_bracket next e = absurd (cc)
   after_operand (modulo n) next e =
@@ -256,6 +258,12 @@ one_word (wants stack) (name text) next sound e =
     rw (← is) (record { sound = (sound, tt, wanted_bound stack, omega arith); same = refl })
 one_word (wants stack) (number n) next sound e =
     let is : has stack (counted n) ≡ next = cc in
+    rw (← is) (record { sound = (sound, tt, wanted_bound stack, omega arith); same = refl })
+one_word (wants stack) (equal_to tested text) next sound e =
+    let is : has stack (alike tested text) ≡ next = cc in
+    rw (← is) (record { sound = (sound, tt, wanted_bound stack, omega arith); same = refl })
+one_word (wants stack) (unequal_to tested text) next sound e =
+    let is : has stack (unlike tested text) ≡ next = cc in
     rw (← is) (record { sound = (sound, tt, wanted_bound stack, omega arith); same = refl })
 one_word (wants stack) bang next sound e =
     let is : wants (negating ∷ stack) ≡ next = cc in

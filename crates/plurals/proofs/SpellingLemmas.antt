@@ -5,8 +5,8 @@ use Rattle.std.proofs.lemmas.Bool.Decides.{nat_tests}
 use Rattle.plurals.specs.Readings.{Frame, State, asking, choosing, close_from, finish, grip, has}
 use Rattle.plurals.specs.Readings.{closed, joining, negating, opened, step, wants}
 use Rattle.plurals.specs.Tokens.{Word, between, close_bracket, colon, modulo, question, ◌>>=◌}
-use Rattle.plurals.specs.Trees.{IsBound, Tree, chosen, counted, grouped, joined, level, named}
-use Rattle.plurals.specs.Trees.{negated, reduced, spelling, strength}
+use Rattle.plurals.specs.Trees.{IsBound, Tree, alike, chosen, counted, grouped, joined, level}
+use Rattle.plurals.specs.Trees.{named, negated, reduced, spelling, strength, unlike}
 use Rattle.plurals.specs.declared.expression.Operator.{Operator}
 use Rattle.plurals.specs.declared.expression.Operator.TheVariants.{Or, And, Equal, Unequal, Less}
 use Rattle.plurals.specs.declared.expression.Operator.TheVariants.{LessOrEqual, Greater}
@@ -42,6 +42,8 @@ strength_bounds GreaterOrEqual = (omega arith, omega arith)
 pub level_bounds : (a : Tree) → (1 ≤ level a) × (level a ≤ 7)
 level_bounds (named text) = (omega arith, omega arith)
 level_bounds (counted n) = (omega arith, omega arith)
+level_bounds (alike tested text) = (omega arith, omega arith)
+level_bounds (unlike tested text) = (omega arith, omega arith)
 level_bounds (negated a) = (omega arith, omega arith)
 level_bounds (grouped a) = (omega arith, omega arith)
 level_bounds (reduced a n) = (omega arith, omega arith)
@@ -85,6 +87,8 @@ stands stack (reduced a n) bound = whole stack (reduced a n) refl
 stands stack (joined operator a b) bound = through (joining a operator) stack b (joined operator a b)
     bound.2 (omega (arith, bound.3)) (omega arith) refl refl
     (stands (joining a operator ∷ stack) b bound.2)
+stands stack (alike tested text) bound = whole stack (alike tested text) refl
+stands stack (unlike tested text) bound = whole stack (unlike tested text) refl
 stands stack (chosen a b c) bound = through (choosing a b) stack c (chosen a b c) bound.3
     (level_bounds c).0 (omega arith) refl refl (stands (choosing a b ∷ stack) c bound.3)
 
@@ -147,6 +151,8 @@ pub reads : (stack : List Frame) (a : Tree) (rest : List Word) → IsBound a →
     → runs (wants stack) (spelling a ++ rest) ≡ runs (after stack a) rest
 reads stack (named text) rest bound loose = refl
 reads stack (counted n) rest bound loose = refl
+reads stack (alike tested text) rest bound loose = refl
+reads stack (unlike tested text) rest bound loose = refl
 reads stack (negated a) rest bound loose = reads (negating ∷ stack) a rest bound.0 bound.1
 reads stack (grouped a) rest bound loose =
     rw (append_assoc (spelling a) (close_bracket ∷ []) rest) (

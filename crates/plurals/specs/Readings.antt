@@ -3,9 +3,10 @@
 use Rattle.std.specs.Prelude.{◌≡◌, ℕ, nat_lt, List, [], ◌∷◌, length, map, reverse, if◌then◌else◌}
 use Rattle.std.specs.Prelude.{Option, None, Some, Result, Ok, Err}
 use Rattle.plurals.specs.Tokens.{Spot, Word, bang, between, close_bracket, colon, modulo, name}
-use Rattle.plurals.specs.Tokens.{at, number, open_bracket, question, words_of, ◌>>=◌}
-use Rattle.plurals.specs.Trees.{Tree, Writes, chosen, counted, grouped, joined, named, negated}
-use Rattle.plurals.specs.Trees.{reduced, strength, tree_of}
+use Rattle.plurals.specs.Tokens.{at, equal_to, number, open_bracket, question, unequal_to}
+use Rattle.plurals.specs.Tokens.{words_of, ◌>>=◌}
+use Rattle.plurals.specs.Trees.{Tree, Writes, alike, chosen, counted, grouped, joined, named}
+use Rattle.plurals.specs.Trees.{negated, reduced, strength, tree_of, unlike}
 use Rattle.plurals.specs.declared.expression.Expression.{Expression}
 use Rattle.plurals.specs.declared.expression.Operator.{Operator}
 use Rattle.plurals.specs.declared.fault.Fault.{Fault}
@@ -85,6 +86,8 @@ halved _ last = Err problems.Operator
 abbrev pub step : State → Word → Result State Problem
 step (wants stack) (name text) = Ok (has stack (named text))
 step (wants stack) (number n) = Ok (has stack (counted n))
+step (wants stack) (equal_to tested text) = Ok (has stack (alike tested text))
+step (wants stack) (unequal_to tested text) = Ok (has stack (unlike tested text))
 step (wants stack) bang = Ok (wants (negating ∷ stack))
 step (wants stack) open_bracket = Ok (wants (opened ∷ stack))
 step (wants stack) _ = Err problems.Operand

@@ -5,7 +5,7 @@ use Rattle.std.specs.Prelude.{Option, None, Some}
 use Rattle.std.specs.Prelude.{Result, Ok, Err}
 use Rattle.std.specs.Borrow.{Bor}
 use Rattle.std.specs.Char.{is_ascii_digit, is_whitespace}
-use Rattle.std.specs.List.{list_all, list_any, position_or_len}
+use Rattle.std.specs.List.{after_first, before_first, list_all, list_any, position_or_len}
 use Rattle.std.specs.Option.{option_map, option_or}
 use Rattle.std.specs.Str.{bytes_eq, chars, trim_start}
 use Rattle.std.specs.Str.Parse.{digits_value}
@@ -32,6 +32,8 @@ pub data Word : Type 0 where
   close_bracket : Word
   question : Word
   colon : Word
+  equal_to : (name text : List ℕ) → Word
+  unequal_to : (name text : List ℕ) → Word
 
 abbrev pub as_word : Token → Word
 as_word (tokens.Name text) = name text.now
@@ -43,6 +45,8 @@ as_word tokens.Open = open_bracket
 as_word tokens.Close = close_bracket
 as_word tokens.Question = question
 as_word tokens.Colon = colon
+as_word (tokens.Is named text) = equal_to named.now text.now
+as_word (tokens.IsNot named text) = unequal_to named.now text.now
 
 -- a word, and the byte at which it begins
 abbrev pub Spot : Type 0
@@ -113,10 +117,56 @@ number_in text =
 abbrev pub is_name : List ℕ → Bool
 is_name text = not (length text == 0) && not (list_any is_whitespace (chars text))
 
+-- what follows a front, if a text begins with it
+abbrev pub after_front : (front text : List ℕ) → Option (List ℕ)
+after_front front text =
+    if bytes_eq (take (length front) text) front then Some (drop (length front) text) else None
+
+-- the character `'`
+abbrev pub is_quote : ℕ → Bool
+is_quote b = b == 39
+
+-- a quote is in the text
+abbrev pub has_quote : List ℕ → Bool
+has_quote text = nat_lt (position_or_len is_quote text) (length text)
+
+-- what is before the first quote of a text, and what is after it
+abbrev pub around_quote : List ℕ → Option (List ℕ × List ℕ)
+around_quote text =
+    if has_quote text then Some (before_first is_quote text, after_first is_quote text) else None
+
+-- the text between quotes with which a text begins, and what is after it
+abbrev pub quoted : Option (List ℕ) → Option (List ℕ × List ℕ)
+quoted None = None
+quoted (Some rest) = around_quote rest
+
+abbrev pub quoted_at : List ℕ → Option (List ℕ × List ℕ)
+quoted_at text = quoted (after_front (codes "'") text)
+
+-- the text between quotes after a sign, if a text begins with that
+abbrev pub quoted_by : Option (List ℕ) → Option (List ℕ × List ℕ)
+quoted_by None = None
+quoted_by (Some rest) = quoted_at (trim_start rest)
+
+abbrev pub quoted_after : (sign text : List ℕ) → Option (List ℕ × List ℕ)
+quoted_after sign text = quoted_by (after_front sign (trim_start text))
+
+-- the word that a name is: with the text with which it is compared, if one follows
+abbrev pub named_by : (run rest : List ℕ) → (equal unequal : Option (List ℕ × List ℕ))
+    → Word × List ℕ
+named_by run rest (Some read) unequal = (equal_to run read.0, read.1)
+named_by run rest None (Some read) = (unequal_to run read.0, read.1)
+named_by run rest None None = (name run, rest)
+
+abbrev pub named_at : (run rest : List ℕ) → Word × List ℕ
+named_at run rest =
+    named_by run rest (quoted_after (codes "==") rest) (quoted_after (codes "!=") rest)
+
 -- the word that a run is: a number below 2^64, or a name
-abbrev pub word_in : (run : List ℕ) → Option ℕ → Option Word
-word_in run (Some n) = Some (number n)
-word_in run None = if not (is_numeral run) && is_name run then Some (name run) else None
+abbrev pub word_in : (run rest : List ℕ) → Option ℕ → Option (Word × List ℕ)
+word_in run rest (Some n) = Some (number n, rest)
+word_in run rest None =
+    if not (is_numeral run) && is_name run then Some (named_at run rest) else None
 
 -- a word and the text after it, if there is one
 abbrev pub or_problem : Problem → List ℕ → Option Word → Result (Word × List ℕ) Problem
@@ -131,9 +181,24 @@ divisor_in (Some n) = if n == 0 then None else Some (modulo n)
 abbrev pub divisor_at : List ℕ → Result (Word × List ℕ) Problem
 divisor_at text = or_problem problems.Divisor (after_run text) (divisor_in (number_in (run_of text)))
 
+abbrev pub or_token : Option (Word × List ℕ) → Result (Word × List ℕ) Problem
+or_token None = Err problems.Token
+or_token (Some read) = Ok read
+
 abbrev pub run_at : List ℕ → Result (Word × List ℕ) Problem
-run_at text =
-    or_problem problems.Token (after_run text) (word_in (run_of text) (number_in (run_of text)))
+run_at text = or_token (word_in (run_of text) (after_run text) (number_in (run_of text)))
+
+-- what is wrong with a text in quotes that no name is before, by what follows its first quote
+abbrev pub stray : List ℕ → Problem
+stray rest = if has_quote rest then problems.Text else problems.Quote
+
+-- a number, a name or a comparison of one with a text
+abbrev pub by_quote : List ℕ → Option (List ℕ) → Result (Word × List ℕ) Problem
+by_quote text None = run_at text
+by_quote text (Some rest) = Err (stray rest)
+
+abbrev pub operand_at : List ℕ → Result (Word × List ℕ) Problem
+operand_at text = by_quote text (after_front (codes "'") text)
 
 -- the sign with which a text begins, if it does, and the text after it
 abbrev pub double_at : List ℕ → Option (Word × List ℕ)
@@ -144,17 +209,13 @@ abbrev pub single_at : List ℕ → Option (Word × List ℕ)
 single_at [] = None
 single_at (b ∷ rest) = option_map (λ word. (word, rest)) (single b)
 
--- what follows a `%`, if the text begins with one
-abbrev pub after_percent : List ℕ → Option (List ℕ)
-after_percent text = if bytes_eq (take 1 text) (codes "%") then Some (drop 1 text) else None
-
 -- the word with which a text begins, and the text after it: the longest sign, or else a run
 abbrev pub by_percent : List ℕ → Option (List ℕ) → Result (Word × List ℕ) Problem
-by_percent text None = run_at text
+by_percent text None = operand_at text
 by_percent text (Some rest) = divisor_at (trim_start rest)
 
 abbrev pub by_sign : List ℕ → Option (Word × List ℕ) → Result (Word × List ℕ) Problem
-by_sign text None = by_percent text (after_percent text)
+by_sign text None = by_percent text (after_front (codes "%") text)
 by_sign text (Some read) = Ok read
 
 abbrev pub word_at : List ℕ → Result (Word × List ℕ) Problem
@@ -172,6 +233,10 @@ broken place problem = Broken (record { place = place; problem = problem })
 abbrev pub seen : {A B E : Type 0} → (A → B) → Result A E → Result B E
 seen view (Ok x) = Ok (view x)
 seen view (Err e) = Err e
+
+-- two texts, borrows aside
+abbrev pub as_pair : Bor (List ℕ) × Bor (List ℕ) → List ℕ × List ℕ
+as_pair pair = (pair.0.now, pair.1.now)
 
 -- a word and the text after it, borrows aside
 abbrev pub as_read : Token × Bor (List ℕ) → Word × List ℕ

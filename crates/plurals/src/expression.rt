@@ -1,12 +1,13 @@
 //! An expression, and its value.
 
-ghost use Rattle.std.specs.Prelude.{◌≡◌, ◌∷◌, ◌++◌, [], ℕ, List, Option, IfOk};
-ghost use Rattle.std.specs.Prelude.{Some, if◌then◌else◌, is_some, map};
+ghost use Rattle.std.specs.Prelude.{◌≡◌, ◌∷◌, ◌++◌, [], IfOk, map};
 ghost use Rattle.std.specs.Option.{option_map};
 ghost use Rattle.plurals.specs.Trees.{tree_of};
-ghost use Rattle.plurals.specs.Values.{applied, as_form, form_by, forms, has_forms, holds};
-ghost use Rattle.plurals.specs.Values.{missing_for, missing_in, or_zero, remainder, truth, value_by};
+ghost use Rattle.plurals.specs.Values.{applied, as_form, as_lack, form_by, forms, has_forms};
+ghost use Rattle.plurals.specs.Values.{holds, missing_for, missing_in, remainder, truth};
+ghost use Rattle.plurals.specs.Values.{value_by};
 
+use crate::given::{Missing, Values, is_text, or_zero, unless};
 use std::alloc::AllocError;
 
 /// What stands between two operands.
@@ -47,6 +48,10 @@ pub enum Expression<'a> {
     Binary(Operator, Box<Expression<'a>>, Box<Expression<'a>>),
     /// `a ? b : c`
     Choice(Box<Expression<'a>>, Box<Expression<'a>>, Box<Expression<'a>>),
+    /// `a == 'b'`: the text under the name `a` is `b`.
+    Is(&'a str, &'a str),
+    /// `a != 'b'`
+    IsNot(&'a str, &'a str),
 }
 
 /// What an expression chooses.
@@ -56,24 +61,6 @@ pub enum Form<'a> {
     Name(&'a str),
     /// A number, whose name is its digits.
     Number(u64),
-}
-
-/// Numbers under names.
-pub trait Numbers {
-    ghost number: { Self → List ℕ → Option ℕ };
-
-    /// The number under a name, if it has one.
-    fn number(&self, name: &str) -> Option<u128>
-        ensures { result ≡ number self.now name.now };
-}
-
-/// A number is the one under each name.
-impl Numbers for u128 {
-    ghost number = { λ n name. Some n };
-
-    fn number(&self, _name: &str) -> Option<u128> {
-        Some(*self)
-    }
 }
 
 /// 1 for what is true, and 0 for what is not.
@@ -109,23 +96,6 @@ fn remainder(number: u128, divisor: u64) -> u128
     number % u128::from(divisor)
 }
 
-/// A number, or 0 if it is missing.
-fn or_zero(number: Option<u128>) -> u128
-    ensures { result ≡ or_zero number }
-{
-    number.unwrap_or(0)
-}
-
-/// A name, unless it has a number.
-fn unless<'a>(name: &'a str, number: Option<u128>) -> Option<&'a str>
-    ensures { option_map (λ x. x.now) result ≡ (if is_some number then None else Some name.now) }
-{
-    match number {
-        Some(_) => None,
-        None => Some(name),
-    }
-}
-
 /// Appends a form.
 fn push<'a>(found: &mut Vec<Form<'a>>, form: Form<'a>) -> Result<(), AllocError>
     ensures { IfOk result (λ _. map as_form found.new.items
@@ -137,60 +107,62 @@ fn push<'a>(found: &mut Vec<Form<'a>>, form: Form<'a>) -> Result<(), AllocError>
 
 impl<'a> Expression<'a> {
     /// The value of an expression. What is true has the value 1, and what is not 0; a number that
-    /// is missing counts as 0.
-    pub fn value<N: Numbers>(&self, numbers: &N) -> u128
-        ensures { result ≡ value_by (N.number numbers.now) (tree_of self.now) }
+    /// is missing counts as 0, and a text that is missing is none.
+    pub fn value<V: Values>(&self, values: &V) -> u128
+        ensures { result ≡ value_by (V.number values.now) (V.text values.now) (tree_of self.now) }
     {
         match self {
-            Expression::Name(name) => or_zero(numbers.number(name)),
+            Expression::Name(name) => or_zero(values.number(name)),
             Expression::Number(number) => u128::from(*number),
-            Expression::Not(a) => truth(a.value(numbers) == 0),
-            Expression::Group(a) => a.value(numbers),
-            Expression::Remainder(a, divisor) => remainder(a.value(numbers), *divisor),
+            Expression::Not(a) => truth(a.value(values) == 0),
+            Expression::Group(a) => a.value(values),
+            Expression::Remainder(a, divisor) => remainder(a.value(values), *divisor),
             Expression::Binary(operator, a, b) => {
-                applied(*operator, a.value(numbers), b.value(numbers))
+                applied(*operator, a.value(values), b.value(values))
             }
             Expression::Choice(test, a, b) => {
-                if test.value(numbers) == 0 {
-                    b.value(numbers)
+                if test.value(values) == 0 {
+                    b.value(values)
                 } else {
-                    a.value(numbers)
+                    a.value(values)
                 }
             }
+            Expression::Is(name, text) => truth(is_text(values.text(name), text)),
+            Expression::IsNot(name, text) => truth(!is_text(values.text(name), text)),
         }
     }
 
-    /// Whether a choice by an expression takes its first part: it is true, or a number is missing
+    /// Whether a choice by an expression takes its first part: it is true, or something is missing
     /// for it.
-    fn holds<N: Numbers>(&self, numbers: &N) -> bool
-        ensures { result ≡ holds (N.number numbers.now) (tree_of self.now) }
+    fn holds<V: Values>(&self, values: &V) -> bool
+        ensures { result ≡ holds (V.number values.now) (V.text values.now) (tree_of self.now) }
     {
-        self.missing_for(numbers).is_some() || self.value(numbers) != 0
+        self.missing_for(values).is_some() || self.value(values) != 0
     }
 
     /// The form that an expression chooses: the name or number to which its choices come, of which
-    /// each is by its test, or its first part if a number is missing for that. None, if that is no
+    /// each is by its test, or its first part if something is missing for that. None, if that is no
     /// name or number.
-    pub fn form<N: Numbers>(&self, numbers: &N) -> Option<Form<'a>>
+    pub fn form<V: Values>(&self, values: &V) -> Option<Form<'a>>
         ensures { option_map as_form result
-            ≡ form_by (N.number numbers.now) (tree_of self.now) }
+            ≡ form_by (V.number values.now) (V.text values.now) (tree_of self.now) }
     {
         match self {
             Expression::Name(name) => Some(Form::Name(*name)),
             Expression::Number(number) => Some(Form::Number(*number)),
-            Expression::Group(a) => a.form(numbers),
+            Expression::Group(a) => a.form(values),
             Expression::Choice(test, a, b) => {
-                if test.holds(numbers) {
-                    a.form(numbers)
+                if test.holds(values) {
+                    a.form(values)
                 } else {
-                    b.form(numbers)
+                    b.form(values)
                 }
             }
             _ => None,
         }
     }
 
-    /// Whether an expression chooses a form, whatever the numbers are.
+    /// Whether an expression chooses a form, whatever the numbers and texts are.
     pub fn has_forms(&self) -> bool
         ensures { result ≡ has_forms (tree_of self.now) }
     {
@@ -220,39 +192,45 @@ impl<'a> Expression<'a> {
         }
     }
 
-    /// The first of the names in an expression that has no number.
-    fn missing_for<N: Numbers>(&self, numbers: &N) -> Option<&'a str>
-        ensures { option_map (λ x. x.now) result
-            ≡ missing_for (N.number numbers.now) (tree_of self.now) }
+    /// The first that is missing of all that an expression names.
+    pub fn missing_for<V: Values>(&self, values: &V) -> Option<Missing<'a>>
+        ensures { option_map as_lack result
+            ≡ missing_for (V.number values.now) (V.text values.now) (tree_of self.now) }
     {
         match self {
-            Expression::Name(name) => unless(name, numbers.number(name)),
+            Expression::Name(name) => {
+                unless(values.number(name).is_some(), Missing::Number(*name))
+            }
             Expression::Number(_) => None,
-            Expression::Not(a) => a.missing_for(numbers),
-            Expression::Group(a) => a.missing_for(numbers),
-            Expression::Remainder(a, _) => a.missing_for(numbers),
-            Expression::Binary(_, a, b) => a.missing_for(numbers).or(b.missing_for(numbers)),
+            Expression::Not(a) => a.missing_for(values),
+            Expression::Group(a) => a.missing_for(values),
+            Expression::Remainder(a, _) => a.missing_for(values),
+            Expression::Binary(_, a, b) => a.missing_for(values).or(b.missing_for(values)),
             Expression::Choice(test, a, b) => test
-                .missing_for(numbers)
-                .or(a.missing_for(numbers).or(b.missing_for(numbers))),
+                .missing_for(values)
+                .or(a.missing_for(values).or(b.missing_for(values))),
+            Expression::Is(name, _) => unless(values.text(name).is_some(), Missing::Text(*name)),
+            Expression::IsNot(name, _) => {
+                unless(values.text(name).is_some(), Missing::Text(*name))
+            }
         }
     }
 
-    /// The first name without a number in the tests by which an expression comes to its form.
-    pub fn missing<N: Numbers>(&self, numbers: &N) -> Option<&'a str>
-        ensures { option_map (λ x. x.now) result
-            ≡ missing_in (N.number numbers.now) (tree_of self.now) }
+    /// The first that is missing in the tests by which an expression comes to its form.
+    pub fn missing<V: Values>(&self, values: &V) -> Option<Missing<'a>>
+        ensures { option_map as_lack result
+            ≡ missing_in (V.number values.now) (V.text values.now) (tree_of self.now) }
     {
         match self {
-            Expression::Group(a) => a.missing(numbers),
+            Expression::Group(a) => a.missing(values),
             Expression::Choice(test, a, b) => {
-                if let Some(name) = test.missing_for(numbers) {
-                    return Some(name);
+                if let Some(missing) = test.missing_for(values) {
+                    return Some(missing);
                 }
-                if test.value(numbers) == 0 {
-                    b.missing(numbers)
+                if test.value(values) == 0 {
+                    b.missing(values)
                 } else {
-                    a.missing(numbers)
+                    a.missing(values)
                 }
             }
             _ => None,

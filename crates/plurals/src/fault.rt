@@ -9,6 +9,10 @@ use std::alloc::AllocError;
 pub enum Problem {
     /// No name, number or sign begins here, or the number is 2^64 or more.
     Token,
+    /// The text in quotes that begins here does not follow a name and `==` or `!=`.
+    Text,
+    /// The quote that is here is not closed.
+    Quote,
     /// What follows the `%` that is here is no number, or is 0.
     Divisor,
     /// A name, a number, `!` or `(` is wanted here.

@@ -30,6 +30,8 @@ fn operand_step<'a>(
     match next.token {
         Token::Name(name) => Ok(Some(Expression::Name(name))),
         Token::Number(number) => Ok(Some(Expression::Number(number))),
+        Token::Is(name, text) => Ok(Some(Expression::Is(name, text))),
+        Token::IsNot(name, text) => Ok(Some(Expression::IsNot(name, text))),
         Token::Not => {
             push(stack, Frame::Not)?;
             Ok(None)

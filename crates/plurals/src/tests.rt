@@ -1,7 +1,11 @@
 //! Rows of rules: what C makes of them, what CLDR's samples choose, and where broken ones are broken.
 
+ghost use Rattle.std.specs.Prelude.{Some};
+ghost use Rattle.std.specs.Option.{option_map};
+
 use crate::expression::Form;
 use crate::fault::{Fault, ParseError, Problem};
+use crate::given::{Missing, Values};
 use crate::reading::parse;
 use std::test::Fail;
 
@@ -43,7 +47,7 @@ const VALUES: [(&str, u128, u128); 10] = [
 ];
 
 /// A text that is no rule, the byte and the problem.
-const FAULTS: [(&str, usize, Problem); 12] = [
+const FAULTS: [(&str, usize, Problem); 19] = [
     ("", 0, Problem::Operand),
     ("n == ", 5, Problem::Operand),
     ("n = 1", 2, Problem::Token),
@@ -56,7 +60,59 @@ const FAULTS: [(&str, usize, Problem); 12] = [
     ("n)", 1, Problem::Operator),
     ("(n : 1)", 3, Problem::Operator),
     ("n ? (1 : 2)", 7, Problem::Operator),
+    ("n == 'f", 5, Problem::Quote),
+    ("n != '", 5, Problem::Quote),
+    ("n < 'f'", 4, Problem::Text),
+    ("'f' == n", 0, Problem::Text),
+    ("1 == 'f'", 5, Problem::Text),
+    ("n == 1 ? 'f' : g", 9, Problem::Text),
+    ("n == 'f' 'g'", 9, Problem::Text),
 ];
+
+/// An expression, the text of `g` and the value.
+const TEXTS: [(&str, &str, u128); 12] = [
+    ("g == 'f'", "f", 1),
+    ("g == 'f'", "m", 0),
+    ("g != 'f'", "f", 0),
+    ("g!='f'", "", 1),
+    ("g\t==''", "", 1),
+    ("g == '? :'", "? :", 1),
+    ("!g == 'f'", "f", 0),
+    ("g == 'f' == 1", "f", 1),
+    ("g == 'f' && n == 7", "f", 1),
+    ("n == 7 && g == 'f'", "m", 0),
+    ("it's == 'é'", "é", 1),
+    ("g == 'f' ? 3 : g == 'm' ? 4 : 5", "m", 4),
+];
+
+/// A rule, the text of `g`, if it has one, the form and what is missing for it.
+const CHOICES: [(&str, Option<&str>, &str, Option<Missing<'static>>); 5] = [
+    (SHE, Some("f"), "she", None),
+    (SHE, Some("m"), "he", None),
+    (SHE, Some("F"), "they", None),
+    (SHE, None, "she", Some(Missing::Text("g"))),
+    ("n == 7 && g != 'f' ? a : b", Some("f"), "b", None),
+];
+
+const SHE: &str = "g == 'f' ? she : g == 'm' ? he : they";
+
+/// A text under each name, if there is one, and the number 7 under each.
+#[derive(Clone, Copy)]
+struct One<'a>(Option<&'a str>);
+
+impl Values for One<'_> {
+    ghost number = { λ one name. Some 7 };
+
+    ghost text = { λ one name. option_map (λ x. x.now) one.0 };
+
+    fn number(&self, _name: &str) -> Option<u128> {
+        Some(7)
+    }
+
+    fn text(&self, _name: &str) -> Option<&str> {
+        self.0
+    }
+}
 
 #[test]
 fn forms(rt: HostRuntime) -> Result<(), Fail> {
@@ -81,6 +137,25 @@ fn faults(rt: HostRuntime) -> Result<(), Fail> {
     for (rule, place, problem) in FAULTS {
         let wanted = ParseError::Broken(Fault { place, problem });
         assert_eq!(rt; parse(rt.alloc(), rule).err(), Some(wanted));
+    }
+    Ok(())
+}
+
+#[test]
+fn texts(rt: HostRuntime) -> Result<(), Fail> {
+    for (rule, text, value) in TEXTS {
+        let read = parse(rt.alloc(), rule)?;
+        assert_eq!(rt; read.value(&One(Some(text))), value);
+    }
+    Ok(())
+}
+
+#[test]
+fn choices(rt: HostRuntime) -> Result<(), Fail> {
+    for (rule, text, form, missing) in CHOICES {
+        let read = parse(rt.alloc(), rule)?;
+        assert_eq!(rt; read.form(&One(text)), Some(Form::Name(form)));
+        assert_eq!(rt; read.missing(&One(text)), missing);
     }
     Ok(())
 }

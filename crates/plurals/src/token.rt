@@ -1,15 +1,18 @@
 //! The tokens of a rule.
 
-ghost use Rattle.std.specs.Prelude.{◌≡◌, ◌<◌, ◌∷◌, ◌++◌, [], IfOk, IfSome, length, map, option_map};
+ghost use Rattle.std.specs.Prelude.{◌≡◌, ◌<◌, ◌∷◌, ◌++◌, [], IfOk, IfSome, codes, length, map};
+ghost use Rattle.std.specs.Prelude.{option_map};
 ghost use Rattle.std.specs.List.{position, position_or_len};
 ghost use Rattle.std.specs.Char.{is_ascii_digit, is_whitespace};
 ghost use Rattle.std.specs.List.{list_all, list_any};
 ghost use Rattle.std.specs.Str.{chars, trim_start};
 ghost use Rattle.plurals.specs.Tokens.{Gives, as_next, end_of};
-ghost use Rattle.plurals.specs.Tokens.{as_read, as_spot, as_word, divisor_at, divisor_in, double};
-ghost use Rattle.plurals.specs.Tokens.{between, double_at, ends_run, is_name, is_numeral, next_at, number_in};
-ghost use Rattle.plurals.specs.Tokens.{run_at, run_of, after_run, seen, single, single_at, twice};
-ghost use Rattle.plurals.specs.Tokens.{with_equals, word_at, word_in, words_of};
+ghost use Rattle.plurals.specs.Tokens.{as_pair, as_read, as_spot, as_word, divisor_at, divisor_in};
+ghost use Rattle.plurals.specs.Tokens.{between, double, double_at, ends_run, is_name, is_numeral};
+ghost use Rattle.plurals.specs.Tokens.{named_at, next_at, number_in, operand_at, quoted_after};
+ghost use Rattle.plurals.specs.Tokens.{quoted_at, run_at, run_of, after_run, seen, single};
+ghost use Rattle.plurals.specs.Tokens.{single_at, stray, twice, with_equals, word_at, word_in};
+ghost use Rattle.plurals.specs.Tokens.{words_of};
 
 use crate::expression::Operator;
 use crate::fault::{Fault, ParseError, Problem};
@@ -39,6 +42,10 @@ pub(crate) enum Token<'a> {
     Question,
     /// `:`
     Colon,
+    /// A name, `==` and a text in quotes.
+    Is(&'a str, &'a str),
+    /// A name, `!=` and a text in quotes.
+    IsNot(&'a str, &'a str),
 }
 
 /// A token, and where it begins.
@@ -211,15 +218,53 @@ pub fn is_name(text: &str) -> bool
     !text.is_empty() && !has_space(text)
 }
 
-/// The token that a run is: a number below 2^64, or a name.
-fn word_in(run: &str) -> Option<Token<'_>>
-    ensures { option_map as_word result ≡ word_in run.now (number_in run.now) }
+/// The text between quotes that a text begins with, and what is after it.
+fn quoted_at(text: &str) -> Option<(&str, &str)>
+    ensures { option_map as_pair result ≡ quoted_at text.now }
+{
+    let rest = text.strip_prefix("'")?;
+    rest.split_once('\'')
+}
+
+/// The text between quotes after an `==`, if a text begins with that, and what is after it.
+fn quoted_equal(text: &str) -> Option<(&str, &str)>
+    ensures { option_map as_pair result ≡ quoted_after (codes "==") text.now }
+{
+    let rest = text.trim_start().strip_prefix("==")?;
+    quoted_at(rest.trim_start())
+}
+
+/// The text between quotes after a `!=`, if a text begins with that, and what is after it.
+fn quoted_unequal(text: &str) -> Option<(&str, &str)>
+    ensures { option_map as_pair result ≡ quoted_after (codes "!=") text.now }
+{
+    let rest = text.trim_start().strip_prefix("!=")?;
+    quoted_at(rest.trim_start())
+}
+
+/// The token that a name is, with the text with which it is compared, if what is after the name
+/// begins so; and what is after that.
+fn named_at<'a>(name: &'a str, rest: &'a str) -> (Token<'a>, &'a str)
+    ensures { as_read result ≡ named_at name.now rest.now }
+{
+    if let Some((text, after)) = quoted_equal(rest) {
+        return (Token::Is(name, text), after);
+    }
+    if let Some((text, after)) = quoted_unequal(rest) {
+        return (Token::IsNot(name, text), after);
+    }
+    (Token::Name(name), rest)
+}
+
+/// The token that a run is, a number below 2^64 or a name, and what is after it.
+fn word_in<'a>(run: &'a str, rest: &'a str) -> Option<(Token<'a>, &'a str)>
+    ensures { option_map as_read result ≡ word_in run.now rest.now (number_in run.now) }
 {
     if let Some(number) = number_in(run) {
-        return Some(Token::Number(number));
+        return Some((Token::Number(number), rest));
     }
     if !is_numeral(run) && is_name(run) {
-        Some(Token::Name(run))
+        Some(named_at(run, rest))
     } else {
         None
     }
@@ -230,9 +275,30 @@ fn run_at(text: &str) -> Result<(Token<'_>, &str), Problem>
     ensures { seen as_read result ≡ run_at text.now }
 {
     let (run, rest) = split_run(text);
-    match word_in(run) {
-        Some(token) => Ok((token, rest)),
+    match word_in(run, rest) {
+        Some(found) => Ok(found),
         None => Err(Problem::Token),
+    }
+}
+
+/// What is wrong with a text in quotes before which no name is compared, by what is after its first
+/// quote.
+fn stray(rest: &str) -> Problem
+    ensures { result ≡ stray rest.now }
+{
+    match rest.split_once('\'') {
+        Some(_) => Problem::Text,
+        None => Problem::Quote,
+    }
+}
+
+/// The number or name that a text begins with, and the text after it. A text in quotes is none.
+fn operand_at(text: &str) -> Result<(Token<'_>, &str), Problem>
+    ensures { seen as_read result ≡ operand_at text.now }
+{
+    match text.strip_prefix("'") {
+        Some(rest) => Err(stray(rest)),
+        None => run_at(text),
     }
 }
 
@@ -270,7 +336,7 @@ fn token_at(text: &str) -> Result<(Token<'_>, &str), Problem>
     }
     match text.strip_prefix("%") {
         Some(rest) => divisor_at(rest.trim_start()),
-        None => run_at(text),
+        None => operand_at(text),
     }
 }
 
