@@ -1,4 +1,5 @@
-//! Formats whose values are written escaped: by a page, by one call, prepared, and by laws.
+//! Formats whose values are written escaped: by a page, by one call, prepared, as records of CSV,
+//! and by laws.
 
 use crate::report::Report;
 use interpolator::{
@@ -58,6 +59,33 @@ const MISPLACED: [(Escape, &str, usize, Why); 14] = [
     (Escape::Shell, "echo \"{a}\"", 6, Why::Value),
     (Escape::Shell, "echo {b}", 5, Why::Value),
     (Escape::Line, "{a}{l:\t>9i({})}", 3, Why::Fill),
+];
+
+/// A format of records of CSV, and what it means with the values above.
+#[rattlefmt::skip]
+const RECORDS: [(&str, &str); 8] = [
+    ("{a:?},{n:?}\n", "\"<&>\"\"x\",-7\n"),
+    ("{c:?},\"{a:.4}\",\"{b:>6}\"", "\"\t\\\",\"<&>\"\"\",\"  it's\""),
+    ("{n:>4?},{a:.1?},{a:>9?}\r\n", "  -7,\"<&>\"\"x\",\"<&>\"\"x\"\r\n"),
+    ("{l:i({:?})(,)}\n", "\"<\",\"\"\"\"\n"),
+    ("{n:?},\"{l:i({})(\",\")}\"", "-7,\"<\",\"\"\"\""),
+    ("a,\"{l:i({}: {})(; )}\",{n:?}", "a,\"<: <; \"\": \"\"\",-7"),
+    ("\"{a}\",,x", "\"<&>\"\"x\",,x"),
+    ("a,b\n", "a,b\n"),
+];
+
+/// A format that is no record of CSV, and why not: its byte, and what is wrong.
+#[rattlefmt::skip]
+const NO_RECORDS: [(&str, usize, Why); 9] = [
+    ("{a}", 0, Why::Value),
+    ("{n:?};{b:?}", 0, Why::Value),
+    ("{a:?},\"{b:?}\"", 7, Why::Value),
+    ("\"{a}\",{n}", 6, Why::Value),
+    ("x{a:?}", 1, Why::Value),
+    ("{a:?},{n:+?}", 6, Why::Value),
+    ("{l:i({:?})}", 0, Why::Join),
+    ("{a:?},{l:i(\"{}\")(,)}", 6, Why::Item),
+    ("{n:?},{l:>9i({:?})(,)}", 6, Why::Value),
 ];
 
 /// The page of a format, if its values stand.
@@ -135,6 +163,33 @@ fn misplaced(report: &mut Report, row: &Values<'_>) -> Result<(), Error> {
             }
             Err(PlaceError::NoMemory) => return Err(Error::NoMemory),
             Ok(_) => report.holds(format, false),
+        }
+    }
+    Ok(())
+}
+
+/// Formats of whole fields, written and made, and those that are none.
+fn records(report: &mut Report, row: &Values<'_>) -> Result<(), Error> {
+    let alloc = report.alloc;
+    for (format, wanted) in RECORDS {
+        match Template::parse(alloc, format)?.as_record() {
+            Ok(record) => {
+                let mut out = TextBuffer::new(alloc);
+                let answer = record.write(alloc, &mut out, row);
+                report.written(format, (wanted, ""), out.as_str(), answer);
+                report.made(format, (wanted, ""), record.format(alloc, row));
+                report.text(format, format, record.template().text());
+            }
+            Err(_) => report.holds(format, false),
+        }
+    }
+    for (format, place, why) in NO_RECORDS {
+        match Template::parse(alloc, format)?.as_record() {
+            Err(PlaceError::Misplaced(found)) => {
+                report.number(format, place, found.place);
+                report.holds(format, found.why == why);
+            }
+            _ => report.holds(format, false),
         }
     }
     Ok(())
@@ -239,6 +294,7 @@ pub fn run(report: &mut Report) -> Result<(), Error> {
         l:i = &items, row:i = &items
     );
     pages(report, &row)?;
+    records(report, &row)?;
     lines_and_records(report, &row)?;
     faults(report, &row)?;
     maps(report);

@@ -1,8 +1,8 @@
 //! Memory that a text needs which is made escaped by one call: for the format, its pieces, the names
-//! of an element and an attribute, the text, and the name of a missing value.
+//! of an element and an attribute, the text, and the name of a missing value; and that of a record.
 
 use crate::report::Report;
-use interpolator::{Error, Escape, EscapeError, Interpolate, Values, Why, values};
+use interpolator::{Error, Escape, EscapeError, Interpolate, Template, Values, Why, values};
 use std::alloc::Global;
 
 /// An escape, a format, and the text or the fault, with `it's <b>` under `x`.
@@ -30,6 +30,15 @@ fn made(
     }
 }
 
+/// The text of a format of records; the empty text if it is none.
+fn recorded(alloc: Global, format: &str, row: &Values<'_>) -> Result<String, Error> {
+    let template = again!(Template::parse(alloc, format))?;
+    match template.as_record() {
+        Ok(record) => again!(record.format(alloc, row)),
+        Err(_) => Ok(String::new(alloc)),
+    }
+}
+
 pub fn run(report: &mut Report) {
     let alloc = report.alloc;
     let row = values!(x = "it's <b>");
@@ -47,4 +56,8 @@ pub fn run(report: &mut Report) {
         }
         _ => report.holds(format, false),
     }
+    let row = values!(x:debug_display = "it's <b>");
+    let format = "{x:?},\"{x:.4}\"\n";
+    let answer = recorded(alloc, format, &row);
+    report.made(format, ("\"it's <b>\",\"it's\"\n", ""), answer);
 }
