@@ -21,7 +21,7 @@ pub mod templates;
 pub mod visits;
 
 pub use interpolator::laws::{decimals, parts};
-pub use interpolator_escapes::laws as escape_laws;
+pub use interpolator_escapes::{laws as escape_laws, record_laws};
 pub use interpolator_eval::laws::{choices, meanings, names};
 pub use interpolator_syntax::laws::{
     arguments, clone_of_number_error, clone_of_parse_error, clones, groups, is_same_error,
