@@ -10,6 +10,7 @@ usage='usage: merge [--separator , | ; | tab] [--latin1] [--partial] [--html | -
 usage+='[--if-empty NAME=TEMPLATE] [--out NAMES] [--] TEMPLATE TABLE'
 out_of_place='this value is out of place; a value may stand'
 html_places='in text, or between the quotes of an attribute that is a text'
+csv_places='between double quotes, or under `?` as a whole field'
 next='and the next letter would begin there'
 stray='a stray quote: write the field in quotes, and double those in it'
 unclosed='a quote that is never closed'
@@ -19,7 +20,7 @@ wanted_number='wants a number, such as -7 or 12.50'
 greatest=170141183460469231731687303715884105727
 here=$(cd "$(dirname "$0")" && pwd)
 name=merge
-wanted=158
+wanted=169
 . "$here/../../.ci/cases.sh"
 
 # files TEMPLATE TABLE: what stands in the files `t` and `r`.
@@ -209,12 +210,37 @@ whole_cases() {
         '1 | ["{b:?}"]' '  |   ^')" '["{b:?}"]' --json
 }
 
+# Whole fields of CSV.
+field_cases() {
+    # as Python's csv reads the records: ['5" nail, steel', '2.50'], ['a\nb', '-7'] and ['', '0']
+    escaped --csv $'"5"" nail, steel",2.50\n"a\nb",-7\n"",0\n' $'{a:?},{n:?}\n' \
+        $'a,n:\n"5"" nail, steel",2.50\n"a\nb",-7\n,0\n'
+    escaped --csv $'"é","b"""," 1",NaN\r\n' $'{a:.1?},"{b:.2}","{n:2}",{x:?}\r\n' \
+        $'a,b,n:,x:~\né,"b""c",1,nan\n'
+    escaped --csv $'x,,""\nx,,"x"\n' $'x,,{a:?}\n' $'a\n\nx\n'
+    files $'{a:?},{b:?}\n' $'a,b\n,"x""y"\ny,"z,"\n'
+    printf '"none",{b:?}\n' >o
+    case_of file file 0 $'"none","x""y"\n"y","z,"\n' '' --csv --if-empty a=o t r
+    printf '"","{b:?}"\n' >o
+    case_of file file 0 $'"","""x\\""y"""\n"y","z,"\n' '' --csv --if-empty a=o t r
+    refusals_of 0 $'"","""x\\""y"""\n"y","z,"\n' '' --csv --if-empty a=o t r
+    misplaced "$(printf '%s\n' "t:1:7: $out_of_place $csv_places" '  |' '1 | {a:?},{b}' \
+        '  |       ^')" '{a:?},{b}' --csv
+    misplaced "$(printf '%s\n' "t:1:9: $out_of_place $csv_places" '  |' '1 | "{a:?}",{b:?}' \
+        '  |         ^')" '"{a:?}",{b:?}' --csv
+    printf '%s' '{b:?};' >o
+    misplaced "$(printf '%s\n' "o:1:1: $out_of_place $csv_places" '  |' '1 | {b:?};' \
+        '  | ^')" $'{a:?}\n' --csv --if-empty a=o
+    ending 'in a field' '{a:?},"' --csv
+    ending 'elsewhere than it began' '{a:?},{b:?}' --csv
+}
+
 place_cases() {
     misplaced "$(printf '%s\n' "t:1:10: $out_of_place $html_places" '  |' '1 | <p title={a}>' \
         '  |          ^')" '<p title={a}>' --html
     misplaced "$(printf '%s\n' "t:2:8: $out_of_place $html_places" '  |' '2 | {a} <i {b}>' \
         '  |        ^')" $'<p>\n{a} <i {b}>' --html --partial
-    misplaced "$(printf '%s\n' "t:1:7: $out_of_place between double quotes" '  |' '1 | "{a}",{b}' \
+    misplaced "$(printf '%s\n' "t:1:7: $out_of_place $csv_places" '  |' '1 | "{a}",{b}' \
         '  |       ^')" '"{a}",{b}' --csv
     misplaced "$(printf '%s\n' "t:1:7: $out_of_place in a string, or under \`?\` between strings" '  |' '1 | {{"n":{b}}}' \
         '  |       ^')" '{{"n":{b}}}' --json
@@ -224,7 +250,7 @@ place_cases() {
     misplaced "$(printf '%s\n' 't:1:7: specified value not in context `q` at 6' '  |' '1 | <a b={q}>' \
         '  |      ~^~' '  = did you mean `a`? names: `a`, `b`')" '<a b={q}>' --html
     files '{a}' $'a\n1\n'
-    refusals_of 1 '' "$(printf '%s\n' "t:1:1: $out_of_place between double quotes" '  |' '1 | {a}' \
+    refusals_of 1 '' "$(printf '%s\n' "t:1:1: $out_of_place $csv_places" '  |' '1 | {a}' \
         '  | ^')"$'\n' --csv t r
 }
 
@@ -402,6 +428,7 @@ all_cases() {
     other_template_cases
     escape_cases
     whole_cases
+    field_cases
     place_cases
     ending_cases
     partial_cases

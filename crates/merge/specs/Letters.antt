@@ -1,7 +1,8 @@
 -- What the letters of templates and a table are. Templates, table, lines and fields are bytes, and
 -- letters are characters.
 use Rattle.std.specs.Prelude.{◌≡◌, ◌≢◌, ◌⊎◌, ⊤, ℕ, Bool, false, true, List, [], ◌++◌, map}
-use Rattle.std.specs.Prelude.{None, Some, Option, Result, Ok, Err}
+use Rattle.std.specs.Prelude.{None, Some, Option, Result, Ok, Err, length, nat_lt}
+use Rattle.std.specs.Prelude.{if◌then◌else◌}
 use Rattle.std.specs.Borrow.{Bor}
 use Rattle.std.specs.Str.{chars}
 use Rattle.interpolator.specs.At.{outermost, text_of}
@@ -13,10 +14,16 @@ use Rattle.interpolator.specs.Prepared.Rows.{PreparedFormat, found_by_row, pair_
 use Rattle.interpolator.specs.Slots.{slots_of}
 use Rattle.interpolator.specs.Template.NodeSamples.{faults_over}
 use Rattle.interpolator.specs.Views.{Shown, shown_as_value}
+use Rattle.interpolator_escapes.specs.Fields.{record_shows}
 use Rattle.interpolator_escapes.specs.Formats.{escaped_shows}
 use Rattle.interpolator_escapes.specs.Placing.{EndsFor, FailsFor}
+use Rattle.interpolator_escapes.specs.RecordFormats.{after_record, record_answer}
+use Rattle.interpolator_escapes.specs.declared.ending.Ending.{Ending}
 use Rattle.interpolator_escapes.specs.declared.ending.Ending.TheVariants as endings
 use Rattle.interpolator_escapes.specs.declared.escape.Escape.{Escape}
+use Rattle.interpolator_escapes.specs.declared.escape.Escape.TheVariants.{Csv}
+use Rattle.interpolator_escapes.specs.declared.misplaced.PlaceError.{PlaceError}
+use Rattle.interpolator_escapes.specs.declared.misplaced.PlaceError.TheVariants as places
 use Rattle.interpolator.specs.declared.Error.{Error}
 use Rattle.interpolator.specs.declared.Formattable.{Formattable}
 use Rattle.interpolator.specs.declared.Spec.{Spec}
@@ -32,11 +39,14 @@ use Rattle.merge.specs.Values.{AreShown, as_value, example_slots, is_empty_at}
 use Rattle.merge.specs.declared.columns.Kind.{Kind}
 use Rattle.merge.specs.declared.templates.Fault.{Fault}
 use Rattle.merge.specs.declared.templates.Fault.TheVariants as why
+use Rattle.merge.specs.declared.templates.Form.{Form}
 use Rattle.merge.specs.declared.templates.Letters.{Letters}
 use Rattle.merge.specs.declared.templates.Templates.{Templates}
 use Rattle.merge.specs.declared.templates.Unfit.{Unfit}
 use Rattle.merge.specs.declared.templates.Unfit.TheVariants.{Misplaced, EndsInPlace}
 use Rattle.merge.specs.declared.templates.Unfit.TheVariants.{EndsElsewhere}
+use Rattle.merge.specs.declared.templates.Way.{Way}
+use Rattle.merge.specs.declared.templates.Way.TheVariants as ways
 use Rattle.merge.specs.declared.table.LineFault.{LineFault}
 use Rattle.merge.specs.declared.table.Trouble.{Trouble}
 
@@ -54,10 +64,11 @@ Sample = List (Bor (List ℕ) × Formattable View)
 abbrev pub view_shows : View → Trait → Spec → Shown
 view_shows view _ _ = shown_as_value view
 
--- the same in a letter: escaped, if that is asked for
-abbrev pub letter_shows : Option Escape → View → Trait → Spec → Shown
-letter_shows None = view_shows
-letter_shows (Some escape) = escaped_shows escape view_shows
+-- the same in a letter, by how its values are written
+abbrev pub letter_shows : Way → View → Trait → Spec → Shown
+letter_shows ways.Plain = view_shows
+letter_shows (ways.Escaped escape) = escaped_shows escape view_shows
+letter_shows ways.Record = record_shows view_shows
 
 -- a sample has these names, and under each an example of its column
 pub record HasNames (names : List (List ℕ)) (kinds : List Kind) (sample : Sample) : Type 0 where
@@ -67,46 +78,45 @@ pub record HasNames (names : List (List ℕ)) (kinds : List Kind) (sample : Samp
 -- ---- letters
 
 -- a template that is prepared for some names
-abbrev pub form_of : (template : List ℕ) → (names : List (List ℕ)) → PreparedFormat
-form_of template names = record { text = template; names = names }
+abbrev pub format_of : (template : List ℕ) → (names : List (List ℕ)) → PreparedFormat
+format_of template names = record { text = template; names = names }
 
 -- the template of a record: the other one, if its field in the column is empty
-abbrev pub form_by : Letters → (is_empty : Bool) → PreparedFormat
+abbrev pub form_by : Letters → (is_empty : Bool) → Form
 form_by letters true = letters.other
 form_by letters false = letters.letter
 
-abbrev pub form_in : Letters → (column : Option ℕ) → (fields : List (List ℕ)) → PreparedFormat
+abbrev pub form_in : Letters → (column : Option ℕ) → (fields : List (List ℕ)) → Form
 form_in letters None fields = letters.letter
 form_in letters (Some column) fields = form_by letters (is_empty_at column fields)
 
-abbrev pub form_for : Letters → (fields : List (List ℕ)) → PreparedFormat
+abbrev pub form_for : Letters → (fields : List (List ℕ)) → Form
 form_for letters fields = form_in letters letters.column fields
 
--- what a template means with a row of values, by the escape
-abbrev pub letter_means : Option Escape → PreparedFormat → Row → Meaning
-letter_means escape form row = means (letter_shows escape)
-    (environment (found_by_row form.names (row_at row))) (outermost (chars form.text))
+-- what a template means with a row of values, by how they are written
+abbrev pub letter_means : Way → PreparedFormat → Row → Meaning
+letter_means way format row = means (letter_shows way)
+    (environment (found_by_row format.names (row_at row))) (outermost (chars format.text))
 
 -- a text is the letter of some views: what the template means with them, without fault
-pub record IsLetterWith (escape : Option Escape) (form : PreparedFormat) (views : List View)
-    (letter : List ℕ) : Type 0 where
+pub record IsLetterWith (form : Form) (views : List View) (letter : List ℕ) : Type 0 where
   pub row : Row
   pub same_values : map slots_of row ≡ map as_value views
-  pub sound : (letter_means escape form row).fault ≡ None
-  pub said : letter ≡ text_of (letter_means escape form row).text
+  pub sound : (letter_means form.way form.format row).fault ≡ None
+  pub said : letter ≡ text_of (letter_means form.way form.format row).text
 
 -- a text is the letter of the fields of some columns
-pub record IsLetterOf (escape : Option Escape) (form : PreparedFormat) (kinds : List Kind)
-    (fields : List (List ℕ)) (letter : List ℕ) : Type 0 where
+pub record IsLetterOf (form : Form) (kinds : List Kind) (fields : List (List ℕ))
+    (letter : List ℕ) : Type 0 where
   pub views : List View
   pub shown : AreShown kinds fields views
-  pub is : IsLetterWith escape form views letter
+  pub is : IsLetterWith form views letter
 
 -- a text is the letter of a record, with which nothing is wrong
 abbrev pub IsLetter : Letters → List Kind → Entry → (letter : List ℕ) → Type 0
 IsLetter letters kinds (Ok (line, fields)) letter =
     HasTrouble kinds fields None
-    × IsLetterOf letters.escape (form_for letters fields) kinds fields letter
+    × IsLetterOf (form_for letters fields) kinds fields letter
 IsLetter letters kinds (Err fault) letter = ⊥
 
 -- a text is the letters of some records, one after the other
@@ -127,8 +137,8 @@ pub record IsReady (form : PreparedFormat) (kinds : List Kind) (sample : Sample)
 
 -- so it is with both templates
 pub record AreReady (letters : Letters) (kinds : List Kind) (sample : Sample) : Type 0 where
-  pub letter : IsReady letters.letter kinds sample
-  pub other : IsReady letters.other kinds sample
+  pub letter : IsReady letters.letter.format kinds sample
+  pub other : IsReady letters.other.format kinds sample
 
 -- errors are all faults that a template has with an example of each column, and there are some
 pub record HasFaults (form : PreparedFormat) (kinds : List Kind) (errors : List Error) : Type 0
@@ -151,47 +161,100 @@ LooksUp names name (Ok column) = IsChosen names name column
 LooksUp names name (Err fault) = (wanted : Bor (List ℕ)) × (name ≡ Some wanted)
     × (column_named names wanted.now ≡ None) × (fault ≡ why.NoColumn)
 
--- a template is fit for an escape: its values stand, and it ends as it began, so that the next
--- letter begins as this one did
-abbrev pub IsFit : Escape → (template : List ℕ) → Type 0
-IsFit escape template = EndsFor escape (outermost (chars template)) endings.Beginning
+-- what a check answers of a template that is not fit, for this reason
+abbrev pub unfit_answer : Unfit → Result Ending PlaceError
+unfit_answer (Misplaced found) = Err (places.Misplaced found)
+unfit_answer EndsInPlace = Ok endings.Place
+unfit_answer EndsElsewhere = Ok endings.Elsewhere
+
+-- what is answered of a template as a record of CSV
+abbrev pub as_record : (template : List ℕ) → Result Ending PlaceError
+as_record template = record_answer (after_record (outermost (chars template)))
+
+-- a template is fit for a way of writing: its values stand, and it ends as it began, so that the
+-- next letter begins as this one did
+abbrev pub IsFit : Way → (template : List ℕ) → Type 0
+IsFit ways.Plain template = ⊤
+IsFit (ways.Escaped escape) template =
+    EndsFor escape (outermost (chars template)) endings.Beginning
+IsFit ways.Record template = as_record template ≡ Ok endings.Beginning
 
 -- it is not: this value is the first that does not stand, or it ends elsewhere
-abbrev pub IsUnfit : Escape → (template : List ℕ) → Unfit → Type 0
-IsUnfit escape template (Misplaced found) = FailsFor escape (outermost (chars template)) found
-IsUnfit escape template EndsInPlace = EndsFor escape (outermost (chars template)) endings.Place
-IsUnfit escape template EndsElsewhere =
+abbrev pub IsUnfit : Way → (template : List ℕ) → Unfit → Type 0
+IsUnfit ways.Plain template unfit = ⊥
+IsUnfit (ways.Escaped escape) template (Misplaced found) =
+    FailsFor escape (outermost (chars template)) found
+IsUnfit (ways.Escaped escape) template EndsInPlace =
+    EndsFor escape (outermost (chars template)) endings.Place
+IsUnfit (ways.Escaped escape) template EndsElsewhere =
     EndsFor escape (outermost (chars template)) endings.Elsewhere
+IsUnfit ways.Record template unfit = as_record template ≡ unfit_answer unfit
 
--- so it is by the escape that is asked for, if one is
-abbrev pub IsPlaced : Option Escape → (template : List ℕ) → Type 0
-IsPlaced None template = ⊤
-IsPlaced (Some escape) template = IsFit escape template
+-- the byte at which a template is not fit; its end, if it ends elsewhere
+abbrev pub unfit_place : (template : List ℕ) → Unfit → ℕ
+unfit_place template (Misplaced found) = found.place
+unfit_place template _ = length template
 
+-- of two reasons the one whose place lies further on; at one place, the second
+abbrev pub further : (template : List ℕ) → (first second : Unfit) → Unfit
+further template first second =
+    if nat_lt (unfit_place template second) (unfit_place template first) then first else second
+
+-- how a template of CSV is written: as a record if it is fit for that, or else escaped
+abbrev pub IsCsvWay : (template : List ℕ) → Way → Type 0
+IsCsvWay template ways.Record = IsFit ways.Record template
+IsCsvWay template (ways.Escaped Csv) =
+    ((unfit : Unfit) × IsUnfit ways.Record template unfit) × IsFit (ways.Escaped Csv) template
+IsCsvWay template _ = ⊥
+
+-- it is fit for neither: of both reasons, the one further on
+abbrev pub IsUnfitForCsv : (template : List ℕ) → Unfit → Type 0
+IsUnfitForCsv template unfit = (first : Unfit) × (second : Unfit)
+    × IsUnfit ways.Record template first × IsUnfit (ways.Escaped Csv) template second
+    × (unfit ≡ further template first second)
+
+abbrev pub is_csv : Escape → Bool
+is_csv Csv = true
+is_csv _ = false
+
+-- how a template is written, if an escape is asked for, which is CSV or another
+abbrev pub IsWayBy : (is_csv : Bool) → Escape → (template : List ℕ) → Way → Type 0
+IsWayBy true escape template way = IsCsvWay template way
+IsWayBy false escape template way = (way ≡ ways.Escaped escape) × IsFit way template
+
+abbrev pub IsUnfitBy : (is_csv : Bool) → Escape → (template : List ℕ) → Unfit → Type 0
+IsUnfitBy true escape template unfit = IsUnfitForCsv template unfit
+IsUnfitBy false escape template unfit = IsUnfit (ways.Escaped escape) template unfit
+
+-- how a template is written, which is fit for that
+abbrev pub IsWay : Option Escape → (template : List ℕ) → Way → Type 0
+IsWay None template way = way ≡ ways.Plain
+IsWay (Some escape) template way = IsWayBy (is_csv escape) escape template way
+
+-- why it is not fit for the escape that is asked for
 abbrev pub IsMisplaced : Option Escape → (template : List ℕ) → Unfit → Type 0
-IsMisplaced None template found = ⊥
-IsMisplaced (Some escape) template found = IsUnfit escape template found
+IsMisplaced None template unfit = ⊥
+IsMisplaced (Some escape) template unfit = IsUnfitBy (is_csv escape) escape template unfit
 
--- both templates are, or one is not, or memory ran out
-abbrev pub ArePlaced : Option Escape → Templates → Result (Unit {0}) Fault → Type 0
-ArePlaced escape templates (Ok _) =
-    IsPlaced escape templates.letter.now × IsPlaced escape templates.other.now
-ArePlaced escape templates (Err (why.Unfit found)) =
-    IsMisplaced escape templates.letter.now found
-ArePlaced escape templates (Err (why.OtherUnfit found)) =
-    IsMisplaced escape templates.other.now found
-ArePlaced escape templates (Err why.Stopped) = ⊤
-ArePlaced escape templates (Err _) = ⊥
+-- both templates are written so, or one is not fit, or memory ran out
+abbrev pub ArePlaced : Templates → Result (Way × Way) Fault → Type 0
+ArePlaced templates (Ok both) = IsWay templates.escape templates.letter.now both.0
+    × IsWay templates.escape templates.other.now both.1
+ArePlaced templates (Err (why.Unfit unfit)) =
+    IsMisplaced templates.escape templates.letter.now unfit
+ArePlaced templates (Err (why.OtherUnfit unfit)) =
+    IsMisplaced templates.escape templates.other.now unfit
+ArePlaced templates (Err why.Stopped) = ⊤
+ArePlaced templates (Err _) = ⊥
 
 -- templates are prepared for columns of these names
 pub record ArePrepared (templates : Templates) (names : List (List ℕ)) (letters : Letters) : Type 0
   where
-    pub same_letter : letters.letter ≡ form_of templates.letter.now names
-    pub same_other : letters.other ≡ form_of templates.other.now names
+    pub same_letter : letters.letter.format ≡ format_of templates.letter.now names
+    pub same_other : letters.other.format ≡ format_of templates.other.now names
     pub chosen : IsChosen names templates.column letters.column
-    pub same_escape : letters.escape ≡ templates.escape
-    pub letter_placed : IsPlaced templates.escape templates.letter.now
-    pub other_placed : IsPlaced templates.escape templates.other.now
+    pub letter_way : IsWay templates.escape templates.letter.now letters.letter.way
+    pub other_way : IsWay templates.escape templates.other.now letters.other.way
 
 -- why templates are not: no column has the name that is asked for, a template has these faults, it
 -- is not fit for the escape, or memory ran out
@@ -199,13 +262,13 @@ abbrev pub Spoils : Templates → (names : List (List ℕ)) → List Kind → Fa
 Spoils templates names kinds why.NoColumn = (name : Bor (List ℕ))
     × (templates.column ≡ Some name) × (column_named names name.now ≡ None)
 Spoils templates names kinds (why.Template errors) =
-    HasFaults (form_of templates.letter.now names) kinds errors.items
+    HasFaults (format_of templates.letter.now names) kinds errors.items
 Spoils templates names kinds (why.Other errors) =
-    HasFaults (form_of templates.other.now names) kinds errors.items
-Spoils templates names kinds (why.Unfit found) =
-    IsMisplaced templates.escape templates.letter.now found
-Spoils templates names kinds (why.OtherUnfit found) =
-    IsMisplaced templates.escape templates.other.now found
+    HasFaults (format_of templates.other.now names) kinds errors.items
+Spoils templates names kinds (why.Unfit unfit) =
+    IsMisplaced templates.escape templates.letter.now unfit
+Spoils templates names kinds (why.OtherUnfit unfit) =
+    IsMisplaced templates.escape templates.other.now unfit
 Spoils templates names kinds (why.Table told) = ⊥
 Spoils templates names kinds why.Stopped = ⊤
 
@@ -219,10 +282,9 @@ Prepares templates names kinds sample (Err fault) = Spoils templates names kinds
 -- ---- what is written
 
 -- a letter is appended to a text
-abbrev pub PutsLetter : Option Escape → PreparedFormat → (views : List View)
-    → (old new : List ℕ) → Type 0
-PutsLetter escape form views old new =
-    (letter : List ℕ) × IsLetterWith escape form views letter × (new ≡ old ++ letter)
+abbrev pub PutsLetter : Form → (views : List View) → (old new : List ℕ) → Type 0
+PutsLetter form views old new =
+    (letter : List ℕ) × IsLetterWith form views letter × (new ≡ old ++ letter)
 
 -- the letter of fields is appended to a text, if it is asked for and nothing is wrong with them
 abbrev pub PutsIf : Letters → List Kind → (writes : Bool) → (fields : List (List ℕ))
@@ -230,7 +292,7 @@ abbrev pub PutsIf : Letters → List Kind → (writes : Bool) → (fields : List
 PutsIf letters kinds writes fields old new (Some trouble) = new ≡ old
 PutsIf letters kinds false fields old new None = new ≡ old
 PutsIf letters kinds true fields old new None = (letter : List ℕ)
-    × IsLetterOf letters.escape (form_for letters fields) kinds fields letter
+    × IsLetterOf (form_for letters fields) kinds fields letter
     × (new ≡ old ++ letter)
 
 -- what is told of a record is appended to what was found; and, if that is asked for and nothing was

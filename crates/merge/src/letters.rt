@@ -9,6 +9,7 @@ ghost use Rattle.interpolator.specs.Meaning.Environments.{environment};
 ghost use Rattle.interpolator.specs.Meaning.Meanings.{means};
 ghost use Rattle.interpolator.specs.Meaning.Outcomes.{Outcome};
 ghost use Rattle.interpolator.specs.Prepared.Rows.{found_by_row, row_at};
+ghost use Rattle.interpolator_escapes.specs.Fields.{record_shows};
 ghost use Rattle.interpolator_escapes.specs.Formats.{escaped_shows};
 ghost use Rattle.merge.specs.Columns.{kinds_in, names_in};
 ghost use Rattle.merge.specs.Letters.{AreReady, IsOneFault, IsReady};
@@ -23,10 +24,12 @@ use crate::columns::columns_of;
 use crate::table::{
     LineFault, Trouble, count_trouble, goes_on, is_clean, push_broken, push_fault, repeats_of,
 };
-use crate::templates::{Fault, Frame, Letters, Templates, prepared_letters, sample_of};
+use crate::templates::{Fault, Form, Frame, Letters, Templates, Way, prepared_letters, sample_of};
 use crate::values::{row_of, views_of};
 use interpolator::{Error, Escape, Pairs, Prepared, Row, TextWrite, Value, View};
-use interpolator_escapes::{CsvEscaper, HtmlEscaper, JsonEscaper, LineEscaper, ShellEscaper};
+use interpolator_escapes::{
+    CsvEscaper, HtmlEscaper, JsonEscaper, LineEscaper, RecordEscaper, ShellEscaper,
+};
 use interpolator_laws::prepared::a_prepared_format_is_written;
 use interpolator_laws::samples::a_view_has_a_text_by_its_kind;
 use records::laws::a_table_is_read_in_one_way;
@@ -56,29 +59,48 @@ fn write_escaped<W: TextWrite, V: Value>(
     }
 }
 
+/// Writes what a template means with a row, each value under `?` as a whole field of CSV, and any
+/// other escaped.
+fn write_whole_fields<W: TextWrite, V: Value>(
+    alloc: Global,
+    out: &mut W,
+    letter: &Prepared,
+    row: &Row<'_, V>,
+) -> Result<(), Error>
+    ensures { Outcome
+        (means (record_shows V.shows)
+        (environment (found_by_row letter.now.names (row_at row.now.0.now)))
+        (outermost (chars letter.now.text)))
+        (W.written out.old) (W.written out.new) (result_answer result) }
+{
+    letter.write_by::<W, Row<'_, V>, RecordEscaper>(alloc, out, row)
+}
+
 /// Writes the letter of a record with these views, one for each column.
 fn write_letter<W: TextWrite>(
     alloc: Global,
     out: &mut W,
-    escape: Option<Escape>,
-    letter: &Prepared,
+    letter: &Form,
     frame: Frame<'_>,
     views: &[View<'_>],
 ) -> Result<(), Error>
-    requires ready { IsReady letter.now (kinds_in frame.columns.now) frame.sample.now }
+    requires ready { IsReady letter.now.format (kinds_in frame.columns.now) frame.sample.now }
     requires shown { (fields : List (List ℕ)) × AreShown (kinds_in frame.columns.now) fields
         views.now }
-    ensures { OnOk result (PutsLetter escape letter.now views.now (W.written out.old).text
+    ensures { OnOk result (PutsLetter letter.now views.now (W.written out.old).text
         (W.written out.new).text) }
 {
     let held = row_of(alloc, views)?;
     let row = Row(held.as_slice());
-    if let Some(escape) = escape {
-        return write_escaped(alloc, out, escape, letter, &row);
+    match letter.way {
+        Way::Plain => {
+            a_view_has_a_text_by_its_kind();
+            let sample = Pairs(frame.sample);
+            a_prepared_format_is_written(alloc, out, &letter.format, &sample, &row)
+        }
+        Way::Escaped(escape) => write_escaped(alloc, out, escape, &letter.format, &row),
+        Way::Record => write_whole_fields(alloc, out, &letter.format, &row),
     }
-    a_view_has_a_text_by_its_kind();
-    let sample = Pairs(frame.sample);
-    a_prepared_format_is_written(alloc, out, letter, &sample, &row)
 }
 
 /// Writes the letter of a record with these fields, one for each column, if it is asked to, or
@@ -105,7 +127,7 @@ fn write_fields<W: TextWrite>(
         Ok(views) => {
             if writes {
                 let letter = letters.letter_of(fields);
-                write_letter(alloc, out, letters.escape, letter, frame, views.as_slice())?;
+                write_letter(alloc, out, letter, frame, views.as_slice())?;
                 return Ok(None);
             }
             Ok(None)

@@ -21,9 +21,11 @@
 //!
 //! With `--html`, `--csv` or `--json`, of which one may be given, once, values are written
 //! escaped: as in the text and the attributes of a page, in the quoted fields of a table, or in
-//! the strings of JSON, where `{name:?}` between strings is a whole value, with its quotes if it is a
-//! text. Each value of a template has to stand in such a place, and a template has to
-//! end as it began, so that the next letter begins as this one did: one of CSV ends with a newline.
+//! the strings of JSON. In a table `{name:?}` is a whole field, and in JSON between strings a whole
+//! value, with its quotes if it is a text. Each value of a template has to stand in such a place,
+//! and a template has to end as it began, so that the next letter begins as this one did: one of
+//! CSV ends with a newline. One of CSV has `{name:?}` as whole fields alone, or else between quotes
+//! alone, where it is the text that debug shows, escaped.
 //!
 //! Templates are checked with the columns before the first letter, and all faults of the first
 //! that has any are shown in their lines, as a compiler does; else the first value that is out of
@@ -82,7 +84,8 @@ usage: merge [FLAG..] [--] TEMPLATE TABLE
   --help                     print this
 
 The first line of the table names its columns; `price:` names a column of numbers, `price`, and
-`x:~` one of floats, `x`. With --json, `{x:?}` is a whole value: a number, or a text with quotes.
+`x:~` one of floats, `x`. With --csv, `{x:?}` is a whole field, and with --json a whole value: a
+number, or a text with quotes.
 
 example: with `Dear {name}, {item} costs {price:.2}.` in letter.txt, and in people.csv
   name,item,price:

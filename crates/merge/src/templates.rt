@@ -5,9 +5,12 @@ ghost use Rattle.interpolator.specs.Prepared.Rows.{pair_names};
 ghost use Rattle.interpolator.specs.Slots.{slots_of};
 ghost use Rattle.merge.specs.Columns.{kinds_in, names_in};
 ghost use Rattle.merge.specs.Letters.{ArePlaced, HasFaults, HasNames, IsReady, IsUnfit, LooksUp};
-ghost use Rattle.merge.specs.Letters.{IsFit, Prepares, form_by, form_for, form_of};
+ghost use Rattle.merge.specs.Letters.{IsCsvWay, IsFit, IsMisplaced, IsUnfitForCsv, IsWay, Prepares};
+ghost use Rattle.merge.specs.Letters.{form_by, form_for, format_of, further, is_csv, unfit_place};
 ghost use Rattle.merge.specs.Values.{example_by, is_empty_at};
 ghost use Rattle.merge.specs.declared.templates.Fault.TheVariants.{Stopped};
+ghost use Rattle.merge.specs.declared.templates.Way.TheVariants as ways;
+ghost use Rattle.interpolator_escapes.specs.declared.escape.Escape.TheVariants.{Csv};
 ghost use Rattle.records.specs.Spellings.{text_of};
 
 use crate::columns::{Column, column_named};
@@ -16,9 +19,20 @@ use crate::values::{example_of, is_empty_at};
 use interpolator::{
     Error, Escape, Formattable, Interpolate, Misplaced, Pairs, PlaceError, Prepared, Template, View,
 };
-use interpolator_escapes::{Ending, check_format};
+use interpolator_escapes::{Ending, check_format, check_record};
 use records::Field;
 use std::alloc::{AllocError, Global};
+
+/// How the values of a template are written.
+#[derive(Clone, Copy)]
+pub enum Way {
+    /// As they are.
+    Plain,
+    /// Escaped.
+    Escaped(Escape),
+    /// As records of CSV have them: under `?` as whole fields, and else escaped between quotes.
+    Record,
+}
 
 /// Why a template is not fit for letters whose values are escaped.
 #[derive(Clone, Copy)]
@@ -75,7 +89,7 @@ pub struct Templates<'a> {
     pub other: &'a str,
     /// The name of this column; without it, `other` is for no record.
     pub column: Option<&'a str>,
-    /// How values are escaped, if they are.
+    /// How values are to be escaped, if they are.
     pub escape: Option<Escape>,
 }
 
@@ -91,14 +105,19 @@ impl<'a> Templates<'a> {
     }
 }
 
+/// A template, prepared for the columns of a table, and how its values are written.
+#[derive(Drop)]
+pub struct Form {
+    pub format: Prepared,
+    pub way: Way,
+}
+
 /// The templates, prepared for the columns of a table.
 #[derive(Drop)]
 pub struct Letters {
-    letter: Prepared,
-    other: Prepared,
+    letter: Form,
+    other: Form,
     column: Option<usize>,
-    /// How values are escaped, if they are.
-    pub escape: Option<Escape>,
 }
 
 /// The columns of a table, and an example value of each under its name.
@@ -135,9 +154,9 @@ fn prepared_letter(
     requires { HasNames (names_in frame.columns.now) (kinds_in frame.columns.now)
         frame.sample.now }
     ensures { IfOk result (λ made. MatchResult made
-        (λ letter. (letter ≡ form_of text.now (names_in frame.entry.columns.now))
+        (λ letter. (letter ≡ format_of text.now (names_in frame.entry.columns.now))
         × IsReady letter (kinds_in frame.entry.columns.now) frame.entry.sample.now)
-        (λ faults. HasFaults (form_of text.now (names_in frame.entry.columns.now))
+        (λ faults. HasFaults (format_of text.now (names_in frame.entry.columns.now))
         (kinds_in frame.entry.columns.now) faults.items)) }
 {
     let template = Template::parse(alloc, text)?;
@@ -164,8 +183,8 @@ fn chosen_column(columns: &[Column<'_>], name: Option<&str>) -> Result<Option<us
 
 /// Why a template is not fit for letters whose values are escaped, if it is not.
 fn unfit_for(alloc: Global, escape: Escape, text: &str) -> Result<Option<Unfit>, Error>
-    ensures { IfOk result (λ found.
-        MatchOption found (IsFit escape text.now) (IsUnfit escape text.now)) }
+    ensures { IfOk result (λ found. MatchOption found
+        (IsFit (ways.Escaped escape) text.now) (IsUnfit (ways.Escaped escape) text.now)) }
 {
     match check_format(alloc, escape, text) {
         Ok(Ending::Beginning) => Ok(None),
@@ -176,20 +195,95 @@ fn unfit_for(alloc: Global, escape: Escape, text: &str) -> Result<Option<Unfit>,
     }
 }
 
-/// Checks that the templates are fit for the escape, if one is asked for.
-fn check_places(alloc: Global, templates: Templates<'_>) -> Result<(), Fault>
-    ensures { ArePlaced templates.entry.escape templates.entry result }
+/// Why a template is not fit for letters that are records of CSV, if it is not.
+fn unfit_as_record(alloc: Global, text: &str) -> Result<Option<Unfit>, Error>
+    ensures { IfOk result (λ found.
+        MatchOption found (IsFit ways.Record text.now) (IsUnfit ways.Record text.now)) }
 {
-    let Some(escape) = templates.escape else {
-        return Ok(());
+    match check_record(alloc, text) {
+        Ok(Ending::Beginning) => Ok(None),
+        Ok(Ending::Place) => Ok(Some(Unfit::EndsInPlace)),
+        Ok(Ending::Elsewhere) => Ok(Some(Unfit::EndsElsewhere)),
+        Err(PlaceError::Misplaced(misplaced)) => Ok(Some(Unfit::Misplaced(misplaced))),
+        Err(PlaceError::NoMemory) => Err(Error::NoMemory),
+    }
+}
+
+/// The byte at which a template is not fit; its end, if it ends elsewhere.
+fn unfit_place(text: &str, unfit: Unfit) -> usize
+    ensures { result ≡ unfit_place text.now unfit }
+{
+    match unfit {
+        Unfit::Misplaced(misplaced) => misplaced.place,
+        Unfit::EndsInPlace => text.len(),
+        Unfit::EndsElsewhere => text.len(),
+    }
+}
+
+/// Of two reasons the one whose place lies further on; at one place, the second.
+fn further(text: &str, first: Unfit, second: Unfit) -> Unfit
+    ensures { result ≡ further text.now first second }
+{
+    if unfit_place(text, second) < unfit_place(text, first) {
+        return first;
+    }
+    second
+}
+
+/// How a template of CSV is written: as a record, if it is fit for that; else escaped, if it is fit
+/// for that. If it is for neither, the reason that lies further on tells what was meant.
+fn csv_way(alloc: Global, text: &str) -> Result<Result<Way, Unfit>, Error>
+    ensures { IfOk result (λ made. MatchResult made (IsCsvWay text.now) (IsUnfitForCsv text.now)) }
+{
+    let Some(first) = unfit_as_record(alloc, text)? else {
+        return Ok(Ok(Way::Record));
     };
-    if let Some(unfit) = unfit_for(alloc, escape, templates.letter)? {
-        return Err(Fault::Unfit(unfit));
+    let Some(second) = unfit_for(alloc, Escape::Csv, text)? else {
+        return Ok(Ok(Way::Escaped(Escape::Csv)));
+    };
+    Ok(Err(further(text, first, second)))
+}
+
+/// Tests for [`Escape::Csv`].
+fn is_csv(escape: Escape) -> bool
+    ensures { result ≡ is_csv escape }
+{
+    match escape {
+        Escape::Csv => true,
+        _ => false,
     }
-    if let Some(unfit) = unfit_for(alloc, escape, templates.other)? {
-        return Err(Fault::OtherUnfit(unfit));
+}
+
+/// How a template is written, or why it is not fit for the escape, if one is asked for.
+fn way_for(alloc: Global, escape: Option<Escape>, text: &str) -> Result<Result<Way, Unfit>, Error>
+    ensures { IfOk result (λ made.
+        MatchResult made (IsWay escape text.now) (IsMisplaced escape text.now)) }
+{
+    let Some(escape) = escape else {
+        return Ok(Ok(Way::Plain));
+    };
+    if is_csv(escape) {
+        return csv_way(alloc, text);
     }
-    Ok(())
+    match unfit_for(alloc, escape, text)? {
+        Some(unfit) => Ok(Err(unfit)),
+        None => Ok(Ok(Way::Escaped(escape))),
+    }
+}
+
+/// How both templates are written, if they are fit for the escape, if one is asked for.
+fn ways_of(alloc: Global, templates: Templates<'_>) -> Result<(Way, Way), Fault>
+    ensures { ArePlaced templates.entry result }
+{
+    let letter = match way_for(alloc, templates.escape, templates.letter)? {
+        Ok(way) => way,
+        Err(unfit) => return Err(Fault::Unfit(unfit)),
+    };
+    let other = match way_for(alloc, templates.escape, templates.other)? {
+        Ok(way) => way,
+        Err(unfit) => return Err(Fault::OtherUnfit(unfit)),
+    };
+    Ok((letter, other))
 }
 
 /// Prepares the templates.
@@ -212,18 +306,23 @@ pub fn prepared_letters(
         Ok(other) => other,
         Err(faults) => return Err(Fault::Other(faults)),
     };
-    check_places(alloc, templates)?;
+    let (letter_way, other_way) = ways_of(alloc, templates)?;
     Ok(Letters {
-        letter,
-        other,
+        letter: Form {
+            format: letter,
+            way: letter_way,
+        },
+        other: Form {
+            format: other,
+            way: other_way,
+        },
         column,
-        escape: templates.escape,
     })
 }
 
 impl Letters {
     /// The template of a record with these fields.
-    pub fn letter_of(&self, fields: &[Field<'_>]) -> &Prepared
+    pub fn letter_of(&self, fields: &[Field<'_>]) -> &Form
         ensures { result.now ≡ form_for self.now (map text_of fields.now) }
     {
         match self.column {
@@ -233,7 +332,7 @@ impl Letters {
     }
 
     /// The template of a record with these fields, by that in a column.
-    fn letter_by(&self, fields: &[Field<'_>], column: usize) -> &Prepared
+    fn letter_by(&self, fields: &[Field<'_>], column: usize) -> &Form
         ensures { result.now
             ≡ form_by self.now (is_empty_at column (map text_of fields.now)) }
     {

@@ -132,6 +132,14 @@ fn place_of(escape: Escape) -> &'static str {
     }
 }
 
+/// Where a value of an escape may stand.
+fn all_places_of(escape: Escape) -> &'static str {
+    match escape {
+        Escape::Csv => "between double quotes, or under `?` as a whole field",
+        _ => places_of(escape),
+    }
+}
+
 /// Why a template is not fit for an escape, shown in its line.
 fn told_unfit(
     alloc: Global,
@@ -142,7 +150,7 @@ fn told_unfit(
 ) -> Result<String, Error> {
     match unfit {
         Unfit::Misplaced(misplaced) => {
-            let places = places_of(escape);
+            let places = all_places_of(escape);
             let why = format!(in alloc; "{}; a value may stand {places}", misplaced.why)?;
             told_at(alloc, name, text, misplaced.place, why.as_str())
         }
