@@ -13,7 +13,7 @@ use Rattle.catalogue.specs.Declarations.{Declared, nothing, these, broken, has}
 use Rattle.catalogue.specs.Examples.{faults_of}
 use Rattle.catalogue.specs.Files.{Line, Page, lines_of}
 use Rattle.catalogue.specs.Formats.{format_of, line_of_spot, spot_in, told_of_place, written_of}
-use Rattle.catalogue.specs.Forms.{first_given}
+use Rattle.catalogue.specs.Forms.{Chosen, first_given}
 use Rattle.catalogue.specs.Keys.{IsNew, told_of_key, with_key}
 use Rattle.catalogue.specs.Lines.{declared_of, has_message, head_of, is_passed_over, key_of}
 use Rattle.catalogue.specs.Lines.{key_with, opens}
@@ -168,7 +168,7 @@ is_it one known e sound = let same : one ≡ known = cc in subst IsSoundFound sa
 
 -- what is found of a format is, if the format is
 by_format : (line : Line) (key : List ℕ) (declared : Declared) (format : Result (List ℕ) ℕ)
-    (wanted : List ℕ × Option (List ℕ)) (known : Known)
+    (wanted : Chosen) (known : Known)
     → found_by line key declared format wanted ≡ Some known
     → ((text : List ℕ) → format ≡ Ok text → IsSoundOver declared text) → IsSoundFound known
 by_format line key declared (Err place) wanted known e sound = absurd (cc)
@@ -176,7 +176,7 @@ by_format line key declared (Ok text) wanted known e sound =
     by_test (bytes_eq key wanted.0) _ known e (λ same this. is_it _ known this (sound text refl))
 
 -- so is a line that is found
-sound_found : (wanted : List ℕ × Option (List ℕ)) (line : Line) (keys : List (ℕ × List ℕ))
+sound_found : (wanted : Chosen) (line : Line) (keys : List (ℕ × List ℕ))
     (is_open : Bool) (known : Known) → IsSound keys is_open line
     → line_for wanted line ≡ Some known → IsSoundFound known
 sound_found wanted line keys is_open known sound e =
@@ -192,7 +192,7 @@ by_first : (one rest : Option Known) (known : Known) → option_or one rest ≡ 
 by_first None rest known e here next = next e
 by_first (Some one) rest known e here next = here e
 
-sound_lines : (wanted : List ℕ × Option (List ℕ)) (keys : List (ℕ × List ℕ)) (is_open : Bool)
+sound_lines : (wanted : Chosen) (keys : List (ℕ × List ℕ)) (is_open : Bool)
     (ls : List Line) (known : Known) → AreSound keys is_open ls
     → first_given (line_for wanted) ls ≡ Some known → IsSoundFound known
 sound_lines wanted keys is_open [] known sound e = absurd (cc)
