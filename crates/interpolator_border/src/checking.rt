@@ -160,10 +160,7 @@ fn check_text(alloc: Global, format: &[u8]) -> Result<(), Failure>
     let Some(text) = text_of(format) else {
         return Err(Failure::NotUtf8);
     };
-    match Template::parse(alloc, text) {
-        Ok(template) => failing(template.check()),
-        Err(error) => Err(Failure::Fault(error)),
-    }
+    failing(interpolator::check(alloc, text))
 }
 
 /// The first fault that a format has by itself, whatever the values are.

@@ -10,6 +10,7 @@ pub mod MovedLemmas
 pub mod OutcomeLemmas
 pub mod PlaceLemmas
 pub mod PlacedLemmas
+pub mod PlainItemLemmas
 pub mod SampleLemmas
 pub mod ScanLemmas
 pub mod SinkLemmas

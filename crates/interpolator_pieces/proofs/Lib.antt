@@ -20,5 +20,7 @@ mod DepthLemmas
 mod ListTextLemmas
 mod ParseLemmas
 mod PartLemmas
+mod PlainPieceLemmas
+mod TextCheckLemmas
 mod WalkLemmas
 mod WithinLemmas

@@ -19,7 +19,6 @@ use Rattle.interpolator_syntax.specs.declared.range.Range.{Range}
 use Rattle.interpolator_eval.specs.Meaning.Environments.{Environment}
 use Rattle.interpolator_eval.specs.Meaning.Meanings.{Meaning, and_closed, forest_means}
 use Rattle.interpolator_eval.specs.Meaning.Outcomes.{Outcome}
-use Rattle.interpolator_eval.specs.Meaning.Sinks.{Writes}
 use Rattle.interpolator_syntax.specs.Nodes.{Content, text_content, argument_content, fault_content}
 use Rattle.interpolator_syntax.specs.Nodes.{no_nodes, Target, target_value, target_list, as_forest}
 use Rattle.interpolator_syntax.specs.Nodes.{nodes}
@@ -30,7 +29,6 @@ use Rattle.interpolator_pieces.specs.StoredLists.{begins_list, is_list_form, sto
 use Rattle.interpolator_pieces.specs.StoredLists.{stored_rest}
 use Rattle.interpolator_pieces.specs.StoredMeanings.{stored_part, stored_name, unclosed_fault_of}
 use Rattle.interpolator_pieces.specs.StoredMeanings.{stored_pieces_mean}
-use Rattle.interpolator_eval.specs.declared.evaluate.sink.Sink.{Sink}
 use Rattle.interpolator_pieces.specs.declared.piece.Form.TheVariants as forms
 use Rattle.interpolator_pieces.specs.declared.piece.Piece.{Piece}
 use Rattle.interpolator_pieces.specs.declared.piece.Piece.TheViews.{out-Piece}
@@ -144,16 +142,15 @@ first_piece bs xs x listed is whole = grind (arith, both, list_fits, fits_text)
 
 -- ---- the outcome of an argument
 
-module _ {W : Type 0} (into : W → Written) (m : Meaning) (s t : Sink W) (end : ℕ)
-    (kind : PieceKind) where
+module _ (m : Meaning) (s t : Written) (end : ℕ) (kind : PieceKind) where
   -- after a fault it does not matter whether the argument is closed
-  pub closed_fault : (q : Answer) → Writes into m s t (Some q)
-      → Writes into (and_closed kind end m) s t (Some q)
+  pub closed_fault : (q : Answer) → Outcome m s t (Some q)
+      → Outcome (and_closed kind end m) s t (Some q)
   closed_fault q o = grind (arith, fault_first)
 
   -- if all was written, a closed argument adds nothing, and an unclosed one its fault
   pub closed_done : (r : Option Answer) → r ≡ option_map fault (unclosed_fault_of kind end)
-      → Writes into m s t None → Writes into (and_closed kind end m) s t r
+      → Outcome m s t None → Outcome (and_closed kind end m) s t r
   closed_done r told o = grind (arith, and_then, ended)
 
 -- ---- the pieces of a whole text

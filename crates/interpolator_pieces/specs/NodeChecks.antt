@@ -1,12 +1,13 @@
 -- The faults that a format has by itself, whatever its context.
 use Rattle.std.specs.Prelude.{◌≡◌, ◌⊎◌, ℕ, List, [], ◌∷◌, ◌++◌, Option, Some, None}
-use Rattle.std.specs.Prelude.{if◌then◌else◌}
+use Rattle.std.specs.Prelude.{codes, if◌then◌else◌}
 use Rattle.interpolator_syntax.specs.At.{At}
 use Rattle.interpolator_syntax.specs.ArgumentFaults.{IsArgumentFault}
-use Rattle.interpolator_syntax.specs.Faults.{Fault, parse, iter}
+use Rattle.interpolator_syntax.specs.Faults.{Fault, expected, parse, iter}
 use Rattle.interpolator_eval.specs.Meaning.Meanings.{forbids_list}
 use Rattle.interpolator_syntax.specs.Nodes.{Node, node, Branch, no_branch, branch, as_forest}
-use Rattle.interpolator_syntax.specs.Nodes.{Forest, no_nodes, nodes_and, nodes}
+use Rattle.interpolator_syntax.specs.Lists.{ListRequest}
+use Rattle.interpolator_syntax.specs.Nodes.{Forest, group_branch, no_nodes, nodes_and, nodes}
 use Rattle.interpolator_syntax.specs.Nodes.{Content, text_content, argument_content, fault_content, target_value, target_list}
 use Rattle.interpolator_pieces.specs.Stored.{detail_of}
 use Rattle.interpolator_pieces.specs.StoredMeanings.{unclosed_fault_of}
@@ -94,6 +95,19 @@ visit_faults (enter level (node place end kind (Some content) item join)) =
 visit_faults (leave level (node place end kind (Some content) item join)) =
     fault_list (end_fault kind content)
 visit_faults _ = []
+
+-- ---- of an argument that is read
+
+-- that the brace after its spec is missing, which ends at `end`; none if it is there
+abbrev pub brace_faults : (end : ℕ) → (after : Option At) → List Fault
+brace_faults end None = parse (expected (codes "}") end) ∷ []
+brace_faults end (Some after) = []
+
+-- those of a list, but for that
+abbrev pub list_faults : Spec → (end : ℕ) → ListRequest → List Fault
+list_faults spec end l =
+    fault_list (if forbids_list spec then Some (parse (iter end)) else None)
+    ++ (branch_faults (group_branch nodes l.item) ++ branch_faults (group_branch nodes l.join))
 
 -- a fault of the kinds that a text has by itself
 abbrev pub IsOfText : Fault → Type 0

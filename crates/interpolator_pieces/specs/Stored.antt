@@ -88,6 +88,11 @@ bare_detail place end kind = record {
   form = bare_form kind;
 }
 
+-- it has neither a detail nor groups
+abbrev pub StandsAlone : Piece → Type 0
+StandsAlone x =
+    ((out-Piece x).detail ≡ None) × ((out-Piece x).item ≡ None) × ((out-Piece x).join ≡ None)
+
 -- ---- a piece
 
 -- the detail that is stored, or the bare one

@@ -1,13 +1,13 @@
 //! The functions that write a format, write its pieces, and check it.
 
-ghost use Rattle.std.specs.Prelude.{◌≡◌, ◌+◌, ◌<◌, ◌≤◌, ◌⊎◌, [], false, length, IfOk, Some};
+ghost use Rattle.std.specs.Prelude.{◌≡◌, ◌+◌, ◌<◌, ◌≤◌, [], false, length, IfOk, Some};
 ghost use Rattle.std.specs.Prelude.{min, option_map};
 ghost use Rattle.std.specs.Str.{chars};
 ghost use Rattle.interpolator_syntax.specs.At.{outermost};
 ghost use Rattle.interpolator_eval.specs.Escaping.{shows_by};
 ghost use Rattle.interpolator_eval.specs.Meaning.AskedNames.{asked_names};
 ghost use Rattle.interpolator_eval.specs.Meaning.Environments.{environment, cut};
-ghost use Rattle.interpolator_syntax.specs.Faults.{result_answer, fault, no_memory, PlaceWithin};
+ghost use Rattle.interpolator_syntax.specs.Faults.{result_answer, fault, PlaceWithin};
 ghost use Rattle.interpolator_eval.specs.Meaning.Limits.{IsWithin};
 ghost use Rattle.interpolator_eval.specs.Meaning.Meanings.{means};
 ghost use Rattle.interpolator_eval.specs.Meaning.Outcomes.{Outcome};
@@ -20,11 +20,9 @@ ghost use Rattle.interpolator_syntax.specs.Nodes.{nodes};
 ghost use Rattle.interpolator_pieces.specs.Stored.{nodes_of};
 ghost use Rattle.interpolator_render.specs.Written.{as_writer, plain};
 
-use crate::checks::Check;
-use crate::parse::parse_pieces;
 use crate::piece::Piece;
 use crate::stored_source::Stored;
-use crate::walk::walk_text;
+use crate::text_check::check_text;
 use interpolator_eval::{
     Context, Environment, Escaper, FormatSource, PieceCount, Sink, Unescaped, write_source,
     write_uncounted,
@@ -251,24 +249,21 @@ pub fn format_pieces<C: Context, E: Escaper>(
 ///
 /// # Errors
 ///
-/// `Parse` and `UnsupportedOption`, each at its place in the text; and `NoMemory` if there is no
-/// memory for the pieces of the format.
+/// `Parse` and `UnsupportedOption`, each at its place in the text. It takes no memory.
 ///
 /// # Example
 ///
 /// ```text
 /// check(alloc, "{a:i({z)}{b")?    // Err(Parse(FormatSpecUnclosed(6)))
 /// ```
-pub fn check(alloc: Global, text: &str) -> Result<(), Error>
-    ensures first { (result_answer result
-        ≡ option_map fault (first_fault (text_faults (outermost (chars text.now)))))
-        ⊎ (result_answer result ≡ Some no_memory) }
+pub fn check(_alloc: Global, text: &str) -> Result<(), Error>
+    ensures first { result_answer result
+        ≡ option_map fault (first_fault (text_faults (outermost (chars text.now)))) }
     ensures place { PlaceWithin (length text.now) (result_answer result) }
 {
     let start = Cursor {
         place: 0,
         rest: text,
     };
-    let pieces = parse_pieces(alloc, start)?;
-    walk_text(&mut Check, text, &pieces)
+    check_text(start)
 }

@@ -24,6 +24,7 @@ mod piece;
 mod place;
 mod sample;
 mod stored_source;
+mod text_check;
 mod walk;
 
 pub use arguments::push_arguments;

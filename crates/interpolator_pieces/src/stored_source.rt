@@ -1,18 +1,21 @@
 //! Stored pieces as the source of a format. Callers come before what they call.
-ghost use Rattle.std.specs.Prelude.{◌≡◌, ◌+◌, ◌^◌, ◌<◌, ◌≤◌, ⊤, IfOk, IsSome, MatchBool, Some};
-ghost use Rattle.std.specs.Prelude.{false, length, option_map, true};
+ghost use Rattle.std.specs.Prelude.{◌≡◌, ◌+◌, ◌^◌, ◌<◌, ◌≤◌, ⊤, IfOk, IfSome, IsSome, MatchBool, Some};
+ghost use Rattle.std.specs.Prelude.{[], ◌∷◌, false, length, option_map, true};
 ghost use Rattle.std.specs.Str.{chars};
+ghost use Rattle.interpolator_render.specs.Bounds.{bounded_writer};
 ghost use Rattle.interpolator_syntax.specs.Faults.{result_answer, fault, argument_fault_of};
-ghost use Rattle.interpolator_syntax.specs.Nodes.{as_forest, no_nodes};
+ghost use Rattle.interpolator_syntax.specs.Groups.{group_of};
+ghost use Rattle.interpolator_syntax.specs.Nodes.{as_forest, branch, no_nodes};
 ghost use Rattle.interpolator_eval.specs.Escaping.{shows_by};
 ghost use Rattle.interpolator_eval.specs.Meaning.CodeEnvironments.{environment_of};
 ghost use Rattle.interpolator_eval.specs.Meaning.Meanings.{forest_means};
-ghost use Rattle.interpolator_eval.specs.Meaning.Sinks.{Writes};
-ghost use Rattle.interpolator_eval.specs.Meaning.Sources.{Met, asks_list, before_list, from_list};
+ghost use Rattle.interpolator_eval.specs.Meaning.Outcomes.{Outcome};
+ghost use Rattle.interpolator_eval.specs.Meaning.Sources.{IsBare, IsText, Met, asks_list};
+ghost use Rattle.interpolator_eval.specs.Meaning.Sources.{before_list, from_list};
 ghost use Rattle.interpolator_eval.specs.Meaning.Sources.{met_pieces, unlisted_means};
 ghost use Rattle.interpolator_eval.specs.Meaning.Work.{forest_work};
 ghost use Rattle.interpolator_pieces.specs.Stored.{node_of, nodes_of, node_whole, forest_whole};
-ghost use Rattle.interpolator_pieces.specs.Stored.{detail_of, part};
+ghost use Rattle.interpolator_pieces.specs.Stored.{StandsAlone, detail_of, part};
 ghost use Rattle.interpolator_pieces.specs.StoredLists.{begins_list, is_list_form, range_asked};
 ghost use Rattle.interpolator_pieces.specs.StoredLists.{stored_list, stored_rest};
 ghost use Rattle.interpolator_pieces.specs.StoredMeanings.{stored_part, stored_name};
@@ -23,10 +26,10 @@ ghost use Rattle.interpolator_pieces.specs.declared.piece.Piece.TheViews.{out-Pi
 use crate::piece::{Detail, Form, Piece, list_detail, part_of, spec_end_of};
 use interpolator_eval::{
     Context, Environment, Escaper, FormatSource, Formattable, LookUp, PieceCount, Sink,
-    chosen_list, write_plain_value, write_value,
+    chosen_list, write_plain_value, write_run, write_value,
 };
-use interpolator_render::{Spec, TextWrite};
-use interpolator_syntax::{ArgumentFault, Error, ParseError, PieceKind, Range};
+use interpolator_render::{Bounded, Spec, TextWrite};
+use interpolator_syntax::{ArgumentFault, Error, Group, ParseError, PieceKind, Range};
 use std::sync::ledger::Ledger;
 
 /// Pieces that are still to be written: all those of a text, or any others that fit it.
@@ -67,7 +70,14 @@ impl<'t> FormatSource for Stored<'t> {
         list: &mut Stored<'t>,
         count: &mut PieceCount<L>,
     ) -> Result<bool, Error> {
-        run_pieces::<W, C, E, L>(sink, environment, *self, list, count)
+        match sink {
+            Sink::Writer(out) => {
+                run_pieces::<W, C, E, L>(&mut **out, environment, *self, list, count)
+            }
+            Sink::Buffer(buffer) => {
+                run_to_buffer::<C, E, L>(&mut **buffer, environment, *self, list, count)
+            }
+        }
     }
 
     #[inline(always)]
@@ -130,6 +140,21 @@ impl<'t> FormatSource for Stored<'t> {
         }
     }
 
+    fn plain_item(list: &Stored<'t>) -> Option<usize> {
+        let piece = &list.pieces[0];
+        match &piece.item {
+            Some(item) => bare_argument(list.text, item),
+            None => Some(list_detail(piece).spec_end),
+        }
+    }
+
+    fn text_join<'l>(list: &'l Stored<'t>) -> Option<Group<'l>> {
+        match &list.pieces[0].join {
+            Some(join) => text_alone(list.text, join),
+            None => None,
+        }
+    }
+
     #[inline(always)]
     fn rest(list: &Stored<'t>) -> Option<Stored<'t>> {
         let pieces = list.pieces;
@@ -140,6 +165,82 @@ impl<'t> FormatSource for Stored<'t> {
                 pieces: &pieces[1..],
             }),
         }
+    }
+}
+
+/// Returns the place of the closing brace, if pieces are those of `{}`.
+fn bare_argument(text: &str, pieces: &[Piece]) -> Option<usize>
+    requires whole { forest_whole (as_forest (nodes_of text.now pieces.now)) ≡ true }
+    ensures { IfSome result (λ q. IsBare q (branch (as_forest (nodes_of text.now pieces.now)))) }
+{
+    let (piece, rest) = pieces.split_first()?;
+    if rest.is_empty() {
+        bare_piece(text, piece)
+    } else {
+        None
+    }
+}
+
+/// Returns the place of the closing brace, if a piece is an argument without name and spec.
+fn bare_piece(text: &str, piece: &Piece) -> Option<usize>
+    requires whole { node_whole (node_of text.now piece.now) ≡ true }
+    ensures { IfSome result (λ q. IsBare q
+        (branch (as_forest (node_of text.now piece.now ∷ [])))) }
+{
+    if !stands_alone(piece) {
+        return None;
+    }
+    match piece.kind {
+        PieceKind::Closed => {}
+        _ => return None,
+    }
+    let (_, name) = name_of(text, piece);
+    if name.is_empty() {
+        Some(spec_end_of(piece))
+    } else {
+        None
+    }
+}
+
+/// Returns the text of pieces, if they are one run of it.
+fn text_alone<'t>(text: &'t str, pieces: &[Piece]) -> Option<Group<'t>>
+    requires whole { forest_whole (as_forest (nodes_of text.now pieces.now)) ≡ true }
+    ensures { IfSome result (λ g. IsText (group_of g)
+        (branch (as_forest (nodes_of text.now pieces.now)))) }
+{
+    let (piece, rest) = pieces.split_first()?;
+    if rest.is_empty() {
+        text_piece(text, piece)
+    } else {
+        None
+    }
+}
+
+/// Returns the text of a piece, if it is a run of it.
+fn text_piece<'t>(text: &'t str, piece: &Piece) -> Option<Group<'t>>
+    requires whole { node_whole (node_of text.now piece.now) ≡ true }
+    ensures { IfSome result (λ g. IsText (group_of g)
+        (branch (as_forest (node_of text.now piece.now ∷ [])))) }
+{
+    if !stands_alone(piece) {
+        return None;
+    }
+    match piece.kind {
+        PieceKind::Literal => Some(Group {
+            text: text_of(text, piece),
+            place: piece.place,
+        }),
+        _ => None,
+    }
+}
+
+/// Returns whether a piece has neither a detail nor groups.
+fn stands_alone(piece: &Piece) -> bool
+    ensures alone { result ≡ true → StandsAlone piece.now }
+{
+    match (&piece.detail, &piece.item, &piece.join) {
+        (None, None, None) => true,
+        _ => false,
     }
 }
 
@@ -154,19 +255,81 @@ fn range_asked(form: &Form) -> Option<Range>
     }
 }
 
-/// Writes what pieces mean up to the first list, in order, and returns whether there is one.
+/// Writes what pieces mean up to the first list into a buffer, and returns whether there is one.
+/// This stands between, since a function zeroes its error slot on entry: only a buffer takes that.
 #[inline(always)]
-fn run_pieces<'t, 'a, W: TextWrite, C: Context, E: Escaper, L: Ledger>(
-    sink: &mut Sink<'_, W>,
+fn run_to_buffer<'t, 'a, C: Context, E: Escaper, L: Ledger>(
+    buffer: &mut Bounded,
     environment: &Environment<'a, C, C::Object>,
     source: Stored<'t>,
     list: &mut Stored<'t>,
     count: &mut PieceCount<L>,
 ) -> Result<bool, Error>
-    ensures writes { Writes W.written
+    ensures outcome { Outcome
         (forest_means (shows_by E.shown C.Object.shows) (environment_of C.finds environment.now)
         (before_list (as_forest (nodes_of source.entry.text.now source.entry.pieces.now))))
-        sink.old sink.new (result_answer result) }
+        (bounded_writer buffer.old) (bounded_writer buffer.new) (result_answer result) }
+    ensures met { IfOk result (λ met. Met met (begins_list list.new.pieces.now ≡ true)
+        (stored_list list.new.text.now list.new.pieces.now)
+        (stored_rest list.new.text.now list.new.pieces.now)
+        (from_list (as_forest (nodes_of source.entry.text.now source.entry.pieces.now)))) }
+    ensures gone { count.new ≤ count.old + ((forest_work (shows_by E.shown C.Object.shows)
+        (environment_of C.finds environment.now)
+        (before_list (as_forest (nodes_of source.entry.text.now source.entry.pieces.now)))).pieces
+        + met_pieces result) }
+    ensures exact { IfOk result (λ _. count.new ≡ count.old + ((forest_work
+        (shows_by E.shown C.Object.shows)
+        (environment_of C.finds environment.now)
+        (before_list (as_forest (nodes_of source.entry.text.now source.entry.pieces.now)))).pieces
+        + met_pieces result)) }
+{
+    run_apart::<C, E, L>(buffer, environment, source, list, count)
+}
+
+/// Does what [`run_to_buffer`] does, by a call. A buffer is for lists under a width alone, and the
+/// code for it would make the loop over all other pieces dearer.
+#[inline(never)]
+fn run_apart<'t, 'a, C: Context, E: Escaper, L: Ledger>(
+    buffer: &mut Bounded,
+    environment: &Environment<'a, C, C::Object>,
+    source: Stored<'t>,
+    list: &mut Stored<'t>,
+    count: &mut PieceCount<L>,
+) -> Result<bool, Error>
+    ensures outcome { Outcome
+        (forest_means (shows_by E.shown C.Object.shows) (environment_of C.finds environment.now)
+        (before_list (as_forest (nodes_of source.entry.text.now source.entry.pieces.now))))
+        (bounded_writer buffer.old) (bounded_writer buffer.new) (result_answer result) }
+    ensures met { IfOk result (λ met. Met met (begins_list list.new.pieces.now ≡ true)
+        (stored_list list.new.text.now list.new.pieces.now)
+        (stored_rest list.new.text.now list.new.pieces.now)
+        (from_list (as_forest (nodes_of source.entry.text.now source.entry.pieces.now)))) }
+    ensures gone { count.new ≤ count.old + ((forest_work (shows_by E.shown C.Object.shows)
+        (environment_of C.finds environment.now)
+        (before_list (as_forest (nodes_of source.entry.text.now source.entry.pieces.now)))).pieces
+        + met_pieces result) }
+    ensures exact { IfOk result (λ _. count.new ≡ count.old + ((forest_work
+        (shows_by E.shown C.Object.shows)
+        (environment_of C.finds environment.now)
+        (before_list (as_forest (nodes_of source.entry.text.now source.entry.pieces.now)))).pieces
+        + met_pieces result)) }
+{
+    run_pieces::<Bounded, C, E, L>(buffer, environment, source, list, count)
+}
+
+/// Writes what pieces mean up to the first list, in order, and returns whether there is one.
+#[inline(always)]
+fn run_pieces<'t, 'a, W: TextWrite, C: Context, E: Escaper, L: Ledger>(
+    out: &mut W,
+    environment: &Environment<'a, C, C::Object>,
+    source: Stored<'t>,
+    list: &mut Stored<'t>,
+    count: &mut PieceCount<L>,
+) -> Result<bool, Error>
+    ensures outcome { Outcome
+        (forest_means (shows_by E.shown C.Object.shows) (environment_of C.finds environment.now)
+        (before_list (as_forest (nodes_of source.entry.text.now source.entry.pieces.now))))
+        (W.written out.old) (W.written out.new) (result_answer result) }
     ensures met { IfOk result (λ met. Met met (begins_list list.new.pieces.now ≡ true)
         (stored_list list.new.text.now list.new.pieces.now)
         (stored_rest list.new.text.now list.new.pieces.now)
@@ -185,7 +348,7 @@ fn run_pieces<'t, 'a, W: TextWrite, C: Context, E: Escaper, L: Ledger>(
     let mut rest = source.pieces;
     while let Some((piece, after)) = rest.split_first() {
         count.tick();
-        if run_piece::<W, C, E>(sink, environment, text, piece)? {
+        if run_piece::<W, C, E>(out, environment, text, piece)? {
             *list = Stored { text, pieces: rest };
             return Ok(true);
         }
@@ -198,48 +361,48 @@ fn run_pieces<'t, 'a, W: TextWrite, C: Context, E: Escaper, L: Ledger>(
 #[tactic(auto, using(crate::proofs::StoredLemmas::detail_kept))]
 #[inline(always)]
 fn run_piece<'a, W: TextWrite, C: Context, E: Escaper>(
-    sink: &mut Sink<'_, W>,
+    out: &mut W,
     environment: &Environment<'a, C, C::Object>,
     text: &str,
     piece: &Piece,
 ) -> Result<bool, Error>
     requires whole { node_whole (node_of text.now piece.now) ≡ true }
-    ensures writes { Writes W.written
+    ensures outcome { Outcome
         (unlisted_means (shows_by E.shown C.Object.shows) (environment_of C.finds environment.now)
         (node_of text.now piece.now))
-        sink.old sink.new (result_answer result) }
+        (W.written out.old) (W.written out.new) (result_answer result) }
     ensures list { IfOk result (λ list. is_list_form (detail_of piece.now).form ≡ list) }
 {
     match &piece.detail {
-        Some(detail) => run_detailed::<W, C, E>(sink, environment, text, piece, detail),
-        None => run_bare::<W, C, E>(sink, environment, text, piece),
+        Some(detail) => run_detailed::<W, C, E>(out, environment, text, piece, detail),
+        None => run_bare::<W, C, E>(out, environment, text, piece),
     }
 }
 
 /// Writes what a piece without a detail means; it asks for no list.
 #[inline(always)]
 fn run_bare<'a, W: TextWrite, C: Context, E: Escaper>(
-    sink: &mut Sink<'_, W>,
+    out: &mut W,
     environment: &Environment<'a, C, C::Object>,
     text: &str,
     piece: &Piece,
 ) -> Result<bool, Error>
     requires whole { node_whole (node_of text.now piece.now) ≡ true }
     requires bare { (out-Piece piece.now).detail ≡ None }
-    ensures writes { Writes W.written
+    ensures outcome { Outcome
         (unlisted_means (shows_by E.shown C.Object.shows) (environment_of C.finds environment.now)
         (node_of text.now piece.now))
-        sink.old sink.new (result_answer result) }
+        (W.written out.old) (W.written out.new) (result_answer result) }
     ensures list { IfOk result (λ list. is_list_form (detail_of piece.now).form ≡ list) }
 {
     match piece.kind {
         PieceKind::Closed => {
             let (start, name) = name_of(text, piece);
-            write_plain_value::<W, C, E>(sink, environment, start, name, spec_end_of(piece))?;
+            write_plain_value::<W, C, E>(out, environment, start, name, spec_end_of(piece))?;
             Ok(false)
         }
         _ => {
-            sink.put_run(text_of(text, piece), piece.place)?;
+            write_run(out, text_of(text, piece), piece.place)?;
             Ok(false)
         }
     }
@@ -248,7 +411,7 @@ fn run_bare<'a, W: TextWrite, C: Context, E: Escaper>(
 /// Writes what a piece with a detail means, unless it asks for a list; returns whether it does.
 #[inline(always)]
 fn run_detailed<'a, W: TextWrite, C: Context, E: Escaper>(
-    sink: &mut Sink<'_, W>,
+    out: &mut W,
     environment: &Environment<'a, C, C::Object>,
     text: &str,
     piece: &Piece,
@@ -256,20 +419,20 @@ fn run_detailed<'a, W: TextWrite, C: Context, E: Escaper>(
 ) -> Result<bool, Error>
     requires whole { node_whole (node_of text.now piece.now) ≡ true }
     requires detail { detail_of piece.now ≡ detail.now }
-    ensures writes { Writes W.written
+    ensures outcome { Outcome
         (unlisted_means (shows_by E.shown C.Object.shows) (environment_of C.finds environment.now)
         (node_of text.now piece.now))
-        sink.old sink.new (result_answer result) }
+        (W.written out.old) (W.written out.new) (result_answer result) }
     ensures list { IfOk result (λ list. is_list_form (detail_of piece.now).form ≡ list) }
 {
     match &detail.form {
         Form::Text => {
-            sink.put_run(text_of(text, piece), detail.from)?;
+            write_run(out, text_of(text, piece), detail.from)?;
             Ok(false)
         }
         Form::Plain => {
             let (start, name) = name_of(text, piece);
-            write_plain_value::<W, C, E>(sink, environment, start, name, detail.spec_end)?;
+            write_plain_value::<W, C, E>(out, environment, start, name, detail.spec_end)?;
             value_done(piece)
         }
         Form::Value(t) => {
@@ -279,7 +442,7 @@ fn run_detailed<'a, W: TextWrite, C: Context, E: Escaper>(
                 name,
                 end: detail.spec_end,
             };
-            write_value::<W, C, E>(sink, environment, look_up, *t, &detail.spec)?;
+            write_value::<W, C, E>(out, environment, look_up, *t, &detail.spec)?;
             value_done(piece)
         }
         Form::List(_) => Ok(true),

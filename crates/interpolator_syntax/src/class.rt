@@ -123,6 +123,9 @@ const NEAR_ENCLOSED: usize = 8;
 /// How many bytes are tested at once.
 const BLOCK: usize = 16;
 
+/// How many of less than a block are tested at once.
+const HALF: usize = 8;
+
 /// Returns the index of the first byte of the first block that is one of these two.
 #[inline(always)]
 fn block_position(bytes: &[u8], first: u8, second: u8) -> Option<usize>
@@ -188,6 +191,48 @@ fn block_index(bytes: &[u8], first: u8, second: u8) -> Option<usize>
     if index < BLOCK { Some(index) } else { None }
 }
 
+/// Returns the index of the first byte of the first half block that is one of these two.
+#[inline(always)]
+fn half_position(bytes: &[u8], first: u8, second: u8) -> Option<usize>
+    requires { 8 ≤ length bytes.now }
+    ensures { MatchOption result
+        (8 ≡ position_or_len (λ b. b == first || b == second) (take 8 bytes.now))
+        (λ n. n ≡ position_or_len (λ b. b == first || b == second) (take 8 bytes.now)) }
+{
+    let block = u8x8::from_slice(bytes);
+    let is_first = block.simd_eq(u8x8::splat(first));
+    let is_second = block.simd_eq(u8x8::splat(second));
+    let hits = (is_first | is_second).to_bitmask();
+    if hits == 0 {
+        return None;
+    }
+    Some(hits.trailing_zeros() as usize)
+}
+
+/// Returns the index of the first byte that is one of these two, if it is among the first eight.
+#[inline(always)]
+fn half_index(bytes: &[u8], first: u8, second: u8) -> Option<usize>
+    requires { 8 ≤ length bytes.now }
+    ensures { IfSome result (λ r. r ≡ position_or_len (λ b. b == first || b == second) bytes.now) }
+{
+    let index = half_position(bytes, first, second)?;
+    if index < HALF { Some(index) } else { None }
+}
+
+/// As [`bytes_before`], for less than a block.
+#[tactic(auto, using(crate::proofs::ByteLemmas::first_or_all))]
+#[inline(always)]
+fn few_before(bytes: &[u8], near: Option<usize>, first: u8, second: u8) -> usize
+    ensures { result ≡ position_or_len (λ b. b == first || b == second) bytes.now }
+{
+    if near.is_some() && bytes.len() >= HALF {
+        if let Some(index) = half_index(bytes, first, second) {
+            return index;
+        }
+    }
+    byte_position(bytes, first, second).unwrap_or(bytes.len())
+}
+
 /// Returns how many bytes come before the first that is one of these two: all, if none is. That one
 /// is likely to be among the first `near`, if `near` is given, or else among the first sixteen.
 #[tactic(auto, using(crate::proofs::ByteLemmas::first_or_all))]
@@ -196,7 +241,7 @@ fn bytes_before(bytes: &[u8], near: Option<usize>, first: u8, second: u8) -> usi
     ensures { result ≡ position_or_len (λ b. b == first || b == second) bytes.now }
 {
     if bytes.len() < BLOCK {
-        return byte_position(bytes, first, second).unwrap_or(bytes.len());
+        return few_before(bytes, near, first, second);
     }
     if let Some(near) = near {
         if let Some(index) = near_position(bytes, near, first, second) {

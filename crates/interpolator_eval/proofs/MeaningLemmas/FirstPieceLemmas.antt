@@ -1,5 +1,5 @@
 -- Pieces up to their first list: from the first piece, and from those after it.
-use Rattle.std.proofs.Common.{rules, ◌≡◌, refl, arith, ℕ, ◌+◌, ◌≤◌, Bool, true, false, Option, None}
+use Rattle.std.proofs.Common.{◌≡◌, refl, arith, ℕ, ◌+◌, ◌≤◌, Bool, true, false, Option, None}
 use Rattle.std.proofs.Common.{Some}
 use Rattle.interpolator_render.specs.Written.{Written}
 use Rattle.interpolator_render.specs.declared.view.Trait.{Trait}
@@ -14,14 +14,11 @@ use Rattle.interpolator_eval.specs.Meaning.ScannedLists.{text_forest}
 use Rattle.interpolator_eval.specs.Meaning.Environments.{Environment}
 use Rattle.interpolator_eval.specs.Meaning.Meanings.{Meaning, forest_means}
 use Rattle.interpolator_eval.specs.Meaning.Outcomes.{Outcome}
-use Rattle.interpolator_eval.specs.Meaning.Sinks.{SameEnd, Writes, taken_by}
 use Rattle.interpolator_eval.specs.Meaning.Sources.{asks_list, before_list, first_holds, from_list}
 use Rattle.interpolator_eval.specs.Meaning.Sources.{unlisted_means}
 use Rattle.interpolator_eval.specs.Meaning.Work.{forest_work, node_work}
-use Rattle.interpolator_eval.specs.declared.evaluate.sink.Sink.{Sink}
-use Rattle.interpolator_eval.proofs.MeaningLemmas.SinkLemmas.{and_then, fault_first, goes_on}
-use Rattle.interpolator_eval.proofs.MeaningLemmas.SinkLemmas.{nothing_done, nothing_fails, same_end}
-use Rattle.interpolator_eval.proofs.MeaningLemmas.SinkLemmas.{same_then}
+use Rattle.interpolator_eval.proofs.MeaningLemmas.SinkLemmas.{and_then, fault_first}
+use Rattle.interpolator_eval.proofs.MeaningLemmas.SinkLemmas.{nothing_done, nothing_fails}
 use Rattle.interpolator_eval.proofs.MeaningLemmas.ScanLemmas.{text_none, text_next, next_holds}
 
 module _ (x : Node) (xs : Forest) where
@@ -54,44 +51,46 @@ module _ (x : Node) (xs : Forest) where
     pub none_gone : asks_list x ≡ true → Gone Whole ≡ 0
     none_gone listed = grind (arith, before_none)
 
-    module _ {W : Type 0} (written : W → Written) (s t : Sink W) where
+    module _ (s t : Written) where
       -- it is done, and the rest is written
       pub piece_runs : (u : Written) (answer : Option Answer) → asks_list x ≡ false
-          → Writes written (unlisted_means shows e x) s t None
-          → Outcome (Before xs) (taken_by written t) u answer
-          → Outcome (Before Whole) (taken_by written s) u answer
+          → Outcome (unlisted_means shows e x) s t None → Outcome (Before xs) t u answer
+          → Outcome (Before Whole) s u answer
       piece_runs u answer other o k =
-          rw (before_after other) (and_then _ _ _ _ u answer (rw other at o.outcome) k)
+          rw (before_after other) (and_then _ _ _ _ u answer (rw other at o) k)
 
       -- it is a list: nothing is written before it
-      pub list_at : asks_list x ≡ true → Writes written (unlisted_means shows e x) s t None
-          → Writes written (Before Whole) s t None
+      pub list_at : asks_list x ≡ true → Outcome (unlisted_means shows e x) s t None
+          → Outcome (Before Whole) s t None
       list_at listed o = grind (arith, before_none)
 
       -- it ends the run
-      pub piece_fault : (q : Answer) → Writes written (unlisted_means shows e x) s t (Some q)
-          → Writes written (Before Whole) s t (Some q)
-      piece_fault q o = grind (arith, before_after, fault_first, nothing_fails)
+      pub piece_fault : (q : Answer) → Outcome (unlisted_means shows e x) s t (Some q)
+          → Outcome (Before Whole) s t (Some q)
+      piece_fault q o = by_asked (asks_list x) refl
+        where
+          by_asked : (b : Bool) → asks_list x ≡ b → Outcome (Before Whole) s t (Some q)
+          by_asked false other = rw (before_after other) (fault_first _ _ _ _ q (rw other at o))
+          by_asked true listed = absurd (nothing_fails _ _ q (rw listed at o))
 
       module _ (one : 1 ≤ (node_work shows e x).pieces) where
         -- and is a piece itself
         pub piece_stops : (q : Answer)
-            → Writes written (unlisted_means shows e x) s t (Some q) → 1 ≤ Gone Whole
+            → Outcome (unlisted_means shows e x) s t (Some q) → 1 ≤ Gone Whole
         piece_stops q o = by_asked (asks_list x) refl
           where
             by_asked : (b : Bool) → asks_list x ≡ b → 1 ≤ Gone Whole
             by_asked false other = grind (arith, before_after)
-            by_asked true listed = absurd (nothing_fails _ _ q (rw listed at o.outcome))
+            by_asked true listed = absurd (nothing_fails _ _ q (rw listed at o))
 
         -- it is done, and the pieces after it come to it
-        pub piece_goes : asks_list x ≡ false → Writes written (unlisted_means shows e x) s t None
+        pub piece_goes : asks_list x ≡ false → Outcome (unlisted_means shows e x) s t None
             → 1 + Gone xs ≡ Gone Whole
         piece_goes other o = grind (arith, before_after)
 
 -- ---- pieces in order, one after another
 
-module _ {X W : Type 0} (shows : X → Trait → Spec → Shown) (e : Environment X)
-    (written : W → Written) where
+module _ {X : Type 0} (shows : X → Trait → Spec → Shown) (e : Environment X) where
   abbrev Means : Forest → Meaning
   Means xs = forest_means shows e (before_list xs)
 
@@ -105,26 +104,24 @@ module _ {X W : Type 0} (shows : X → Trait → Spec → Shown) (e : Environmen
 
   -- what was written before the pieces `rest` and any outcome of these, up to the first list, are an
   -- outcome of all; the first list is the same; and those gone through so far and the rest are all
-  pub record Passed (all rest : Forest) (old s : Sink W) (n count : ℕ) : Type 0 where
+  pub record Passed (all rest : Forest) (old s : Written) (n count : ℕ) : Type 0 where
     pub so_far : (new : Written) (answer : Option Answer)
-        → Outcome (Means rest) (taken_by written s) new answer
-        → Outcome (Means all) (taken_by written old) new answer
-    pub same : SameEnd old s
+        → Outcome (Means rest) s new answer → Outcome (Means all) old new answer
     pub left : from_list all ≡ from_list rest
     pub gone : count + Pieces rest ≡ n + Pieces all
 
   -- no pieces are left
-  pub passed_all : {all : Forest} (a : At) {old s : Sink W} {n count : ℕ}
+  pub passed_all : {all : Forest} (a : At) {old s : Written} {n count : ℕ}
       → Passed all (text_forest a) old s n count → first_token a ≡ None
-      → Writes written (Means all) old s None × (from_list all ≡ no_nodes)
+      → Outcome (Means all) old s None × (from_list all ≡ no_nodes)
       × (count ≡ n + (Pieces all + 0))
   passed_all a p h = (
-    goes_on _ _ _ _ _ _ _ p.so_far p.same (search (rules, text_none a h, nothing_done, same_end)),
+    p.so_far _ None (rw (text_none a h) (nothing_done _)),
     rw (p.left, text_none _ h) refl,
     grind (arith, p.gone, text_none _ h),
   )
 
-  module _ {all rest after : Forest} {x : Node} {old s : Sink W} {n count now : ℕ}
+  module _ {all rest after : Forest} {x : Node} {old s : Written} {n count now : ℕ}
       (p : Passed all rest old s n count) (one : now ≡ count + 1)
       (first : rest ≡ nodes_and x after) (holds : first_holds rest ≡ true) where
     counts : 1 ≤ (node_work shows e x).pieces
@@ -134,55 +131,54 @@ module _ {X W : Type 0} (shows : X → Trait → Spec → Shown) (e : Environmen
     gone_so_far = rw (← first) p.gone
 
     -- the first piece ends the run
-    pub first_stops : {t : Sink W} {q : Answer} → Writes written (unlisted_means shows e x) s t (Some q)
-        → Writes written (Means all) old t (Some q) × (now ≤ n + (Pieces all + 0))
+    pub first_stops : {t : Written} {q : Answer} → Outcome (unlisted_means shows e x) s t (Some q)
+        → Outcome (Means all) old t (Some q) × (now ≤ n + (Pieces all + 0))
     first_stops o = (
-      goes_on _ _ _ _ _ _ _ p.so_far p.same (rw first (piece_fault x after shows e _ _ _ _ o)),
-      omega (arith, gone_so_far, one, piece_stops x after shows e _ _ _ counts _ o),
+      p.so_far _ _ (rw first (piece_fault x after shows e _ _ _ o)),
+      omega (arith, gone_so_far, one, piece_stops x after shows e _ _ counts _ o),
     )
 
     -- it is a list
-    pub first_list : {t : Sink W} → asks_list x ≡ true
-        → Writes written (unlisted_means shows e x) s t None
-        → Writes written (Means all) old t None × (from_list all ≡ nodes_and x after)
+    pub first_list : {t : Written} → asks_list x ≡ true
+        → Outcome (unlisted_means shows e x) s t None
+        → Outcome (Means all) old t None × (from_list all ≡ nodes_and x after)
         × (now ≡ n + (Pieces all + 1))
     first_list listed o = (
-      goes_on _ _ _ _ _ _ _ p.so_far p.same (rw first (list_at x after shows e _ _ _ listed o)),
+      p.so_far _ None (rw first (list_at x after shows e _ _ listed o)),
       rw (p.left, first) (left_here x after listed),
       omega (arith, gone_so_far, one, none_gone x after shows e listed),
     )
 
     -- it is done
-    pub first_on : {t : Sink W} → asks_list x ≡ false
-        → Writes written (unlisted_means shows e x) s t None → Passed all after old t n now
+    pub first_on : {t : Written} → asks_list x ≡ false
+        → Outcome (unlisted_means shows e x) s t None → Passed all after old t n now
     first_on other o = record {
       so_far = λ new answer k. p.so_far new answer
-          (rw first (piece_runs x after shows e _ _ _ _ _ other o k));
-      same = same_then _ _ _ p.same o.same;
+          (rw first (piece_runs x after shows e _ _ _ _ other o k));
       left = rw (p.left, first) (left_after x after other);
-      gone = omega (arith, gone_so_far, one, piece_goes x after shows e _ _ _ counts other o);
+      gone = omega (arith, gone_so_far, one, piece_goes x after shows e _ _ counts other o);
     }
 
   -- the same of the piece of a token
-  module _ {all : Forest} (a : At) {token : Token × At} {old s : Sink W} {n count now : ℕ}
+  module _ {all : Forest} (a : At) {token : Token × At} {old s : Written} {n count now : ℕ}
       (p : Passed all (text_forest a) old s n count) (one : now ≡ count + 1)
       (is : first_token a ≡ Some token) where
     abbrev First : Node
     First = token_node nodes a.place token.0 token.1
 
-    pub passed_stops : {t : Sink W} {q : Answer}
-        → Writes written (unlisted_means shows e First) s t (Some q)
-        → Writes written (Means all) old t (Some q) × (now ≤ n + (Pieces all + 0))
+    pub passed_stops : {t : Written} {q : Answer}
+        → Outcome (unlisted_means shows e First) s t (Some q)
+        → Outcome (Means all) old t (Some q) × (now ≤ n + (Pieces all + 0))
     passed_stops = first_stops p one (text_next a token is) (next_holds a token is)
 
-    pub passed_list : {t : Sink W} → asks_list First ≡ true
-        → Writes written (unlisted_means shows e First) s t None
-        → Writes written (Means all) old t None
+    pub passed_list : {t : Written} → asks_list First ≡ true
+        → Outcome (unlisted_means shows e First) s t None
+        → Outcome (Means all) old t None
         × (from_list all ≡ nodes_and First (text_forest (past_token token.0 token.1)))
         × (now ≡ n + (Pieces all + 1))
     passed_list = first_list p one (text_next a token is) (next_holds a token is)
 
-    pub passed_on : {t : Sink W} → asks_list First ≡ false
-        → Writes written (unlisted_means shows e First) s t None
+    pub passed_on : {t : Written} → asks_list First ≡ false
+        → Outcome (unlisted_means shows e First) s t None
         → Passed all (text_forest (past_token token.0 token.1)) old t n now
     passed_on = first_on p one (text_next a token is) (next_holds a token is)

@@ -22,12 +22,10 @@ use Rattle.interpolator_syntax.proofs.NodeLemmas.{nodes_first, nodes_none}
 use Rattle.interpolator_eval.specs.Meaning.Environments.{Environment}
 use Rattle.interpolator_eval.specs.Meaning.Meanings.{Meaning, argument_means}
 use Rattle.interpolator_eval.specs.Meaning.ScannedLists.{text_forest}
-use Rattle.interpolator_eval.specs.Meaning.Sinks.{Writes}
+use Rattle.interpolator_eval.specs.Meaning.Outcomes.{Outcome}
 use Rattle.interpolator_eval.specs.Meaning.Sources.{asks_list, unlisted_means, ListArgument}
 use Rattle.interpolator_eval.specs.Meaning.Sources.{FirstAsks, first_holds, with_brace}
-use Rattle.interpolator_eval.specs.declared.evaluate.sink.Sink.{Sink}
 use Rattle.interpolator_eval.proofs.MeaningLemmas.SinkLemmas.{fault_first, nothing_done, ended}
-use Rattle.interpolator_eval.proofs.MeaningLemmas.SinkLemmas.{same_end}
 
 -- an argument whose name was read, by the request after it
 module _ (a : At) (n : ArgumentName)
@@ -42,11 +40,9 @@ module _ (a : At) (n : ArgumentName)
 -- ---- the missing brace
 
 -- an argument whose value ends the run
-pub brace_fault :
-    {A W : Type 0} (written : W → Written) (follows : Option A) (end : ℕ) (m : Meaning) (s t : Sink W)
-    (q : Answer) → Writes written m s t (Some q)
-    → Writes written (with_brace follows end m) s t (Some q)
-brace_fault written follows end m s t q o = grind (arith, fault_first)
+pub brace_fault : {A : Type 0} (follows : Option A) (end : ℕ) (m : Meaning) (s t : Written) (q : Answer)
+    → Outcome m s t (Some q) → Outcome (with_brace follows end m) s t (Some q)
+brace_fault follows end m s t q o = grind (arith, fault_first)
 
 -- ---- an argument that begins at a, after a brace at p
 
@@ -56,10 +52,10 @@ module _ (a : At) (p : ℕ) where
 
   module _ {X : Type 0} (shows : X → Trait → Spec → Shown) (e : Environment X) where
     -- one that is broken
-    pub broken_writes : {W : Type 0} (written : W → Written) (s : Sink W) (f : Fault)
-        → argument_at a ≡ Err f → Writes written (unlisted_means shows e Here) s s (Some (fault f))
+    pub broken_writes : (s : Written) (f : Fault) → argument_at a ≡ Err f
+        → Outcome (unlisted_means shows e Here) s s (Some (fault f))
     unfolding argument_from
-    broken_writes written s f h = grind (arith, ended, same_end)
+    broken_writes s f h = grind (arith, ended)
 
   module _ (x : Argument) (q : At) (h : argument_at a ≡ Ok (x, q)) where
     abbrev Piece : Option At → Node
@@ -90,10 +86,9 @@ module _ (a : At) (p : ℕ) where
       asks_for_list = grind (arith, here_is)
 
       -- nothing is written for it yet
-      pub list_writes :
-          {X W : Type 0} (shows : X → Trait → Spec → Shown) (e : Environment X)
-          (written : W → Written) (s : Sink W) → Writes written (unlisted_means shows e Here) s s None
-      list_writes shows e written s = grind (arith, asks_for_list, nothing_done, same_end)
+      pub list_writes : {X : Type 0} (shows : X → Trait → Spec → Shown) (e : Environment X) (s : Written)
+          → Outcome (unlisted_means shows e Here) s s None
+      list_writes shows e s = grind (arith, asks_for_list, nothing_done)
 
       abbrev Asked : ListArgument
       Asked = record {

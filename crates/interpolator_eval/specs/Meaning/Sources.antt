@@ -1,16 +1,19 @@
 -- What a source of a format consists of: its pieces up to the first list, and that list's argument.
-use Rattle.std.specs.Prelude.{◌≡◌, ℕ, List, Bool, true, false, if◌then◌else◌, codes}
+use Rattle.std.specs.Prelude.{◌≡◌, ◌⊎◌, ℕ, List, [], Bool, true, false, if◌then◌else◌, codes}
 use Rattle.std.specs.Prelude.{Option, None, Some, is_some, Result, Ok, Err}
 use Rattle.interpolator_render.specs.declared.view.Spec.{Spec}
 use Rattle.interpolator_render.specs.declared.view.Trait.{Trait}
+use Rattle.interpolator_render.specs.declared.view.Trait.TheVariants.{Display}
 use Rattle.interpolator_render.specs.Views.{Shown}
 use Rattle.interpolator_syntax.specs.Faults.{parse, expected}
 use Rattle.interpolator_syntax.specs.Nodes.{Node, node, Branch, no_branch, branch}
-use Rattle.interpolator_syntax.specs.Nodes.{Forest, no_nodes, nodes_and}
+use Rattle.interpolator_syntax.specs.Groups.{Group}
+use Rattle.interpolator_syntax.specs.Nodes.{Forest, no_nodes, nodes_and, text_node}
 use Rattle.interpolator_syntax.specs.Nodes.{Content, argument_content}
 use Rattle.interpolator_syntax.specs.Nodes.{Target, target_value, target_list}
 use Rattle.interpolator_syntax.specs.declared.piece_kind.PieceKind.{PieceKind}
-use Rattle.interpolator_syntax.specs.declared.piece_kind.PieceKind.TheVariants.{Unclosed}
+use Rattle.interpolator_syntax.specs.declared.piece_kind.PieceKind.TheVariants.{Closed, Literal, Unclosed}
+use Rattle.interpolator_syntax.specs.SpecTexts.{plain_spec}
 use Rattle.interpolator_syntax.specs.declared.range.Range.{Range}
 use Rattle.interpolator_eval.specs.Slots.{Slots, items}
 use Rattle.interpolator_eval.specs.Meaning.Environments.{Environment, slots_under}
@@ -97,6 +100,25 @@ empty_counts (nodes_and x xs) = 0
 abbrev pub first_holds : Forest → Bool
 first_holds no_nodes = false
 first_holds (nodes_and (node place end kind content item join) xs) = is_some content
+
+-- a group is one argument without name and spec, whose closing brace is at q
+pub record IsBare (q : ℕ) (b : Branch) : Type 0 where
+  pub place : ℕ
+  pub last : ℕ
+  pub start : ℕ
+  pub is : b
+      ≡ branch (nodes_and (node place last Closed
+      (Some (argument_content start [] plain_spec (target_value Display) q)) no_branch no_branch)
+      no_nodes)
+
+-- each item of a list is displayed plainly, at q: its item format is such a group, or there is none
+abbrev pub IsPlainItem : (q : ℕ) → ListArgument → Type 0
+IsPlainItem q x = ((x.item ≡ no_branch) × (x.end ≡ q)) ⊎ IsBare q x.item
+
+-- a group is text without a brace
+pub record IsText (g : Group) (b : Branch) : Type 0 where
+  pub last : ℕ
+  pub is : b ≡ branch (nodes_and (text_node g.place last Literal g.text) no_nodes)
 
 -- the pieces of a group, by those of the source that begins it
 abbrev pub branch_of : {S : Type 0} → (tree : S → Forest) → Option S → Branch

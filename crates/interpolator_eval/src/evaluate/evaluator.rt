@@ -1,13 +1,16 @@
 //! Writes what a format means, up to the first fault. Callers come before what they call.
-ghost use Rattle.std.specs.Prelude.{◌≡◌, ◌+◌, ◌-◌, ◌<◌, ◌≤◌, ◌⊎◌, IfOk, None, Some, map, true};
+ghost use Rattle.std.specs.Prelude.{◌≡◌, ◌+◌, ◌-◌, ◌<◌, ◌≤◌, ◌⊎◌, IfOk, IfSome, None, Some, map};
+ghost use Rattle.std.specs.Prelude.{true};
 ghost use Rattle.interpolator_syntax.specs.Faults.{result_answer};
+ghost use Rattle.interpolator_syntax.specs.Groups.{group_of};
 ghost use Rattle.interpolator_syntax.specs.Nodes.{no_nodes};
 ghost use Rattle.interpolator_eval.specs.Escaping.{shows_by};
 ghost use Rattle.interpolator_eval.specs.Meaning.CodeEnvironments.{environment_of};
 ghost use Rattle.interpolator_eval.specs.Meaning.Lists.{padded_list_means};
 ghost use Rattle.interpolator_eval.specs.Meaning.Meanings.{forest_means};
 ghost use Rattle.interpolator_eval.specs.Meaning.Sinks.{Writes};
-ghost use Rattle.interpolator_eval.specs.Meaning.Sources.{empty_counts, first_holds};
+ghost use Rattle.interpolator_eval.specs.Meaning.Sources.{IsPlainItem, IsText, empty_counts};
+ghost use Rattle.interpolator_eval.specs.Meaning.Sources.{first_holds};
 ghost use Rattle.interpolator_eval.specs.Meaning.Sources.{list_with_brace};
 ghost use Rattle.interpolator_eval.specs.Meaning.Sources.{list_item};
 ghost use Rattle.interpolator_eval.specs.Meaning.Sources.{list_item_work, list_items};
@@ -26,7 +29,7 @@ use crate::evaluate::value::{list_buffer, write_plain_item};
 use crate::piece_count::PieceCount;
 use crate::slots::Formattable;
 use interpolator_render::TextWrite;
-use interpolator_syntax::{Error, ParseError};
+use interpolator_syntax::{Error, Group, ParseError};
 use std::marker::Brand;
 use std::sync::ledger::{Blank, Ledger};
 
@@ -145,9 +148,13 @@ fn write_list<'a, W: TextWrite, C: Context, E: Escaper, S: FormatSource, L: Ledg
 {
     let items = S::items(list, environment)?;
     if S::has_width(list) {
-        write_padded_list::<W, C, E, S, L>(sink, environment, list, items, count)
-    } else {
-        write_items::<W, C, E, S, L>(sink, environment, list, items, count)
+        return write_padded_list::<W, C, E, S, L>(sink, environment, list, items, count);
+    }
+    match plain_place::<C, S>(list, items) {
+        Some(place) => {
+            write_plain_items::<W, C, E, S, L>(sink, environment, list, items, place, count)
+        }
+        None => write_items::<W, C, E, S, L>(sink, environment, list, items, count),
     }
 }
 
@@ -215,21 +222,134 @@ fn write_items<'a, W: TextWrite, C: Context, E: Escaper, S: FormatSource, L: Led
         (environment_of C.finds environment.now) (S.asks list.now)
         (map slots_of items.now)).pieces) }
 {
+    write_each::<W, C, E, S, L>(sink, environment, list, items, None, None, count)
+}
+
+/// Returns the place of an item's text, if each of several items is displayed plainly.
+#[inline(always)]
+fn plain_place<C: Context, S: FormatSource>(
+    list: &S::List,
+    items: &[Formattable<'_, C::Object>],
+) -> Option<usize>
+    requires met { S.is_met list.now }
+    ensures { IfSome result (λ q. IsPlainItem q (S.asks list.now)) }
+{
+    if items.len() < 2 {
+        None
+    } else {
+        S::plain_item(list)
+    }
+}
+
+/// Writes items of a list, each displayed plainly at a place, with the join between two of them.
+#[cycle(evaluate)]
+#[inline(never)]
+fn write_plain_items<'a, W: TextWrite, C: Context, E: Escaper, S: FormatSource, L: Ledger>(
+    sink: &mut Sink<'_, W>,
+    environment: &Environment<'a, C, C::Object>,
+    list: &S::List,
+    items: &'a [Formattable<'a, C::Object>],
+    place: usize,
+    count: &mut PieceCount<L>,
+) -> Result<(), Error>
+    requires met { S.is_met list.now }
+    requires plain { IsPlainItem place (S.asks list.now) }
+    ensures writes { Writes W.written
+        (list_items (shows_by E.shown C.Object.shows) (environment_of C.finds environment.now)
+        (S.asks list.now)
+        (map slots_of items.now))
+        sink.old sink.new (result_answer result) }
+    ensures gone { count.new ≤ count.old + (list_items_work (shows_by E.shown C.Object.shows)
+        (environment_of C.finds environment.now) (S.asks list.now)
+        (map slots_of items.now)).pieces }
+    ensures exact { IfOk result (λ _. count.new ≡ count.old + (list_items_work
+        (shows_by E.shown C.Object.shows)
+        (environment_of C.finds environment.now) (S.asks list.now)
+        (map slots_of items.now)).pieces) }
+{
+    let text = S::text_join(list);
+    write_each::<W, C, E, S, L>(sink, environment, list, items, Some(place), text, count)
+}
+
+/// Writes items of a list, each displayed at the place `plain`, if that is given, with the join
+/// between two of them, which is `text`, if that is given. It is inlined, so that each call has a
+/// loop of its own.
+#[cycle(evaluate)]
+#[inline(always)]
+fn write_each<'a, W: TextWrite, C: Context, E: Escaper, S: FormatSource, L: Ledger>(
+    sink: &mut Sink<'_, W>,
+    environment: &Environment<'a, C, C::Object>,
+    list: &S::List,
+    items: &'a [Formattable<'a, C::Object>],
+    plain: Option<usize>,
+    text: Option<Group<'_>>,
+    count: &mut PieceCount<L>,
+) -> Result<(), Error>
+    requires met { S.is_met list.now }
+    requires plain { IfSome plain (λ q. IsPlainItem q (S.asks list.now)) }
+    requires text { IfSome text (λ g. IsText (group_of g) (S.asks list.now).join) }
+    ensures writes { Writes W.written
+        (list_items (shows_by E.shown C.Object.shows) (environment_of C.finds environment.now)
+        (S.asks list.now)
+        (map slots_of items.now))
+        sink.old sink.new (result_answer result) }
+    ensures gone { count.new ≤ count.old + (list_items_work (shows_by E.shown C.Object.shows)
+        (environment_of C.finds environment.now) (S.asks list.now)
+        (map slots_of items.now)).pieces }
+    ensures exact { IfOk result (λ _. count.new ≡ count.old + (list_items_work
+        (shows_by E.shown C.Object.shows)
+        (environment_of C.finds environment.now) (S.asks list.now)
+        (map slots_of items.now)).pieces) }
+{
     let Some((first, rest)) = items.split_first() else {
         return Ok(());
     };
     let mut scratch = *list;
-    write_item::<W, C, E, S, L>(sink, environment, list, first, &mut scratch, count)?;
+    write_item::<W, C, E, S, L>(sink, environment, list, first, plain, &mut scratch, count)?;
     for item in rest {
-        write_join::<W, C, E, S, L>(sink, environment, list, &mut scratch, count)?;
-        write_item::<W, C, E, S, L>(sink, environment, list, item, &mut scratch, count)?;
+        write_join::<W, C, E, S, L>(sink, environment, list, text, &mut scratch, count)?;
+        write_item::<W, C, E, S, L>(sink, environment, list, item, plain, &mut scratch, count)?;
     }
     Ok(())
 }
 
-/// Writes one item of a list. `scratch` is for lists in the item format.
+/// Writes one item of a list: displayed at the place `plain`, if that is given.
 #[cycle(evaluate)]
+#[inline(always)]
 fn write_item<'a, W: TextWrite, C: Context, E: Escaper, S: FormatSource, L: Ledger>(
+    sink: &mut Sink<'_, W>,
+    environment: &Environment<'a, C, C::Object>,
+    list: &S::List,
+    item: &'a Formattable<'a, C::Object>,
+    plain: Option<usize>,
+    scratch: &mut S::List,
+    count: &mut PieceCount<L>,
+) -> Result<(), Error>
+    requires met { S.is_met list.now }
+    requires plain { IfSome plain (λ q. IsPlainItem q (S.asks list.now)) }
+    ensures writes { Writes W.written
+        (list_item (shows_by E.shown C.Object.shows) (environment_of C.finds environment.now)
+        (S.asks list.now)
+        (slots_of item.now))
+        sink.old sink.new (result_answer result) }
+    ensures gone { count.new ≤ count.old + (list_item_work (shows_by E.shown C.Object.shows)
+        (environment_of C.finds environment.now) (S.asks list.now) (slots_of item.now)).pieces }
+    ensures exact { IfOk result (λ _. count.new ≡ count.old + (list_item_work
+        (shows_by E.shown C.Object.shows)
+        (environment_of C.finds environment.now) (S.asks list.now) (slots_of item.now)).pieces) }
+{
+    match plain {
+        Some(place) => {
+            count.tick();
+            write_plain_item::<W, C::Object, E>(sink, item, place)
+        }
+        None => write_formatted::<W, C, E, S, L>(sink, environment, list, item, scratch, count),
+    }
+}
+
+/// Writes one item of a list by its format. `scratch` is for lists in that.
+#[cycle(evaluate)]
+fn write_formatted<'a, W: TextWrite, C: Context, E: Escaper, S: FormatSource, L: Ledger>(
     sink: &mut Sink<'_, W>,
     environment: &Environment<'a, C, C::Object>,
     list: &S::List,
@@ -272,9 +392,42 @@ fn count_empty<S: FormatSource, L: Ledger>(format: S, count: &mut PieceCount<L>)
     }
 }
 
-/// Writes what comes between two items. `scratch` is for lists in the join.
+/// Writes what comes between two items: `text`, if that is given.
 #[cycle(evaluate)]
+#[inline(always)]
 fn write_join<'a, W: TextWrite, C: Context, E: Escaper, S: FormatSource, L: Ledger>(
+    sink: &mut Sink<'_, W>,
+    environment: &Environment<'a, C, C::Object>,
+    list: &S::List,
+    text: Option<Group<'_>>,
+    scratch: &mut S::List,
+    count: &mut PieceCount<L>,
+) -> Result<(), Error>
+    requires met { S.is_met list.now }
+    requires text { IfSome text (λ g. IsText (group_of g) (S.asks list.now).join) }
+    ensures writes { Writes W.written
+        (list_join (shows_by E.shown C.Object.shows) (environment_of C.finds environment.now)
+        (S.asks list.now))
+        sink.old sink.new (result_answer result) }
+    ensures gone { count.new ≤ count.old + (list_join_work (shows_by E.shown C.Object.shows)
+        (environment_of C.finds environment.now) (S.asks list.now)).pieces }
+    ensures exact { IfOk result (λ _. count.new ≡ count.old + (list_join_work
+        (shows_by E.shown C.Object.shows)
+        (environment_of C.finds environment.now) (S.asks list.now)).pieces) }
+{
+    match text {
+        Some(run) => {
+            count.tick();
+            sink.put_run(run.text, run.place)?;
+            Ok(())
+        }
+        None => write_formatted_join::<W, C, E, S, L>(sink, environment, list, scratch, count),
+    }
+}
+
+/// Writes what comes between two items by its format. `scratch` is for lists in that.
+#[cycle(evaluate)]
+fn write_formatted_join<'a, W: TextWrite, C: Context, E: Escaper, S: FormatSource, L: Ledger>(
     sink: &mut Sink<'_, W>,
     environment: &Environment<'a, C, C::Object>,
     list: &S::List,

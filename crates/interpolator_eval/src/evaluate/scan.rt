@@ -1,5 +1,7 @@
 //! A text as a source: it is written while it is read. Callers come before what they call.
-ghost use Rattle.std.specs.Prelude.{◌≡◌, ◌≢◌, ◌+◌, ◌<◌, ◌≤◌, ⊤, ℕ, IfOk, None, Some, option_map};
+ghost use Rattle.std.specs.Prelude.{◌≡◌, ◌≢◌, ◌+◌, ◌<◌, ◌≤◌, ⊤, ℕ, IfOk, IfSome, None, Some};
+ghost use Rattle.std.specs.Prelude.{option_map};
+ghost use Rattle.interpolator_render.specs.Bounds.{bounded_writer};
 ghost use Rattle.interpolator_render.specs.declared.view.Trait.TheVariants.{Iter};
 ghost use Rattle.interpolator_syntax.specs.At.{at, strip};
 ghost use Rattle.interpolator_syntax.specs.Classes.{close_brace};
@@ -7,14 +9,8 @@ ghost use Rattle.interpolator_syntax.specs.Arguments.{argument_at, argument_afte
 ghost use Rattle.interpolator_syntax.specs.Arguments.{plain_argument, named_argument, request_of};
 ghost use Rattle.interpolator_syntax.specs.Faults.{result_answer};
 ghost use Rattle.interpolator_syntax.specs.Groups.{group_of};
-ghost use Rattle.interpolator_syntax.specs.Nodes.{
-  as_forest,
-  group_branch,
-  no_nodes,
-  nodes,
-  nodes_and,
-};
-ghost use Rattle.interpolator_syntax.specs.Nodes.{token_node};
+ghost use Rattle.interpolator_syntax.specs.Nodes.{as_forest, branch, group_branch, no_nodes};
+ghost use Rattle.interpolator_syntax.specs.Nodes.{nodes, nodes_and, token_node};
 ghost use Rattle.interpolator_syntax.specs.Pieces.{argument_from};
 ghost use Rattle.interpolator_syntax.specs.Tokens.{argument as argument_token};
 ghost use Rattle.interpolator_eval.specs.Escaping.{shows_by};
@@ -26,8 +22,10 @@ ghost use Rattle.interpolator_eval.specs.Meaning.ScannedLists.{
   scanned_list,
 };
 ghost use Rattle.interpolator_eval.specs.Meaning.ScannedLists.{scanned_rest, text_forest};
+ghost use Rattle.interpolator_eval.specs.Meaning.Outcomes.{Outcome};
 ghost use Rattle.interpolator_eval.specs.Meaning.Sinks.{Writes};
-ghost use Rattle.interpolator_eval.specs.Meaning.Sources.{FirstAsks, Met, asks_list, before_list};
+ghost use Rattle.interpolator_eval.specs.Meaning.Sources.{FirstAsks, IsBare, IsText, Met};
+ghost use Rattle.interpolator_eval.specs.Meaning.Sources.{asks_list, before_list};
 ghost use Rattle.interpolator_eval.specs.Meaning.Sources.{branch_of, from_list, met_pieces};
 ghost use Rattle.interpolator_eval.specs.Meaning.Sources.{unlisted_means, with_brace};
 ghost use Rattle.interpolator_eval.specs.Meaning.Work.{forest_work};
@@ -35,12 +33,12 @@ ghost use Rattle.interpolator_eval.specs.Meaning.Work.{forest_work};
 use crate::context::Context;
 use crate::escaper::Escaper;
 use crate::evaluate::environment::Environment;
-use crate::evaluate::sink::Sink;
+use crate::evaluate::sink::{Sink, write_char, write_run};
 use crate::evaluate::source::FormatSource;
 use crate::evaluate::value::{LookUp, chosen_list, write_plain_value, write_value};
 use crate::piece_count::PieceCount;
 use crate::slots::Formattable;
-use interpolator_render::{Spec, TextWrite, Trait};
+use interpolator_render::{Bounded, Spec, TextWrite, Trait};
 use interpolator_syntax::{
     ArgumentName, Cursor, Error, Group, ParseError, Request, Token, inside, next_token, take_name,
     take_request,
@@ -54,6 +52,9 @@ struct WholeText;
 
 /// The loop over the tokens before the first list.
 struct BeforeList;
+
+/// The loop over the tokens of a text that is written to a buffer.
+struct BufferedText;
 
 /// A list argument that the scan has met.
 #[derive(Clone, Copy)]
@@ -98,7 +99,7 @@ impl<'t> FormatSource for Cursor<'t> {
         list: &mut ScannedList<'t>,
         count: &mut PieceCount<L>,
     ) -> Result<bool, Error> {
-        write_tokens::<W, C, E, L, WholeText>(sink, environment, *self, list, count)
+        write_to_sink::<W, C, E, L, WholeText>(sink, environment, *self, list, count)
     }
 
     #[inline(always)]
@@ -144,6 +145,20 @@ impl<'t> FormatSource for Cursor<'t> {
         group_start(list.asked.list.join)
     }
 
+    fn plain_item(list: &ScannedList<'t>) -> Option<usize> {
+        match list.asked.list.item {
+            Some(group) => bare_argument(group),
+            None => Some(list.end.place),
+        }
+    }
+
+    fn text_join<'l>(list: &'l ScannedList<'t>) -> Option<Group<'l>> {
+        match list.asked.list.join {
+            Some(group) => text_alone(group),
+            None => None,
+        }
+    }
+
     #[inline(always)]
     fn rest(list: &ScannedList<'t>) -> Option<Cursor<'t>> {
         list.end.strip(b'}')
@@ -185,10 +200,58 @@ fn write_before_list_on<'a, W: TextWrite, C: Context, E: Escaper, L: Ledger>(
 {
     let mut count = PieceCount::<L>::open(blank);
     let mut list = text.scratch_list();
-    if write_tokens::<W, C, E, L, BeforeList>(sink, environment, text, &mut list, &mut count)? {
+    if write_to_sink::<W, C, E, L, BeforeList>(sink, environment, text, &mut list, &mut count)? {
         return Ok(Some(list.start - 1));
     }
     Ok(None)
+}
+
+/// Returns the place of the closing brace, if a group is `{}`.
+#[inline(never)]
+fn bare_argument(group: Group<'_>) -> Option<usize>
+    ensures { IfSome result (λ q. IsBare q (group_branch nodes (Some (group_of group.entry)))) }
+{
+    if group.text.len() != 2 {
+        return None;
+    }
+    let (token, rest) = next_token(inside(group))?;
+    match token {
+        Token::Argument => bare_rest(rest),
+        _ => None,
+    }
+}
+
+/// Returns the text of a group, if it is not empty and has no brace.
+#[inline(never)]
+fn text_alone(group: Group<'_>) -> Option<Group<'_>>
+    ensures { IfSome result (λ g. IsText (group_of g)
+        (group_branch nodes (Some (group_of group.entry)))) }
+{
+    let (token, rest) = next_token(inside(group))?;
+    match token {
+        Token::Literals(run) if rest.is_at_end() => Some(Group {
+            text: run,
+            place: group.place,
+        }),
+        _ => None,
+    }
+}
+
+/// Returns the place of the closing brace, if the argument that begins here, after its brace, has
+/// neither name nor spec, and nothing follows it.
+#[inline(always)]
+fn bare_rest(here: Cursor<'_>) -> Option<usize>
+    ensures { IfSome result (λ q. (p : ℕ) → IsBare q
+        (branch (nodes_and (token_node nodes p argument_token (at here.entry))
+        (text_forest (argument_from here.entry.place (at here.entry)).rest)))) }
+{
+    let named = take_name(here);
+    let after = named.end.strip(b'}')?;
+    if named.name.is_empty() && after.is_at_end() {
+        Some(named.end.place)
+    } else {
+        None
+    }
 }
 
 /// Returns a cursor at the beginning of a group's text, if there is a group.
@@ -203,9 +266,10 @@ fn group_start(group: Option<Group<'_>>) -> Option<Cursor<'_>>
     }
 }
 
-/// Writes what a text means up to its first list, token by token, and returns whether there is one.
+/// Writes what a text means up to its first list, and returns whether there is one. Whether it goes
+/// to a writer or into a buffer is asked here, once for all tokens.
 #[inline(always)]
-fn write_tokens<'t, 'a, W: TextWrite, C: Context, E: Escaper, L: Ledger, Loop>(
+fn write_to_sink<'t, 'a, W: TextWrite, C: Context, E: Escaper, L: Ledger, Loop>(
     sink: &mut Sink<'_, W>,
     environment: &Environment<'a, C, C::Object>,
     text: Cursor<'t>,
@@ -226,24 +290,111 @@ fn write_tokens<'t, 'a, W: TextWrite, C: Context, E: Escaper, L: Ledger, Loop>(
         (environment_of C.finds environment.now) (before_list (text_forest (at text.entry)))).pieces
         + met_pieces result)) }
 {
+    match sink {
+        Sink::Writer(out) => {
+            write_tokens::<W, C, E, L, Loop>(&mut **out, environment, text, list, count)
+        }
+        Sink::Buffer(buffer) => {
+            write_to_buffer::<C, E, L>(&mut **buffer, environment, text, list, count)
+        }
+    }
+}
+
+/// Writes what a text means up to its first list into a buffer, and returns whether there is one.
+/// This stands between, since a function zeroes its error slot on entry: only a buffer takes that.
+#[inline(always)]
+fn write_to_buffer<'t, 'a, C: Context, E: Escaper, L: Ledger>(
+    buffer: &mut Bounded,
+    environment: &Environment<'a, C, C::Object>,
+    text: Cursor<'t>,
+    list: &mut ScannedList<'t>,
+    count: &mut PieceCount<L>,
+) -> Result<bool, Error>
+    ensures outcome { Outcome
+        (forest_means (shows_by E.shown C.Object.shows) (environment_of C.finds environment.now)
+        (before_list (text_forest (at text.entry))))
+        (bounded_writer buffer.old) (bounded_writer buffer.new) (result_answer result) }
+    ensures met { IfOk result (λ met. Met met ⊤ (scanned_list list.new) (scanned_rest list.new)
+        (from_list (text_forest (at text.entry)))) }
+    ensures gone { count.new ≤ count.old + ((forest_work (shows_by E.shown C.Object.shows)
+        (environment_of C.finds environment.now) (before_list (text_forest (at text.entry)))).pieces
+        + met_pieces result) }
+    ensures exact { IfOk result (λ _. count.new ≡ count.old + ((forest_work
+        (shows_by E.shown C.Object.shows)
+        (environment_of C.finds environment.now) (before_list (text_forest (at text.entry)))).pieces
+        + met_pieces result)) }
+{
+    write_apart::<C, E, L>(buffer, environment, text, list, count)
+}
+
+/// Does what [`write_to_buffer`] does, by a call. A buffer is for lists under a width alone, and
+/// the code for it would make the loop over each other text dearer.
+#[inline(never)]
+fn write_apart<'t, 'a, C: Context, E: Escaper, L: Ledger>(
+    buffer: &mut Bounded,
+    environment: &Environment<'a, C, C::Object>,
+    text: Cursor<'t>,
+    list: &mut ScannedList<'t>,
+    count: &mut PieceCount<L>,
+) -> Result<bool, Error>
+    ensures outcome { Outcome
+        (forest_means (shows_by E.shown C.Object.shows) (environment_of C.finds environment.now)
+        (before_list (text_forest (at text.entry))))
+        (bounded_writer buffer.old) (bounded_writer buffer.new) (result_answer result) }
+    ensures met { IfOk result (λ met. Met met ⊤ (scanned_list list.new) (scanned_rest list.new)
+        (from_list (text_forest (at text.entry)))) }
+    ensures gone { count.new ≤ count.old + ((forest_work (shows_by E.shown C.Object.shows)
+        (environment_of C.finds environment.now) (before_list (text_forest (at text.entry)))).pieces
+        + met_pieces result) }
+    ensures exact { IfOk result (λ _. count.new ≡ count.old + ((forest_work
+        (shows_by E.shown C.Object.shows)
+        (environment_of C.finds environment.now) (before_list (text_forest (at text.entry)))).pieces
+        + met_pieces result)) }
+{
+    write_tokens::<Bounded, C, E, L, BufferedText>(buffer, environment, text, list, count)
+}
+
+/// Writes what a text means up to its first list, token by token, and returns whether there is one.
+#[inline(always)]
+fn write_tokens<'t, 'a, W: TextWrite, C: Context, E: Escaper, L: Ledger, Loop>(
+    out: &mut W,
+    environment: &Environment<'a, C, C::Object>,
+    text: Cursor<'t>,
+    list: &mut ScannedList<'t>,
+    count: &mut PieceCount<L>,
+) -> Result<bool, Error>
+    ensures outcome { Outcome
+        (forest_means (shows_by E.shown C.Object.shows) (environment_of C.finds environment.now)
+        (before_list (text_forest (at text.entry))))
+        (W.written out.old) (W.written out.new) (result_answer result) }
+    ensures met { IfOk result (λ met. Met met ⊤ (scanned_list list.new) (scanned_rest list.new)
+        (from_list (text_forest (at text.entry)))) }
+    ensures gone { count.new ≤ count.old + ((forest_work (shows_by E.shown C.Object.shows)
+        (environment_of C.finds environment.now) (before_list (text_forest (at text.entry)))).pieces
+        + met_pieces result) }
+    ensures exact { IfOk result (λ _. count.new ≡ count.old + ((forest_work
+        (shows_by E.shown C.Object.shows)
+        (environment_of C.finds environment.now) (before_list (text_forest (at text.entry)))).pieces
+        + met_pieces result)) }
+{
     let mut here = text;
     while let Some((token, rest)) = next_token(here) {
         count.tick();
         here = match token {
             Token::Literals(run) => {
-                sink.put_run(run, here.place)?;
+                write_run(out, run, here.place)?;
                 rest
             }
             Token::Doubled(brace) => {
-                sink.put_char(brace, here.place)?;
+                write_char(out, brace, here.place)?;
                 rest
             }
             Token::LoneClose => {
-                sink.put_char('}', here.place)?;
+                write_char(out, '}', here.place)?;
                 rest
             }
             Token::Argument => match write_argument::<W, C, E, Loop>(
-                sink,
+                out,
                 environment,
                 rest,
                 list,
@@ -263,22 +414,22 @@ fn write_tokens<'t, 'a, W: TextWrite, C: Context, E: Escaper, L: Ledger, Loop>(
 /// A name alone has a function of its own, in which the compiler knows the trait and the spec.
 #[inline(always)]
 fn write_argument<'t, 'a, W: TextWrite, C: Context, E: Escaper, Loop>(
-    sink: &mut Sink<'_, W>,
+    out: &mut W,
     environment: &Environment<'a, C, C::Object>,
     here: Cursor<'t>,
     list: &mut ScannedList<'t>,
 ) -> Result<Option<Cursor<'t>>, Error>
-    ensures writes { (p : ℕ) → Writes W.written
+    ensures outcome { (p : ℕ) → Outcome
         (unlisted_means (shows_by E.shown C.Object.shows) (environment_of C.finds environment.now)
         (token_node nodes p argument_token (at here.entry)))
-        sink.old sink.new (result_answer result) }
+        (W.written out.old) (W.written out.new) (result_answer result) }
     ensures rest { (p : ℕ) → IfOk result (λ told. ArgumentTold p (at here.entry) list.new told) }
 {
     let named = take_name(here);
     match named.end.strip(b'}') {
         Some(after) => {
             write_plain_value::<W, C, E>(
-                sink,
+                out,
                 environment,
                 here.place,
                 named.name,
@@ -286,7 +437,7 @@ fn write_argument<'t, 'a, W: TextWrite, C: Context, E: Escaper, Loop>(
             )?;
             Ok(Some(after))
         }
-        None => write_asked::<W, C, E>(sink, environment, here, named, list),
+        None => write_asked::<W, C, E>(out, environment, here, named, list),
     }
 }
 
@@ -295,7 +446,7 @@ fn write_argument<'t, 'a, W: TextWrite, C: Context, E: Escaper, Loop>(
 /// stored in `list`, and the result is `None`.
 #[inline(always)]
 fn write_asked<'t, 'a, W: TextWrite, C: Context, E: Escaper>(
-    sink: &mut Sink<'_, W>,
+    out: &mut W,
     environment: &Environment<'a, C, C::Object>,
     here: Cursor<'t>,
     named: ArgumentName<'t>,
@@ -304,10 +455,10 @@ fn write_asked<'t, 'a, W: TextWrite, C: Context, E: Escaper>(
     requires open { strip close_brace (at named.end) ≡ None }
     requires named { argument_at (at here)
         ≡ argument_after here.place (plain_argument named) (at named.end) }
-    ensures writes { (p : ℕ) → Writes W.written
+    ensures outcome { (p : ℕ) → Outcome
         (unlisted_means (shows_by E.shown C.Object.shows) (environment_of C.finds environment.now)
         (token_node nodes p argument_token (at here.entry)))
-        sink.old sink.new (result_answer result) }
+        (W.written out.old) (W.written out.new) (result_answer result) }
     ensures rest { (p : ℕ) → IfOk result (λ told. ArgumentTold p (at here.entry) list.new told) }
 {
     let mut end = named.end;
@@ -326,7 +477,7 @@ fn write_asked<'t, 'a, W: TextWrite, C: Context, E: Escaper>(
         return Ok(None);
     }
     let read = ArgumentName { end, ..named };
-    let after = write_closed::<W, C, E>(sink, environment, here.place, read, &asked)?;
+    let after = write_closed::<W, C, E>(out, environment, here.place, read, &asked)?;
     Ok(Some(after))
 }
 
@@ -334,18 +485,18 @@ fn write_asked<'t, 'a, W: TextWrite, C: Context, E: Escaper>(
 /// after its spec. Returns the text after its closing brace.
 #[inline(always)]
 fn write_closed<'t, 'a, W: TextWrite, C: Context, E: Escaper>(
-    sink: &mut Sink<'_, W>,
+    out: &mut W,
     environment: &Environment<'a, C, C::Object>,
     start: usize,
     named: ArgumentName<'t>,
     asked: &Request<'t>,
 ) -> Result<Cursor<'t>, Error>
     requires value { asked.now.slot ≢ Iter }
-    ensures writes { let end = at named.entry.end in Writes W.written
+    ensures outcome { let end = at named.entry.end in Outcome
         (with_brace (strip close_brace end) end.place
         (argument_means (shows_by E.shown C.Object.shows) (environment_of C.finds environment.now)
         start (named_argument named.entry (request_of asked.now)) end.place))
-        sink.old sink.new (result_answer result) }
+        (W.written out.old) (W.written out.new) (result_answer result) }
     ensures rest { IfOk result (λ r. strip close_brace (at named.entry.end) ≡ Some (at r)) }
 {
     let look_up = LookUp {
@@ -353,7 +504,7 @@ fn write_closed<'t, 'a, W: TextWrite, C: Context, E: Escaper>(
         name: named.name,
         end: named.end.place,
     };
-    write_value::<W, C, E>(sink, environment, look_up, asked.slot, &asked.spec)?;
+    write_value::<W, C, E>(out, environment, look_up, asked.slot, &asked.spec)?;
     match named.end.strip(b'}') {
         Some(after) => Ok(after),
         None => Err(Error::Parse(ParseError::Expected("}", named.end.place))),

@@ -285,18 +285,6 @@ impl<'s, W: TextWrite> Sink<'s, W> {
         }
     }
 
-    /// Writes one character of the format.
-    #[inline(always)]
-    pub fn put_char(&mut self, c: char, place: usize) -> Result<(), WriteFault>
-        ensures writes { Writes W.written (text_alone ((c, place) ∷ []))
-            self.old self.new (write_answered result) }
-    {
-        match self {
-            Sink::Writer(out) => write_char(&mut **out, c, place),
-            Sink::Buffer(buffer) => write_char(&mut **buffer, c, place),
-        }
-    }
-
     /// Writes a text padded to the width, with all its characters at one place.
     pub fn put_padded(&mut self, text: &str, spec: &Spec, place: usize) -> Result<(), WriteFault>
         requires no_precision { spec.now.precision ≡ None }
@@ -318,28 +306,6 @@ impl<'s, W: TextWrite> Sink<'s, W> {
         match self {
             Sink::Writer(out) => out.room().unwrap_or(usize::MAX),
             Sink::Buffer(buffer) => buffer.left(),
-        }
-    }
-
-    /// Writes the value in a slot, under a trait and a spec, with all its characters at one place.
-    #[inline(always)]
-    pub fn put_value<V: Value, E: Escaper>(
-        &mut self,
-        value: Option<&V>,
-        wanted: Trait,
-        spec: &Spec,
-        place: usize,
-    ) -> Result<(), WriteFault>
-        ensures writes { Writes W.written
-            (value_means (shows_by E.shown V.shows) wanted spec.now place
-            (option_copied value.entry))
-            self.old self.new (write_answered result) }
-    {
-        match self {
-            Sink::Writer(out) => write_shown::<W, V, E>(&mut **out, value, wanted, spec, place),
-            Sink::Buffer(buffer) => {
-                write_shown::<Bounded, V, E>(&mut **buffer, value, wanted, spec, place)
-            }
         }
     }
 

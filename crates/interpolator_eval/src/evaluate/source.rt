@@ -1,7 +1,8 @@
 //! Sources of a format: a text, or pieces that were read before.
-ghost use Rattle.std.specs.Prelude.{◌≡◌, ◌+◌, ◌≤◌, Option, IfOk, MatchBool, MatchResult};
+ghost use Rattle.std.specs.Prelude.{◌≡◌, ◌+◌, ◌≤◌, Option, IfOk, IfSome, MatchBool, MatchResult};
 ghost use Rattle.std.specs.Prelude.{false, is_some, map, option_map, true};
 ghost use Rattle.interpolator_syntax.specs.Faults.{result_answer};
+ghost use Rattle.interpolator_syntax.specs.Groups.{group_of};
 ghost use Rattle.interpolator_syntax.specs.Nodes.{Forest, no_nodes};
 ghost use Rattle.interpolator_eval.specs.Escaping.{shows_by};
 ghost use Rattle.interpolator_eval.specs.Slots.{slots_of};
@@ -15,7 +16,9 @@ ghost use Rattle.interpolator_eval.specs.Meaning.Sources.{
   before_list,
   from_list,
 };
-ghost use Rattle.interpolator_eval.specs.Meaning.Sources.{branch_of, first_holds, met_pieces};
+ghost use Rattle.interpolator_eval.specs.Meaning.Sources.{IsPlainItem, IsText, branch_of};
+ghost use Rattle.interpolator_eval.specs.Meaning.Sources.{first_holds};
+ghost use Rattle.interpolator_eval.specs.Meaning.Sources.{met_pieces};
 ghost use Rattle.interpolator_eval.specs.Meaning.Work.{forest_work};
 
 use crate::context::Context;
@@ -25,7 +28,7 @@ use crate::evaluate::sink::Sink;
 use crate::piece_count::PieceCount;
 use crate::slots::Formattable;
 use interpolator_render::{Spec, TextWrite};
-use interpolator_syntax::Error;
+use interpolator_syntax::{Error, Group};
 use std::sync::ledger::Ledger;
 
 /// What is left of a format, wherever it comes from: a text that is still to be read, or pieces
@@ -130,6 +133,18 @@ pub trait FormatSource: Copy {
     fn join(list: &Self::List) -> Option<Self>
         requires met { is_met list.now }
         ensures { branch_of tree result ≡ (asks list.now).join };
+
+    /// Returns the place of an item's text, if each item is displayed plainly: if there is no item
+    /// format, or that is `{}`. A source may return `None` all the same.
+    fn plain_item(list: &Self::List) -> Option<usize>
+        requires met { is_met list.now }
+        ensures { IfSome result (λ q. IsPlainItem q (asks list.now)) };
+
+    /// Returns the text of its join, if that is text without a brace. A source may return `None` all
+    /// the same.
+    fn text_join(list: &Self::List) -> Option<Group<'_>>
+        requires met { is_met list.now }
+        ensures { IfSome result (λ g. IsText (group_of g) (asks list.now).join) };
 
     /// Returns what follows the closing brace, if there is one.
     fn rest(list: &Self::List) -> Option<Self>

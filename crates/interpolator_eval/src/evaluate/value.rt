@@ -12,6 +12,7 @@ ghost use Rattle.interpolator_eval.specs.Meaning.Environments.{slots_under};
 ghost use Rattle.interpolator_eval.specs.Meaning.Lists.{IsChosen, IsNotChosen, ChosenUnder};
 ghost use Rattle.interpolator_eval.specs.Meaning.Meanings.{under_name, value_means, forbids_list};
 ghost use Rattle.interpolator_eval.specs.Meaning.CodeEnvironments.{environment_of};
+ghost use Rattle.interpolator_eval.specs.Meaning.Outcomes.{Outcome};
 ghost use Rattle.interpolator_eval.specs.Meaning.Sinks.{HasRoom, Writes};
 ghost use Rattle.interpolator_eval.specs.Slots.{slots_of, slot_at, values_of};
 
@@ -19,7 +20,7 @@ use crate::context::Context;
 use crate::escaper::Escaper;
 use crate::evaluate::environment::Environment;
 use crate::evaluate::list::{choose, forbids_list};
-use crate::evaluate::sink::Sink;
+use crate::evaluate::sink::{Sink, write_plain, write_shown};
 use crate::slots::Formattable;
 use interpolator_render::{Bounded, Spec, TextWrite, Trait, Value};
 use interpolator_syntax::{Error, ParseError, Range};
@@ -52,23 +53,23 @@ fn refused<'a, C: Context>(
 /// Writes the value under a name.
 #[inline(always)]
 pub fn write_value<'a, W: TextWrite, C: Context, E: Escaper>(
-    sink: &mut Sink<'_, W>,
+    out: &mut W,
     environment: &Environment<'a, C, C::Object>,
     look_up: LookUp<'_>,
     wanted: Trait,
     spec: &Spec,
 ) -> Result<(), Error>
-    ensures writes { let x = look_up.entry in Writes W.written
+    ensures outcome { let x = look_up.entry in Outcome
         (under_name (chars x.name.now) x.start
         (λ found. value_means (shows_by E.shown C.Object.shows) wanted spec.now x.end
         (slot_at wanted (values_of found)))
         (slots_under (environment_of C.finds environment.now) (chars x.name.now)))
-        sink.old sink.new (result_answer result) }
+        (W.written out.old) (W.written out.new) (result_answer result) }
 {
     let Some(value) = environment.value(look_up.name, wanted) else {
         return refused(environment, look_up.start, look_up.name);
     };
-    sink.put_value::<C::Object, E>(value, wanted, spec, look_up.end)?;
+    write_shown::<W, C::Object, E>(out, value, wanted, spec, look_up.end)?;
     Ok(())
 }
 
@@ -76,23 +77,23 @@ pub fn write_value<'a, W: TextWrite, C: Context, E: Escaper>(
 /// ends at `end`.
 #[inline(always)]
 pub fn write_plain_value<'a, W: TextWrite, C: Context, E: Escaper>(
-    sink: &mut Sink<'_, W>,
+    out: &mut W,
     environment: &Environment<'a, C, C::Object>,
     start: usize,
     name: &str,
     end: usize,
 ) -> Result<(), Error>
-    ensures writes { Writes W.written
+    ensures outcome { Outcome
         (under_name (chars name.now) start
         (λ found. value_means (shows_by E.shown C.Object.shows) Display plain_spec end
         (slot_at Display (values_of found)))
         (slots_under (environment_of C.finds environment.now) (chars name.now)))
-        sink.old sink.new (result_answer result) }
+        (W.written out.old) (W.written out.new) (result_answer result) }
 {
     let Some(value) = environment.value(name, Trait::Display) else {
         return refused(environment, start, name);
     };
-    sink.put_plain::<C::Object, E>(value, end)?;
+    write_plain::<W, C::Object, E>(out, value, end)?;
     Ok(())
 }
 

@@ -12,27 +12,27 @@ name_of-start-requires g c = grind (arith, name_fits, detail_bare, fits_text)
 pub text_of-requires : goal.text_of-requires
 text_of-requires g c = grind (arith, text_fits, detail_bare, fits_text)
 
-pub put_run-requires : goal.put_run-requires
-put_run-requires g c = grind (arith, detail_bare)
+pub write_run-requires : goal.write_run-requires
+write_run-requires g c = grind (arith, detail_bare)
 
-pub returns-in_err-write_plain_value-in-Closed-clause-writes : goal.returns-in_err-write_plain_value-in-Closed-clause-writes
-returns-in_err-write_plain_value-in-Closed-clause-writes g c =
+pub returns-in_err-write_plain_value-in-Closed-clause-outcome : goal.returns-in_err-write_plain_value-in-Closed-clause-outcome
+returns-in_err-write_plain_value-in-Closed-clause-outcome g c =
     grind (arith, node_of_out, name_held, detail_bare, closed_fault, err_from_is_err_and)
 
-pub returns-in_ok-write_plain_value-in-Closed-clause-writes : goal.returns-in_ok-write_plain_value-in-Closed-clause-writes
-returns-in_ok-write_plain_value-in-Closed-clause-writes g c =
+pub returns-in_ok-write_plain_value-in-Closed-clause-outcome : goal.returns-in_ok-write_plain_value-in-Closed-clause-outcome
+returns-in_ok-write_plain_value-in-Closed-clause-outcome g c =
     grind (arith, node_of_out, name_held, detail_bare, closed_done)
 
 pub returns-in_ok-write_plain_value-in-Closed-clause-list : goal.returns-in_ok-write_plain_value-in-Closed-clause-list
 returns-in_ok-write_plain_value-in-Closed-clause-list g c = grind (arith, detail_bare)
 
-pub returns-in_err-put_run-in_default-clause-writes : goal.returns-in_err-put_run-in_default-clause-writes
-returns-in_err-put_run-in_default-clause-writes g c =
+pub returns-in_err-write_run-in_default-clause-outcome : goal.returns-in_err-write_run-in_default-clause-outcome
+returns-in_err-write_run-in_default-clause-outcome g c =
     grind (arith, node_of_out, text_held, detail_bare, err_from_is_err_and)
 
-pub returns-in_ok-put_run-in_default-clause-writes : goal.returns-in_ok-put_run-in_default-clause-writes
-returns-in_ok-put_run-in_default-clause-writes g c =
+pub returns-in_ok-write_run-in_default-clause-outcome : goal.returns-in_ok-write_run-in_default-clause-outcome
+returns-in_ok-write_run-in_default-clause-outcome g c =
     grind (arith, node_of_out, text_held, detail_bare)
 
-pub returns-in_ok-put_run-in_default-clause-list : goal.returns-in_ok-put_run-in_default-clause-list
-returns-in_ok-put_run-in_default-clause-list g c = grind (arith, detail_bare)
+pub returns-in_ok-write_run-in_default-clause-list : goal.returns-in_ok-write_run-in_default-clause-list
+returns-in_ok-write_run-in_default-clause-list g c = grind (arith, detail_bare)

@@ -25,11 +25,11 @@ pub returns-in_err-run_piece : goal.returns-in_err-run_piece
 returns-in_err-run_piece g c =
     let fits = first_fits c.args.source.text.now _ c.in-Some.piece.now c.in-Some.after.now
     (search rules) c.loop-piece.invariant.whole in
-    let stops = first_stops _ _ _ c.loop-piece.invariant.passed c.tick.ensures.one fits.first
-    fits.holds c.in_err-run_piece.ensures.writes in
+    let stops = first_stops _ _ c.loop-piece.invariant.passed c.tick.ensures.one fits.first
+    fits.holds c.in_err-run_piece.ensures.outcome in
     let err = err_from_is_err_and c.from_residual.result c.from_residual.ensures.1 in
     rw (err.1, err.2)
-    (record { writes = stops.0; met = tt; gone = omega (arith, stops.1); exact = tt })
+    (record { outcome = stops.0; met = tt; gone = omega (arith, stops.1); exact = tt })
 
 pub returns-then-branch : goal.returns-then-branch
 returns-then-branch g c =
@@ -37,10 +37,10 @@ returns-then-branch g c =
     let split : c.loop-piece.rest.now ≡ c.in-Some.piece.now ∷ c.in-Some.after.now = search rules in
     let fits = first_fits bs _ c.in-Some.piece.now _ split c.loop-piece.invariant.whole in
     let form = c.in_ok-run_piece.ensures.list ∙ c.if-branch.true in
-    let list = first_list _ _ _ c.loop-piece.invariant.passed c.tick.ensures.one fits.first fits.holds
-    (asks_form bs _ fits.held ∙ form) c.in_ok-run_piece.ensures.writes in
+    let list = first_list _ _ c.loop-piece.invariant.passed c.tick.ensures.one fits.first fits.holds
+    (asks_form bs _ fits.held ∙ form) c.in_ok-run_piece.ensures.outcome in
     record {
-      writes = list.0;
+      outcome = list.0;
       met = (rw split form, rw (list.1, split) (list_first bs _ _ form fits.held));
       gone = omega (arith, list.2);
       exact = list.2;
@@ -53,7 +53,7 @@ loop-piece-preserved g c =
     c.loop-piece.invariant.whole in
     record {
       whole = fits.whole;
-      passed = first_on _ _ _ c.loop-piece.invariant.passed c.tick.ensures.one fits.first fits.holds
+      passed = first_on _ _ c.loop-piece.invariant.passed c.tick.ensures.one fits.first fits.holds
           (asks_form bs _ fits.held ∙ c.in_ok-run_piece.ensures.list ∙ c.if-branch.false)
-          c.in_ok-run_piece.ensures.writes;
+          c.in_ok-run_piece.ensures.outcome;
     }

@@ -13,8 +13,8 @@ invariant-loop-piece g l =
     record {
       whole : forest_whole rest ≡ true;
       passed : Passed (shows_by g.E.Escaper.shown g.C.Object.Value.shows) (environment_of g.C.Context.finds l.environment)
-          g.W.TextWrite.written (as_forest (nodes_of l.source.text.now l.source.pieces.now)) rest
-          l.fn.sink l.sink l.fn.count l.count;
+          (as_forest (nodes_of l.source.text.now l.source.pieces.now)) rest
+          (g.W.TextWrite.written l.fn.out) (g.W.TextWrite.written l.out) l.fn.count l.count;
     }
 
 abbrev pub decreases-loop-piece : goal.decreases-loop-piece

@@ -34,35 +34,35 @@ write_padded_list-returns-in_err-answer-in-Buffer-clause-writes g t c =
       same = same_end c.args.sink.now;
     })
 
-pub write_items-returns-in_err-write_item-clause-writes :
-    goal.write_items-returns-in_err-write_item-clause-writes
-write_items-returns-in_err-write_item-clause-writes g t c =
+pub write_each-returns-in_err-write_item-clause-writes :
+    goal.write_each-returns-in_err-write_item-clause-writes
+write_each-returns-in_err-write_item-clause-writes g t c =
     let err = err_from_is_err_and c.from_residual.result c.from_residual.ensures.1 in
     let split : c.args.items.now ≡ c.in-Some.first.now ∷ c.in-Some.rest.now = search rules in
     let o = c.in_err-write_item.ensures.writes in
     rw (err.1, err.2, split)
     (record { outcome = fault_first _ _ _ _ _ o.outcome; same = o.same })
 
-pub write_items-returns-in_err-write_item-clause-gone :
-    goal.write_items-returns-in_err-write_item-clause-gone
-write_items-returns-in_err-write_item-clause-gone g t c =
+pub write_each-returns-in_err-write_item-clause-gone :
+    goal.write_each-returns-in_err-write_item-clause-gone
+write_each-returns-in_err-write_item-clause-gone g t c =
     grind (arith, c.in_err-write_item.ensures.gone)
 
-pub write_items-loop-item-init : goal.write_items-loop-item-init
-write_items-loop-item-init g t c =
+pub write_each-loop-item-init : goal.write_each-loop-item-init
+write_each-loop-item-init g t c =
     first_passed _ _ _ _ _ slots_of c.args.items.now c.in-Some.first.now c.in-Some.rest.now _ _
     (search rules) _ _ c.in_ok-write_item.ensures.writes c.in_ok-write_item.ensures.exact
 
-pub write_items-returns-in_err-write_join : goal.write_items-returns-in_err-write_join
-write_items-returns-in_err-write_join g t c =
+pub write_each-returns-in_err-write_join : goal.write_each-returns-in_err-write_join
+write_each-returns-in_err-write_join g t c =
     let residual = c.from_residual-in_err-write_join in
     let err = err_from_is_err_and residual.result residual.ensures.1 in
     let stops = join_stops _ _ c.loop-item.invariant c.loop-item-test.true c.item-item.is
     c.in_err-write_join.ensures.writes c.in_err-write_join.ensures.gone in
     rw (err.1, err.2) (record { writes = stops.0; gone = stops.1; exact = tt })
 
-pub write_items-returns-in_err-write_item-2 : goal.write_items-returns-in_err-write_item-2
-write_items-returns-in_err-write_item-2 g t c =
+pub write_each-returns-in_err-write_item-2 : goal.write_each-returns-in_err-write_item-2
+write_each-returns-in_err-write_item-2 g t c =
     let residual = c.from_residual-in_err-write_item-2 in
     let err = err_from_is_err_and residual.result residual.ensures.1 in
     let join = c.in_ok-write_join.ensures in
@@ -71,15 +71,15 @@ write_items-returns-in_err-write_item-2 g t c =
     join.writes join.exact item.writes item.gone in
     rw (err.1, err.2) (record { writes = stops.0; gone = stops.1; exact = tt })
 
-pub write_items-loop-item-preserved : goal.write_items-loop-item-preserved
-write_items-loop-item-preserved g t c =
+pub write_each-loop-item-preserved : goal.write_each-loop-item-preserved
+write_each-loop-item-preserved g t c =
     let join = c.in_ok-write_join.ensures in
     let item = c.in_ok-write_item-2.ensures in
     item_passed _ _ c.loop-item.invariant c.loop-item-test.true c.item-item.is
     join.writes join.exact item.writes item.exact
 
-pub write_items-returns : goal.write_items-returns
-write_items-returns g t c =
+pub write_each-returns : goal.write_each-returns
+write_each-returns g t c =
     let done = items_done _ _ c.loop-item.invariant c.loop-item-test.false in
     record { writes = done.0; gone = omega (arith, done.1); exact = done.1 }
 
@@ -89,7 +89,8 @@ pub write_argument-returns-in_err-write_list-clause-writes :
     goal.write_argument-returns-in_err-write_list-clause-writes
 write_argument-returns-in_err-write_list-clause-writes g t c =
     let err = err_from_is_err_and c.from_residual.result c.from_residual.ensures.1 in
-    rw (err.1, err.2) (brace_fault _ _ _ _ _ _ _ c.in_err-write_list.ensures.writes)
+    let o = c.in_err-write_list.ensures.writes in
+    rw (err.1, err.2) (record { outcome = brace_fault _ _ _ _ _ _ o.outcome; same = o.same })
 
 -- ---- a source, list by list
 

@@ -9,27 +9,39 @@ use Rattle.interpolator_eval.proofs.MeaningLemmas.SourceLemmas.{ListsPassed, ask
 use Rattle.interpolator_eval.proofs.MeaningLemmas.SourceLemmas.{forest_size}
 use Rattle.interpolator_eval.proofs.evaluate.evaluator.+evaluate.Given as goal
 
--- eight times the pieces that are left, those of groups among them
+-- sixteen times the pieces that are left, those of groups among them
 abbrev pub decreases-write_source : goal.decreases-write_source
-decreases-write_source g l = 8 * forest_size (g.S.FormatSource.tree l.source) + 6
+decreases-write_source g l = 16 * forest_size (g.S.FormatSource.tree l.source) + 8
 
 abbrev pub decreases-write_argument : goal.decreases-write_argument
-decreases-write_argument g l = 8 * asked_size (g.S.FormatSource.asks l.list.now) + 5
+decreases-write_argument g l = 16 * asked_size (g.S.FormatSource.asks l.list.now) + 7
 
 abbrev pub decreases-write_list : goal.decreases-write_list
-decreases-write_list g l = 8 * asked_size (g.S.FormatSource.asks l.list.now) + 4
+decreases-write_list g l = 16 * asked_size (g.S.FormatSource.asks l.list.now) + 6
 
 abbrev pub decreases-write_padded_list : goal.decreases-write_padded_list
-decreases-write_padded_list g l = 8 * asked_size (g.S.FormatSource.asks l.list.now) + 3
+decreases-write_padded_list g l = 16 * asked_size (g.S.FormatSource.asks l.list.now) + 5
 
 abbrev pub decreases-write_items : goal.decreases-write_items
-decreases-write_items g l = 8 * asked_size (g.S.FormatSource.asks l.list.now) + 2
+decreases-write_items g l = 16 * asked_size (g.S.FormatSource.asks l.list.now) + 4
+
+abbrev pub decreases-write_plain_items : goal.decreases-write_plain_items
+decreases-write_plain_items g l = 16 * asked_size (g.S.FormatSource.asks l.list.now) + 3
+
+abbrev pub decreases-write_each : goal.decreases-write_each
+decreases-write_each g l = 16 * asked_size (g.S.FormatSource.asks l.list.now) + 2
 
 abbrev pub decreases-write_item : goal.decreases-write_item
-decreases-write_item g l = 8 * asked_size (g.S.FormatSource.asks l.list.now) + 1
+decreases-write_item g l = 16 * asked_size (g.S.FormatSource.asks l.list.now) + 1
+
+abbrev pub decreases-write_formatted : goal.decreases-write_formatted
+decreases-write_formatted g l = 16 * asked_size (g.S.FormatSource.asks l.list.now)
 
 abbrev pub decreases-write_join : goal.decreases-write_join
-decreases-write_join g l = 8 * asked_size (g.S.FormatSource.asks l.list.now) + 1
+decreases-write_join g l = 16 * asked_size (g.S.FormatSource.asks l.list.now) + 1
+
+abbrev pub decreases-write_formatted_join : goal.decreases-write_formatted_join
+decreases-write_formatted_join g l = 16 * asked_size (g.S.FormatSource.asks l.list.now)
 
 -- the pieces left are no more than all of them, and the others have been written
 abbrev pub invariant-write_source-loop-sink : goal.invariant-write_source-loop-sink
@@ -46,8 +58,8 @@ abbrev pub decreases-write_source-loop-sink : goal.decreases-write_source-loop-s
 decreases-write_source-loop-sink g l = forest_size (g.S.FormatSource.tree l.here)
 
 -- the items before those left have been written
-abbrev pub invariant-write_items-loop-item : goal.invariant-write_items-loop-item
-invariant-write_items-loop-item g l =
+abbrev pub invariant-write_each-loop-item : goal.invariant-write_each-loop-item
+invariant-write_each-loop-item g l =
     let shows = (shows_by g.E.Escaper.shown g.C.Object.Value.shows) in
     let e = environment_of g.C.Context.finds l.environment in
     let asked = g.S.FormatSource.asks l.list in

@@ -4,10 +4,10 @@ use Rattle.interpolator_eval.proofs.MeaningLemmas.LookUpLemmas.{value_asked}
 use Rattle.interpolator_eval.proofs.MeaningLemmas.ScanLemmas.{brace_fault}
 use Rattle.interpolator_eval.proofs.evaluate.scan.write_closed.Goals as goal
 
-pub returns-in_err-write_value-clause-writes : goal.returns-in_err-write_value-clause-writes
-returns-in_err-write_value-clause-writes g c =
+pub returns-in_err-write_value-clause-outcome : goal.returns-in_err-write_value-clause-outcome
+returns-in_err-write_value-clause-outcome g c =
     let asked = c.args.asked.now in
     let value = value_asked asked.slot (list_of asked.list) c.requires.value in
     let err = err_from_is_err_and c.from_residual.result c.from_residual.ensures.1 in
     rw (err.1, err.2, value)
-    (brace_fault _ _ _ _ _ _ _ c.in_err-write_value.ensures.writes)
+    (brace_fault _ _ _ _ _ _ c.in_err-write_value.ensures.outcome)

@@ -9,8 +9,8 @@ use Rattle.interpolator_eval.proofs.evaluate.scan.write_tokens.Given as goal
 abbrev pub invariant-loop-token : goal.invariant-loop-token
 invariant-loop-token g l =
     Passed (shows_by g.E.Escaper.shown g.C.Object.Value.shows) (environment_of g.C.Context.finds l.environment)
-    g.W.TextWrite.written (text_forest (at l.text)) (text_forest (at l.here))
-    l.fn.sink l.sink l.fn.count l.count
+    (text_forest (at l.text)) (text_forest (at l.here))
+    (g.W.TextWrite.written l.fn.out) (g.W.TextWrite.written l.out) l.fn.count l.count
 
 abbrev pub decreases-loop-token : goal.decreases-loop-token
 decreases-loop-token g l = length (chars l.here.rest.now)

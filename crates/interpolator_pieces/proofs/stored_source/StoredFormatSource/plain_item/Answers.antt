@@ -1,0 +1,15 @@
+use Rattle.std.proofs.Common.{arith}
+use Rattle.interpolator_pieces.proofs.RunLemmas.{first_piece}
+use Rattle.interpolator_pieces.proofs.WholePieceLemmas.{in_item}
+use Rattle.interpolator_pieces.proofs.stored_source.StoredFormatSource.plain_item.Goals as goal
+
+pub bare_argument-requires : goal.bare_argument-requires
+bare_argument-requires c =
+    let source = c.args.list.now in
+    let x = c.index-list-0.result in
+    let first = first_piece source.text.now source.pieces.now x c.requires.met c.index-list-0.is
+    source.fits in
+    record {
+      whole = (in_item source.text.now x c.in-Some.item c.deref.result.now c.deref.ensures.value
+          first.whole (grind arith)).whole;
+    }

@@ -1,0 +1,15 @@
+use Rattle.std.proofs.Common.{◌≡◌, [], arith, chars, sym}
+use Rattle.std.proofs.lemmas.Grind.{common_steps}
+use Rattle.std.proofs.lemmas.Str.{chars-nil}
+use Rattle.interpolator_pieces.proofs.PlainPieceLemmas.{bare_piece_is}
+use Rattle.interpolator_pieces.proofs.RunLemmas.{name_fits}
+use Rattle.interpolator_pieces.proofs.StoredLemmas.{detail_bare}
+use Rattle.interpolator_pieces.proofs.WholePieceLemmas.{fits_text}
+use Rattle.interpolator_pieces.proofs.stored_source.bare_piece.Goals as goal
+
+pub name_of-requires : goal.name_of-requires
+name_of-requires c = grind (arith, name_fits, detail_bare, fits_text)
+
+pub returns-then-is_empty : goal.returns-then-is_empty
+returns-then-is_empty c =
+    grind (arith, common_steps, chars-nil, bare_piece_is c.args.text.now c.args.piece.now)
