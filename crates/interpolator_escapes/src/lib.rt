@@ -26,21 +26,13 @@ mod misplaced;
 pub mod place_laws;
 mod place_text;
 mod placing;
-#[cfg(test)]
-mod placing_tests;
 mod plain;
 pub mod readers;
 pub mod record_laws;
-#[cfg(test)]
-mod record_tests;
 mod records;
 mod room;
 mod search;
 mod taken;
-#[cfg(test)]
-mod tests;
-#[cfg(test)]
-mod view_tests;
 mod views;
 
 pub use checking::{check_format, check_places};

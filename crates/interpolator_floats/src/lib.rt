@@ -21,8 +21,6 @@ mod powers;
 mod rounding;
 mod scale;
 mod shortest;
-#[cfg(test)]
-mod tests;
 mod units;
 mod whole;
 mod words;

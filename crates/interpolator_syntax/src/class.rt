@@ -271,19 +271,54 @@ fn split_before(text: &str, near: Option<usize>, first: u8, second: u8) -> (&str
     text.split_at(bytes_before(text.as_bytes(), near, first, second))
 }
 
-/// Splits a text after its longest front of this class.
+/// The two characters of which one ends a front of a class, and how near that is likely to be.
+#[derive(Clone, Copy)]
+struct Ends {
+    near: Option<usize>,
+    first: u8,
+    second: u8,
+}
+
+/// Returns which characters end a front of this class, if those are two.
+#[inline(always)]
+fn ends_of(class: Class) -> Option<Ends>
+    ensures ascii { IfSome result (λ e. (e.first < 128) × (e.second < 128)) }
+    ensures class { IfSome result (λ e. in_class class ≡ avoids e.first e.second) }
+{
+    match class {
+        Class::Name => Some(Ends {
+            near: None,
+            first: b':',
+            second: b'}',
+        }),
+        Class::Literal => Some(Ends {
+            near: Some(NEAR_LITERAL),
+            first: b'{',
+            second: b'}',
+        }),
+        Class::Enclosed => Some(Ends {
+            near: Some(NEAR_ENCLOSED),
+            first: b')',
+            second: b')',
+        }),
+        _ => None,
+    }
+}
+
+/// Splits a text after its longest front of this class. Three classes share a call, which keeps this
+/// short: the build takes `inline(always)` away from a function that would grow very large, as those
+/// that read a name or a token would.
 #[inline(always)]
 pub fn split_class(text: &str, class: Class) -> (&str, &str)
     ensures front { chars result.0.now ≡ front_of (in_class class) (chars text.now) }
     ensures after { chars result.1.now ≡ after_of (in_class class) (chars text.now) }
     ensures whole { text.now ≡ result.0.now ++ result.1.now }
 {
-    match class {
-        Class::WhiteSpace => split_space(text),
-        Class::Number => split_while(text, Class::Number),
-        Class::Name => split_before(text, None, b':', b'}'),
-        Class::Literal => split_before(text, Some(NEAR_LITERAL), b'{', b'}'),
-        Class::Hash => split_while(text, Class::Hash),
-        Class::Enclosed => split_before(text, Some(NEAR_ENCLOSED), b')', b')'),
+    if let Some(ends) = ends_of(class) {
+        return split_before(text, ends.near, ends.first, ends.second);
     }
+    if let Class::WhiteSpace = class {
+        return split_space(text);
+    }
+    split_while(text, class)
 }

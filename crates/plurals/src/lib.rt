@@ -17,8 +17,6 @@ mod fault;
 mod given;
 mod reading;
 mod reduce;
-#[cfg(test)]
-mod tests;
 mod token;
 
 pub use expression::{Expression, Form, Operator};

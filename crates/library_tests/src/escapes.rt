@@ -1,8 +1,7 @@
 //! Texts and what is written for them, as Python's `html`, `csv` and `json` write them, its codec
 //! `unicode_escape` for controls, and bash's `${x@Q}`; and writers that refuse.
 
-use crate::escape::Escape;
-use crate::escaped::put_escaped;
+use interpolator_escapes::{Escape, put_escaped};
 use interpolator_render::{Bounded, TextBuffer, TextWrite};
 use std::alloc::Global;
 

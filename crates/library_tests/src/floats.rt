@@ -1,11 +1,9 @@
 //! Rows of floats and their texts, as a program of rustc 1.95 wrote them.
 
-use crate::digits::FloatDigits;
-use crate::exact::{DigitsAt, ExactDigits, MOST_DIGITS, digits_at};
-use crate::exponent::{ExponentDigits, exponent_digits};
-use crate::parts::{is_negative, word};
-use crate::plain::{plain_digits, scientific_digits};
-use crate::shortest::{shortest_digits, shortest_f32_digits};
+use interpolator_floats::{
+    DigitsAt, ExactDigits, ExponentDigits, FloatDigits, MOST_DIGITS, digits_at, exponent_digits,
+    is_negative, plain_digits, scientific_digits, shortest_digits, shortest_f32_digits, word,
+};
 use std::alloc::{AllocError, Global};
 
 /// A float, a precision, and the text.

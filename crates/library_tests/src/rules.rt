@@ -3,10 +3,7 @@
 ghost use Rattle.std.specs.Prelude.{Some};
 ghost use Rattle.std.specs.Option.{option_map};
 
-use crate::expression::Form;
-use crate::fault::{Fault, ParseError, Problem};
-use crate::given::{Missing, Values};
-use crate::reading::parse;
+use plurals::{Fault, Form, Missing, ParseError, Problem, Values, parse};
 use std::test::Fail;
 
 const RUSSIAN: &str = "n % 10 == 1 && n % 100 != 11 ? one \

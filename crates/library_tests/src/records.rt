@@ -1,9 +1,6 @@
 //! Formats of whole fields and their texts. Each text was read back by Python's csv.
 
-use crate::ending::Ending;
-use crate::fields::RecordEscaper;
-use crate::misplaced::{Misplaced, PlaceError, Why};
-use crate::records::check_record;
+use interpolator_escapes::{Ending, Misplaced, PlaceError, RecordEscaper, Why, check_record};
 use interpolator_eval::Escaper;
 use interpolator_render::{Bits, Spec, TextBuffer, Trait, Value, View};
 use std::alloc::Global;

@@ -1,10 +1,7 @@
 //! Formats whose values stand in places, and formats of which one does not, by the definitions of
 //! the readers.
 
-use crate::checking::check_format;
-use crate::ending::Ending;
-use crate::escape::Escape;
-use crate::misplaced::{Misplaced, PlaceError, Why};
+use interpolator_escapes::{Ending, Escape, Misplaced, PlaceError, Why, check_format};
 
 /// A format, and the place of what does not stand in it.
 type Row = (&'static str, Option<(usize, Why)>);

@@ -1,9 +1,10 @@
 //! Views and their escaped texts. Each text was made by hand: what Rust's `format!` writes for the
 //! view, and then each character as its escape writes it.
 
-use crate::escape::Escape;
-use crate::escapers::{CsvEscaper, HtmlEscaper, JsonEscaper, LineEscaper, ShellEscaper};
-use crate::views::{put_text_view, put_view};
+use interpolator_escapes::{
+    CsvEscaper, Escape, HtmlEscaper, JsonEscaper, LineEscaper, ShellEscaper, put_text_view,
+    put_view,
+};
 use interpolator_eval::Escaper;
 use interpolator_render::{
     Alignment, Bits, Bounded, HexDebug, RenderFault, Sign, Spec, TextBuffer, TextWrite, Trait,
