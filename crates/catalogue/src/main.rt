@@ -70,8 +70,8 @@
 //! use or a bad word, and 3 if a file cannot be read or the output cannot be written.
 #![tactic(auto)]
 
-ghost use Rattle.std.specs.Prelude.{◌<◌, IfSome, length};
-
+mod answers;
+mod asked;
 mod checks;
 mod declarations;
 mod entries;
@@ -95,18 +95,11 @@ mod translated;
 mod translations;
 mod unused;
 
-use checks::check;
-use files::File;
-use interpolator::{Error, Escape};
-use lacks::lacking_forms;
-use messages::{Answer, look_up};
-use nearest::nearest;
-use places::misplaced;
-use std::alloc::Global;
+use answers::{answer, answer_po, check_files};
+use asked::{asked_by, is_po_free, wanted_by};
+use interpolator::Error;
+use std::io;
 use std::process::ExitCode;
-use std::{fs, io};
-use translated::{Sought, in_po};
-use unused::unused;
 use words::program::{BAD_USE, FAULT, REFUSED, WRITTEN, arguments};
 
 const USAGE: &str = "usage: catalogue [--line | --html] [--fallback FILE] [--] FILE KEY \
@@ -143,116 +136,6 @@ writes
   Ann has 3 items.
 ";
 
-/// What a command line asks for.
-#[derive(Clone, Copy)]
-struct Asked<'a> {
-    /// Files are checked, and no message is written.
-    is_check: bool,
-    /// How values are escaped, if they are.
-    escape: Option<Escape>,
-    /// A file for the messages that the file lacks.
-    second: Option<&'a str>,
-    /// Files are PO files.
-    is_po: bool,
-    /// The context of the key in a PO file.
-    context: Option<&'a str>,
-    /// The files, or a file, a key and values.
-    words: &'a [String],
-}
-
-/// The message under a key of a file, or else of a second file, with the values of words.
-#[derive(Clone, Copy)]
-struct Wanted<'a> {
-    file: &'a str,
-    second: Option<&'a str>,
-    key: &'a str,
-    values: &'a [String],
-    escape: Option<Escape>,
-}
-
-/// Takes a flag of one word, if it is one that may stand here.
-fn take_word(asked: &mut Asked<'_>, flag: &str) -> Option<()> {
-    match flag {
-        "--check" if !asked.is_check => asked.is_check = true,
-        "--po" if !asked.is_po => asked.is_po = true,
-        "--line" if asked.escape.is_none() => asked.escape = Some(Escape::Line),
-        "--html" if asked.escape.is_none() => asked.escape = Some(Escape::Html),
-        _ => return None,
-    }
-    Some(())
-}
-
-/// Takes a flag at the beginning of words, and returns the words after it; none if there is none.
-fn after_flag<'a>(asked: &mut Asked<'a>, words: &'a [String]) -> Option<&'a [String]>
-    ensures { IfSome result (λ rest. length rest.now < length words.now) }
-{
-    match words {
-        [flag, file, more @ ..] if flag.as_str() == "--fallback" => {
-            asked.second = Some(file.as_str());
-            Some(more)
-        }
-        [flag, context, more @ ..] if flag.as_str() == "--context" => {
-            asked.context = Some(context.as_str());
-            Some(more)
-        }
-        [flag, more @ ..] => {
-            take_word(asked, flag.as_str())?;
-            Some(more)
-        }
-        _ => None,
-    }
-}
-
-/// What a command line asks for, if its flags are known.
-fn asked_by(line: &[String]) -> Option<Asked<'_>> {
-    let mut asked = Asked {
-        is_check: false,
-        escape: None,
-        second: None,
-        is_po: false,
-        context: None,
-        words: line,
-    };
-    let mut rest = line;
-    while let Some(next) = after_flag(&mut asked, rest) {
-        rest = next;
-    }
-    asked.words = match rest {
-        [end, words @ ..] if end.as_str() == "--" => words,
-        [flag, ..] if flag.starts_with("--") => return None,
-        _ => rest,
-    };
-    Some(asked)
-}
-
-/// The message that is asked for, if one is.
-fn wanted_by<'a>(asked: &Asked<'a>) -> Option<Wanted<'a>> {
-    let [file, key, values @ ..] = asked.words else {
-        return None;
-    };
-    Some(Wanted {
-        file: file.as_str(),
-        second: asked.second,
-        key: key.as_str(),
-        values,
-        escape: asked.escape,
-    })
-}
-
-/// Reads a file; if that fails, says why.
-fn read(rt: &HostRuntime, name: &str) -> io::Result<Option<File>> {
-    match fs::read_to_string(rt, name) {
-        Ok(text) => {
-            let name = String::from_str(rt.alloc(), name)?;
-            Ok(Some(File { name, text }))
-        }
-        Err(error) => {
-            eprintln!(rt; "{name}: {error}")?;
-            Ok(None)
-        }
-    }
-}
-
 /// Writes the usage line.
 fn tell_usage(rt: &HostRuntime) -> io::Result<u8> {
     eprintln!(rt; "{USAGE}")?;
@@ -265,168 +148,6 @@ fn tell_memory(rt: &HostRuntime) -> u8 {
         Ok(()) => FAULT,
         Err(_) => REFUSED,
     }
-}
-
-/// Writes a message, and which words no message uses.
-fn tell_message(
-    rt: &HostRuntime,
-    message: &str,
-    files: &[File],
-    words: &[String],
-) -> io::Result<u8> {
-    match unused(rt.alloc(), files, words) {
-        Ok(told) => {
-            println!(rt; "{message}")?;
-            if !told.is_empty() {
-                eprint!(rt; "{told}")?;
-            }
-            Ok(WRITTEN)
-        }
-        Err(error) => {
-            eprintln!(rt; "{error}")?;
-            Ok(FAULT)
-        }
-    }
-}
-
-/// Writes that a key is not there, and the key that may be meant.
-fn tell_absent(rt: &HostRuntime, absent: &str, files: &[File], key: &str) -> io::Result<u8> {
-    let near = nearest(rt.alloc(), files, key)?;
-    eprint!(rt; "{absent}")?;
-    if let Some(near) = near {
-        eprintln!(rt; "did you mean `{near}`?")?;
-    }
-    Ok(FAULT)
-}
-
-/// Writes an answer.
-fn tell(rt: &HostRuntime, answer: &Answer, files: &[File], wanted: &Wanted<'_>) -> io::Result<u8> {
-    match answer {
-        Answer::Message(message) => tell_message(rt, message.as_str(), files, wanted.values),
-        Answer::Absent(absent) => tell_absent(rt, absent.as_str(), files, wanted.key),
-        Answer::Faults(faults) => {
-            eprint!(rt; "{faults}")?;
-            Ok(FAULT)
-        }
-        Answer::BadWord(word) => {
-            eprintln!(rt; "bad word: {word}")?;
-            Ok(BAD_USE)
-        }
-    }
-}
-
-/// What is wrong with files: the faults of their lines, and the values that are in no place of an
-/// escape, if one is asked for.
-fn told_of(alloc: Global, files: &[File], escape: Option<Escape>) -> Result<String, Error> {
-    let mut told = check(alloc, files)?;
-    if let Some(escape) = escape {
-        let more = misplaced(alloc, files, escape)?;
-        told.push_str(more.as_str())?;
-    }
-    Ok(told)
-}
-
-/// What a check reports: what is wrong with files, and the keys that lack a form.
-fn told_by_check(alloc: Global, files: &[File], escape: Option<Escape>) -> Result<String, Error> {
-    let mut told = told_of(alloc, files, escape)?;
-    let more = lacking_forms(alloc, files)?;
-    told.push_str(more.as_str())?;
-    Ok(told)
-}
-
-/// What is wrong with PO files.
-fn told_by_po(alloc: Global, files: &[File], escape: Option<Escape>) -> Result<String, Error> {
-    let mut told = String::new(alloc);
-    for file in files {
-        if let Answer::Faults(more) = in_po(alloc, file, escape, None)? {
-            told.push_str(more.as_str())?;
-        }
-    }
-    Ok(told)
-}
-
-/// What is answered: all that is wrong with the files, or the message, or why there is none.
-fn answer_in(alloc: Global, wanted: &Wanted<'_>, files: &[File]) -> Result<Answer, Error> {
-    if wanted.escape.is_some() {
-        let told = told_of(alloc, files, wanted.escape)?;
-        if !told.is_empty() {
-            return Ok(Answer::Faults(told));
-        }
-    }
-    look_up(alloc, wanted.escape, files, wanted.key, wanted.values)
-}
-
-/// Writes a message.
-fn answer(rt: &HostRuntime, wanted: &Wanted<'_>) -> io::Result<u8> {
-    let mut files = Vec::new(rt.alloc());
-    let Some(file) = read(rt, wanted.file)? else {
-        return Ok(REFUSED);
-    };
-    files.push(file)?;
-    if let Some(second) = wanted.second {
-        let Some(file) = read(rt, second)? else {
-            return Ok(REFUSED);
-        };
-        files.push(file)?;
-    }
-    match answer_in(rt.alloc(), wanted, files.as_slice()) {
-        Ok(answer) => tell(rt, &answer, files.as_slice(), wanted),
-        Err(error) => {
-            eprintln!(rt; "{error}")?;
-            Ok(FAULT)
-        }
-    }
-}
-
-/// Writes a message of a PO file, or why there is none.
-fn answer_po(rt: &HostRuntime, asked: &Asked<'_>, wanted: &Wanted<'_>) -> io::Result<u8> {
-    let Some(file) = read(rt, wanted.file)? else {
-        return Ok(REFUSED);
-    };
-    let sought = Sought {
-        context: asked.context.unwrap_or(""),
-        key: wanted.key,
-        words: wanted.values,
-    };
-    match in_po(rt.alloc(), &file, wanted.escape, Some(sought)) {
-        Ok(Answer::Message(message)) => {
-            println!(rt; "{message}")?;
-            Ok(WRITTEN)
-        }
-        Ok(answer) => tell(rt, &answer, &[], wanted),
-        Err(error) => {
-            eprintln!(rt; "{error}")?;
-            Ok(FAULT)
-        }
-    }
-}
-
-/// Checks files, and writes what is wrong with those that can be read.
-fn check_files(rt: &HostRuntime, asked: &Asked<'_>) -> io::Result<u8> {
-    let mut files = Vec::new(rt.alloc());
-    let mut status = WRITTEN;
-    for name in asked.words {
-        match read(rt, name.as_str())? {
-            Some(file) => files.push(file)?,
-            None => status = REFUSED,
-        }
-    }
-    let told = if asked.is_po {
-        told_by_po(rt.alloc(), files.as_slice(), asked.escape)
-    } else {
-        told_by_check(rt.alloc(), files.as_slice(), asked.escape)
-    };
-    match &told {
-        Ok(told) if told.is_empty() => return Ok(status),
-        Ok(told) => eprint!(rt; "{told}")?,
-        Err(error) => eprintln!(rt; "{error}")?,
-    }
-    Ok(status.max(FAULT))
-}
-
-/// Whether a message of a file of messages is asked for.
-fn is_po_free(asked: &Asked<'_>) -> bool {
-    !asked.is_po && !asked.is_check && asked.context.is_none()
 }
 
 /// Runs a command line, and returns the status.

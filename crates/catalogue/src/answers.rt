@@ -1,0 +1,190 @@
+//! What is written for a command line: a message, or what is wrong with files.
+
+use crate::asked::{Asked, Wanted};
+use crate::checks::check;
+use crate::files::File;
+use crate::lacks::lacking_forms;
+use crate::messages::{Answer, look_up};
+use crate::nearest::nearest;
+use crate::places::misplaced;
+use crate::translated::{Sought, in_po};
+use crate::unused::unused;
+use interpolator::{Error, Escape};
+use std::alloc::Global;
+use std::{fs, io};
+use words::program::{BAD_USE, FAULT, REFUSED, WRITTEN};
+
+/// Reads a file; if that fails, says why.
+fn read(rt: &HostRuntime, name: &str) -> io::Result<Option<File>> {
+    match fs::read_to_string(rt, name) {
+        Ok(text) => {
+            let name = String::from_str(rt.alloc(), name)?;
+            Ok(Some(File { name, text }))
+        }
+        Err(error) => {
+            eprintln!(rt; "{name}: {error}")?;
+            Ok(None)
+        }
+    }
+}
+
+/// Writes a message, and which words no message uses.
+fn tell_message(
+    rt: &HostRuntime,
+    message: &str,
+    files: &[File],
+    words: &[String],
+) -> io::Result<u8> {
+    match unused(rt.alloc(), files, words) {
+        Ok(told) => {
+            println!(rt; "{message}")?;
+            if !told.is_empty() {
+                eprint!(rt; "{told}")?;
+            }
+            Ok(WRITTEN)
+        }
+        Err(error) => {
+            eprintln!(rt; "{error}")?;
+            Ok(FAULT)
+        }
+    }
+}
+
+/// Writes that a key is not there, and the key that may be meant.
+fn tell_absent(rt: &HostRuntime, absent: &str, files: &[File], key: &str) -> io::Result<u8> {
+    let near = nearest(rt.alloc(), files, key)?;
+    eprint!(rt; "{absent}")?;
+    if let Some(near) = near {
+        eprintln!(rt; "did you mean `{near}`?")?;
+    }
+    Ok(FAULT)
+}
+
+/// Writes an answer.
+fn tell(rt: &HostRuntime, answer: &Answer, files: &[File], wanted: &Wanted<'_>) -> io::Result<u8> {
+    match answer {
+        Answer::Message(message) => tell_message(rt, message.as_str(), files, wanted.values),
+        Answer::Absent(absent) => tell_absent(rt, absent.as_str(), files, wanted.key),
+        Answer::Faults(faults) => {
+            eprint!(rt; "{faults}")?;
+            Ok(FAULT)
+        }
+        Answer::BadWord(word) => {
+            eprintln!(rt; "bad word: {word}")?;
+            Ok(BAD_USE)
+        }
+    }
+}
+
+/// What is wrong with files: the faults of their lines, and the values that are in no place of an
+/// escape, if one is asked for.
+fn told_of(alloc: Global, files: &[File], escape: Option<Escape>) -> Result<String, Error> {
+    let mut told = check(alloc, files)?;
+    if let Some(escape) = escape {
+        let more = misplaced(alloc, files, escape)?;
+        told.push_str(more.as_str())?;
+    }
+    Ok(told)
+}
+
+/// What a check reports: what is wrong with files, and the keys that lack a form.
+fn told_by_check(alloc: Global, files: &[File], escape: Option<Escape>) -> Result<String, Error> {
+    let mut told = told_of(alloc, files, escape)?;
+    let more = lacking_forms(alloc, files)?;
+    told.push_str(more.as_str())?;
+    Ok(told)
+}
+
+/// What is wrong with PO files.
+fn told_by_po(alloc: Global, files: &[File], escape: Option<Escape>) -> Result<String, Error> {
+    let mut told = String::new(alloc);
+    for file in files {
+        if let Answer::Faults(more) = in_po(alloc, file, escape, None)? {
+            told.push_str(more.as_str())?;
+        }
+    }
+    Ok(told)
+}
+
+/// What is answered: all that is wrong with the files, or the message, or why there is none.
+fn answer_in(alloc: Global, wanted: &Wanted<'_>, files: &[File]) -> Result<Answer, Error> {
+    if wanted.escape.is_some() {
+        let told = told_of(alloc, files, wanted.escape)?;
+        if !told.is_empty() {
+            return Ok(Answer::Faults(told));
+        }
+    }
+    look_up(alloc, wanted.escape, files, wanted.key, wanted.values)
+}
+
+/// Writes a message.
+pub(crate) fn answer(rt: &HostRuntime, wanted: &Wanted<'_>) -> io::Result<u8> {
+    let mut files = Vec::new(rt.alloc());
+    let Some(file) = read(rt, wanted.file)? else {
+        return Ok(REFUSED);
+    };
+    files.push(file)?;
+    if let Some(second) = wanted.second {
+        let Some(file) = read(rt, second)? else {
+            return Ok(REFUSED);
+        };
+        files.push(file)?;
+    }
+    match answer_in(rt.alloc(), wanted, files.as_slice()) {
+        Ok(answer) => tell(rt, &answer, files.as_slice(), wanted),
+        Err(error) => {
+            eprintln!(rt; "{error}")?;
+            Ok(FAULT)
+        }
+    }
+}
+
+/// Writes a message of a PO file, or why there is none.
+pub(crate) fn answer_po(
+    rt: &HostRuntime,
+    asked: &Asked<'_>,
+    wanted: &Wanted<'_>,
+) -> io::Result<u8> {
+    let Some(file) = read(rt, wanted.file)? else {
+        return Ok(REFUSED);
+    };
+    let sought = Sought {
+        context: asked.context.unwrap_or(""),
+        key: wanted.key,
+        words: wanted.values,
+    };
+    match in_po(rt.alloc(), &file, wanted.escape, Some(sought)) {
+        Ok(Answer::Message(message)) => {
+            println!(rt; "{message}")?;
+            Ok(WRITTEN)
+        }
+        Ok(answer) => tell(rt, &answer, &[], wanted),
+        Err(error) => {
+            eprintln!(rt; "{error}")?;
+            Ok(FAULT)
+        }
+    }
+}
+
+/// Checks files, and writes what is wrong with those that can be read.
+pub(crate) fn check_files(rt: &HostRuntime, asked: &Asked<'_>) -> io::Result<u8> {
+    let mut files = Vec::new(rt.alloc());
+    let mut status = WRITTEN;
+    for name in asked.words {
+        match read(rt, name.as_str())? {
+            Some(file) => files.push(file)?,
+            None => status = REFUSED,
+        }
+    }
+    let told = if asked.is_po {
+        told_by_po(rt.alloc(), files.as_slice(), asked.escape)
+    } else {
+        told_by_check(rt.alloc(), files.as_slice(), asked.escape)
+    };
+    match &told {
+        Ok(told) if told.is_empty() => return Ok(status),
+        Ok(told) => eprint!(rt; "{told}")?,
+        Err(error) => eprintln!(rt; "{error}")?,
+    }
+    Ok(status.max(FAULT))
+}
