@@ -13,7 +13,7 @@ usage+='[NAME=TEXT | NAME:=NUMBER | NAME:.=DECIMAL | NAME:~=FLOAT | NAME[]=ITEM,
 usage+='catalogue --check [--line | --html] [--] FILE.. | '
 usage+='catalogue --po [--context TEXT] [--line | --html] [--] FILE KEY WORD.. | '
 usage+='catalogue --po --check [--line | --html] [--] FILE..'
-wanted=262
+wanted=266
 . "$here/../../.ci/cases.sh"
 
 # message WANTED WORD..: a message, which goes to standard output, with status 0.
@@ -297,6 +297,8 @@ form_cases() {
     told $'forms.txt: no message `gone` or `gone.zero`\ndid you mean `one`?' forms.txt gone
     told $'forms.txt: no message `crt` or `crt.one`\ndid you mean `cart`?' forms.txt crt n:=1
     noted 'ein Artikel' 'forms.txt: no message uses `m`' forms.txt cart n:=1 m:=1
+    noted 'ein Artikel' "$(printf 'forms.txt: no message uses `%s`\n' other zero)" \
+        forms.txt cart n:=1 other=x zero:=1
     wrong 'bad word: x' forms.txt cart n:=1 x
     wrong 'bad word: x' forms.txt box n:=5 x
     wrong 'bad word: name' m.txt gone name
@@ -318,6 +320,10 @@ form_cases() {
     case_of file file 0 '' '' --check whole.txt
     message h whole.txt w n:=5
     message g whole.txt w n:=0
+    noted h 'whole.txt: no message uses `one`' whole.txt w n:=5 one:=1
+    printf '%s\n' 'plural: (a ? b : c) ? two : (one == 2 ? one : other)' 'x.one = 1' 'x.two = 2' \
+        'x.other = 3' >asked.txt
+    noted 1 'asked.txt: no message uses `two`' asked.txt x a:=0 b:=0 c:=0 one:=2 two:=1
 }
 
 # Forms that texts choose.
@@ -331,6 +337,7 @@ text_cases() {
     message 'Kim like their cat.' texts.txt likes name=Kim gender=
     message 'Kim like their cat.' texts.txt likes name=Kim gender=F
     noted 'her hat' 'texts.txt: no message uses `n`' texts.txt hat gender=f n:=1
+    noted 'her hat' 'texts.txt: no message uses `she`' texts.txt hat gender=f she=x
     told 'texts.txt:2: `likes` wants `gender=TEXT`' texts.txt likes name=Ann
     told 'texts.txt:2: `likes` wants `gender=TEXT`' texts.txt likes name=Ann gender:=1
     told 'texts.txt:2: `likes` wants `gender=TEXT`' texts.txt likes name=Ann 'gender[]=f'

@@ -52,9 +52,10 @@
 //! that text, byte for byte; it binds more tightly than any operator, and the text has no quote in
 //! it. Such a text stands nowhere else. One that is missing is reported as a number is.
 //!
-//! Beside a message, the words whose names no message, declaration or rule of the files uses are
-//! told on standard error. Below the report that a key is not there stands the nearest that is: at
-//! most a character inserted, removed or replaced for each three of the key.
+//! Beside a message, the words whose names no message or declaration of the files uses and no rule
+//! asks for are told on standard error; a rule does not ask for its forms. Below the report that a
+//! key is not there stands the nearest that is: at most a character inserted, removed or replaced
+//! for each three of the key.
 //!
 //! With `--line` or `--html` the values are written escaped. Then each value of each message has to
 //! stand where it may, of `--html` in text or between the quotes of an attribute; of each message

@@ -50,11 +50,23 @@ fn is_in(name: &str, read: &Expression<'_>) -> bool {
     }
 }
 
-/// Leaves out the names that a rule uses.
+/// Whether a rule asks for a name: it is that of a number or a text in its tests. A form that it
+/// chooses has a name too, but no value.
+fn is_asked(name: &str, rule: &Expression<'_>) -> bool {
+    match rule {
+        Expression::Group(a) => is_asked(name, a),
+        Expression::Choice(test, a, b) => {
+            is_in(name, test) || is_asked(name, a) || is_asked(name, b)
+        }
+        _ => false,
+    }
+}
+
+/// Leaves out the names that a rule asks for.
 fn leave_rule(alloc: Global, left: &mut Vec<&str>, rule: &str) -> Result<(), Error> {
     match parse(alloc, rule) {
         Ok(read) => {
-            left.retain(|name| !is_in(name, &read));
+            left.retain(|name| !is_asked(name, &read));
             Ok(())
         }
         Err(ParseError::Broken(_)) => Ok(()),
@@ -72,7 +84,8 @@ fn is_among(name: &str, names: &[String]) -> bool {
     names.iter().any(|one| one.as_str() == name)
 }
 
-/// Leaves out the names that a line uses: its rule, or its declarations and its format.
+/// Leaves out the names that a line uses: those that its rule asks for, or its declarations and its
+/// format.
 fn leave_line(alloc: Global, left: &mut Vec<&str>, line: &Line<'_, '_>) -> Result<(), Error> {
     let Some(head) = message_of(line.text) else {
         return match rule_in(line.text) {
@@ -113,7 +126,8 @@ fn told_of_names(alloc: Global, file: &str, names: &[&str]) -> Result<String, Er
     Ok(told)
 }
 
-/// Reports the names of words that no message and no rule of some files uses, for each a line.
+/// Reports the names of words that no message of some files uses and no rule asks for, for each a
+/// line.
 ///
 /// # Errors
 ///
