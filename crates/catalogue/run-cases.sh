@@ -13,7 +13,7 @@ usage+='[NAME=TEXT | NAME:=NUMBER | NAME:.=DECIMAL | NAME:~=FLOAT | NAME[]=ITEM,
 usage+='catalogue --check [--line | --html] [--] FILE.. | '
 usage+='catalogue --po [--context TEXT] [--line | --html] [--] FILE KEY WORD.. | '
 usage+='catalogue --po --check [--line | --html] [--] FILE..'
-wanted=266
+wanted=271
 . "$here/../../.ci/cases.sh"
 
 # message WANTED WORD..: a message, which goes to standard output, with status 0.
@@ -533,7 +533,14 @@ use_cases() {
     unread 'none.txt: No such file or directory (os error 2)' none.txt hello
     unread '.: Is a directory (os error 21)' . hello
     printf 'a = \xff\n' >latin.txt
-    unread 'latin.txt: stream did not contain valid UTF-8' latin.txt a
+    unread 'latin.txt:1:5: byte 0xFF is no UTF-8' latin.txt a
+    unread 'latin.txt:1:5: byte 0xFF is no UTF-8' --po --check latin.txt
+    case_of file file 3 '' $'latin.txt:1:5: byte 0xFF is no UTF-8\n'"$faults"$'\n' \
+        --check one.txt latin.txt two.txt
+    printf '\xef\xbb\xbfa = 1\n\né ü = \xe9t\xe9\n' >latin.txt
+    unread 'latin.txt:3:7: byte 0xE9 is no UTF-8' latin.txt a
+    printf '\xef\xbb\xbfé\xc3' >latin.txt
+    unread 'latin.txt:1:2: byte 0xC3 is no UTF-8' --fallback latin.txt m.txt hello name=Ann
     case_of file full 3 '' '' none.txt hello
     case_of file closed 3 '' ''
 }
@@ -679,6 +686,7 @@ refused_calls() {
     refusals_of 2 '' $'bad word: x\n' m.txt hello y=1 x z:=z
     refusals_of 2 '' "$usage"$'\n' m.txt
     refusals_of 3 '' $'none.txt: No such file or directory (os error 2)\n' none.txt hello
+    refusals_of 3 '' $'latin.txt:1:2: byte 0xC3 is no UTF-8\n' latin.txt a
 }
 
 all_cases() {

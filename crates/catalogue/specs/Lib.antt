@@ -5,6 +5,7 @@ pub mod Sound
 pub mod Sought
 pub mod Lines
 pub mod Files
+pub mod Encodings
 pub mod Formats
 pub mod Declarations
 pub mod Examples

@@ -2,6 +2,7 @@
 
 use crate::asked::{Asked, Wanted};
 use crate::checks::check;
+use crate::encoding::{BadByte, text_in};
 use crate::files::File;
 use crate::lacks::lacking_forms;
 use crate::messages::{Answer, look_up};
@@ -14,15 +15,29 @@ use std::alloc::Global;
 use std::{fs, io};
 use words::program::{BAD_USE, FAULT, REFUSED, WRITTEN};
 
+/// Writes that a file has a byte that is no UTF-8.
+fn tell_bad(rt: &HostRuntime, name: &str, bad: BadByte) -> io::Result<()> {
+    let BadByte { byte, place } = bad;
+    eprintln!(rt; "{name}:{place}: byte 0x{byte:02X} is no UTF-8")
+}
+
 /// Reads a file; if that fails, says why.
 fn read(rt: &HostRuntime, name: &str) -> io::Result<Option<File>> {
-    match fs::read_to_string(rt, name) {
-        Ok(text) => {
-            let name = String::from_str(rt.alloc(), name)?;
-            Ok(Some(File { name, text }))
-        }
+    let bytes = match fs::read(rt, name) {
+        Ok(bytes) => bytes,
         Err(error) => {
             eprintln!(rt; "{name}: {error}")?;
+            return Ok(None);
+        }
+    };
+    match text_in(&bytes) {
+        Ok(text) => {
+            let name = String::from_str(rt.alloc(), name)?;
+            let text = String::from_str(rt.alloc(), text)?;
+            Ok(Some(File { name, text }))
+        }
+        Err(bad) => {
+            tell_bad(rt, name, bad)?;
             Ok(None)
         }
     }

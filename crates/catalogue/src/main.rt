@@ -68,13 +68,15 @@
 //! plural, a name of its message, and one with a name, trait or list that its message has not.
 //!
 //! The status is 0 after a message, or a check without a fault; 1 after a fault, 2 after a wrong
-//! use or a bad word, and 3 if a file cannot be read or the output cannot be written.
+//! use or a bad word, and 3 if a file cannot be read or is no UTF-8, or the output cannot be
+//! written. Of a file that is no UTF-8 the first byte that is none is told, with its line and column.
 #![tactic(auto)]
 
 mod answers;
 mod asked;
 mod checks;
 mod declarations;
+mod encoding;
 mod entries;
 mod examples;
 mod files;
