@@ -13,7 +13,7 @@ usage+='[NAME=TEXT | NAME:=NUMBER | NAME:.=DECIMAL | NAME:~=FLOAT | NAME[]=ITEM,
 usage+='catalogue --check [--line | --html] [--] FILE.. | '
 usage+='catalogue --po [--context TEXT] [--line | --html] [--] FILE KEY WORD.. | '
 usage+='catalogue --po --check [--line | --html] [--] FILE..'
-wanted=271
+wanted=274
 . "$here/../../.ci/cases.sh"
 
 # message WANTED WORD..: a message, which goes to standard output, with status 0.
@@ -68,7 +68,9 @@ message_cases() {
     told $'m.txt: no message `lis`\ndid you mean `list`?' m.txt lis
     told 'm.txt: no message ``' m.txt ''
     told "m.txt: no message \`$(times 101 a)\`" m.txt "$(times 101 a)"
-    case_of closed file 3 '' '' m.txt hello name=Zoë
+    case_of closed file 3 '' $'cannot write: Bad file descriptor (os error 9)\n' m.txt hello name=Zoë
+    case_of full file 3 '' $'cannot write: No space left on device (os error 28)\n' \
+        m.txt hello name=Zoë x=1
     case_of file full 3 '' '' m.txt gone
 }
 
@@ -500,6 +502,7 @@ escape_cases() {
     wrong "$usage" --check --fallback m.txt m.txt
     unread '--html: No such file or directory (os error 2)' -- --html hello
     case_of file file 0 "$(sed -n '/^const HELP/,/^";/p' "$here/src/main.rt" | sed '1d;$d')"$'\n' '' --help
+    case_of full file 3 '' $'cannot write: No space left on device (os error 28)\n' --help
 }
 
 # Checks alone.
@@ -624,7 +627,9 @@ po_cases() {
     wrong "$usage" --po --fallback de.po de.po x
     unread 'none.po: No such file or directory (os error 2)' --po none.po x
     unread '.: Is a directory (os error 21)' --po --check .
-    case_of closed file 3 '' '' --po de.po 'No\fuzzy'
+    case_of closed file 3 '' $'cannot write: Bad file descriptor (os error 9)\n' --po de.po 'No\fuzzy'
+    case_of full file 3 '' $'cannot write: No space left on device (os error 28)\n' \
+        --po de.po '{n} apple' n:=2
     refusals_of 0 $'2 apples\n' '' --po de.po '{n} apple' n:=2
 }
 

@@ -43,6 +43,17 @@ fn read(rt: &HostRuntime, name: &str) -> io::Result<Option<File>> {
     }
 }
 
+/// The status after a write to standard output; if it failed, says why.
+pub(crate) fn status_after(rt: &HostRuntime, written: io::Result<()>) -> io::Result<u8> {
+    match written {
+        Ok(()) => Ok(WRITTEN),
+        Err(error) => {
+            eprintln!(rt; "cannot write: {error}")?;
+            Ok(REFUSED)
+        }
+    }
+}
+
 /// Writes a message, and which words no message uses.
 fn tell_message(
     rt: &HostRuntime,
@@ -52,11 +63,11 @@ fn tell_message(
 ) -> io::Result<u8> {
     match unused(rt.alloc(), files, words) {
         Ok(told) => {
-            println!(rt; "{message}")?;
-            if !told.is_empty() {
+            let status = status_after(rt, println!(rt; "{message}"))?;
+            if status == WRITTEN && !told.is_empty() {
                 eprint!(rt; "{told}")?;
             }
-            Ok(WRITTEN)
+            Ok(status)
         }
         Err(error) => {
             eprintln!(rt; "{error}")?;
@@ -169,10 +180,7 @@ pub(crate) fn answer_po(
         words: wanted.values,
     };
     match in_po(rt.alloc(), &file, wanted.escape, Some(sought)) {
-        Ok(Answer::Message(message)) => {
-            println!(rt; "{message}")?;
-            Ok(WRITTEN)
-        }
+        Ok(Answer::Message(message)) => status_after(rt, println!(rt; "{message}")),
         Ok(answer) => tell(rt, &answer, &[], wanted),
         Err(error) => {
             eprintln!(rt; "{error}")?;

@@ -69,7 +69,8 @@
 //!
 //! The status is 0 after a message, or a check without a fault; 1 after a fault, 2 after a wrong
 //! use or a bad word, and 3 if a file cannot be read or is no UTF-8, or the output cannot be
-//! written. Of a file that is no UTF-8 the first byte that is none is told, with its line and column.
+//! written, which is told on standard error. Of a file that is no UTF-8 the first byte that is none
+//! is told, with its line and column.
 #![tactic(auto)]
 
 mod answers;
@@ -98,12 +99,12 @@ mod translated;
 mod translations;
 mod unused;
 
-use answers::{answer, answer_po, check_files};
+use answers::{answer, answer_po, check_files, status_after};
 use asked::{asked_by, is_po_free, wanted_by};
 use interpolator::Error;
 use std::io;
 use std::process::ExitCode;
-use words::program::{BAD_USE, FAULT, REFUSED, WRITTEN, arguments};
+use words::program::{BAD_USE, FAULT, REFUSED, arguments};
 
 const USAGE: &str = "usage: catalogue [--line | --html] [--fallback FILE] [--] FILE KEY \
     [NAME=TEXT | NAME:=NUMBER | NAME:.=DECIMAL | NAME:~=FLOAT | NAME[]=ITEM,ITEM..] | \
@@ -163,8 +164,7 @@ fn run(rt: &HostRuntime) -> io::Result<u8> {
     };
     if let [word, ..] = line.as_slice() {
         if word.as_str() == "--help" {
-            rt.print(HELP)?;
-            return Ok(WRITTEN);
+            return status_after(rt, rt.print(HELP));
         }
     }
     let Some(asked) = asked_by(line.as_slice()) else {
