@@ -30,14 +30,15 @@ fn read(rt: &HostRuntime, name: &str) -> io::Result<Option<File>> {
             return Ok(None);
         }
     };
-    match text_in(&bytes) {
+    match String::from_utf8(bytes) {
         Ok(text) => {
             let name = String::from_str(rt.alloc(), name)?;
-            let text = String::from_str(rt.alloc(), text)?;
             Ok(Some(File { name, text }))
         }
-        Err(bad) => {
-            tell_bad(rt, name, bad)?;
+        Err(error) => {
+            if let Err(bad) = text_in(error.as_bytes()) {
+                tell_bad(rt, name, bad)?;
+            }
             Ok(None)
         }
     }
