@@ -217,8 +217,8 @@ other_cases() {
     case_of file file 3 '' $'none: No such file or directory (os error 2)\n' none
     case_of file file 3 '' $'.: Is a directory (os error 21)\n' .
     printf 'a\n1\n' >t
-    case_of closed file 3 '' '' t
-    case_of full file 3 '' '' t
+    case_of closed file 3 '' $'cannot write: Bad file descriptor (os error 9)\n' t
+    case_of full file 3 '' $'cannot write: No space left on device (os error 28)\n' t
     case_of file full 3 '' '' none
     locked_case
     pipe_case
@@ -241,11 +241,11 @@ pipe_case() {
     local ended
     { printf 'a\n' && times 100000 $'x\n'; } >t
     {
-        timeout 60 "$program" t
+        timeout 60 "$program" t 2>told
         printf '%s' "$?" >ended
     } | head -c 1 >first
     ended=$(<ended)
-    if [[ $ended -eq 3 ]]; then
+    if [[ $ended -eq 3 && $(<told) == 'cannot write: Broken pipe (os error 32)' ]]; then
         passed=$((passed + 1))
     else
         fail "a closed pipe: status $ended"

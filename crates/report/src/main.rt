@@ -144,6 +144,14 @@ fn report_bytes(alloc: Global, asked: Asked<'_>, bytes: &[u8]) -> Result<Report,
     }
 }
 
+/// Prints a text, and ends the run; if that fails, says why.
+fn print_text(rt: &HostRuntime, text: &str) -> ExitCode {
+    match rt.print(text) {
+        Ok(()) => ExitCode::from(WRITTEN),
+        Err(error) => ended(eprintln!(rt; "cannot write: {error}"), REFUSED),
+    }
+}
+
 /// Prints the table of a file, or what is wrong with it.
 fn print_report(rt: &HostRuntime, asked: Asked<'_>) -> ExitCode {
     let file = asked.file;
@@ -152,7 +160,7 @@ fn print_report(rt: &HostRuntime, asked: Asked<'_>) -> ExitCode {
         Err(error) => return ended(eprintln!(rt; "{file}: {error}"), REFUSED),
     };
     match report_bytes(rt.alloc(), asked, &bytes) {
-        Ok(Report::Table(table)) => ended(rt.print(table.as_str()), WRITTEN),
+        Ok(Report::Table(table)) => print_text(rt, table.as_str()),
         Ok(Report::Faults(faults)) => ended(eprint!(rt; "{faults}"), FAULT),
         Err(error) => ended(eprintln!(rt; "{error}"), FAULT),
     }
@@ -165,7 +173,7 @@ fn main(rt: HostRuntime) -> ExitCode {
     };
     if let [word] = words.as_slice() {
         if word.as_str() == "--help" {
-            return ended(rt.print(HELP), WRITTEN);
+            return print_text(&rt, HELP);
         }
     }
     match asked_by(words.as_slice()) {
