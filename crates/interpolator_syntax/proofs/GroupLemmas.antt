@@ -1,13 +1,15 @@
 -- Where a group closes.
-use Rattle.std.proofs.Common.{◌≡◌, ℕ, suc, ◌+◌, ◌-◌, ◌<◌, ◌≤◌, List, [], ◌∷◌, ◌++◌, length, take}
+use Rattle.std.proofs.Common.{◌≡◌, ℕ, zero, suc, ◌+◌, ◌-◌, ◌<◌, ◌≤◌, List, [], ◌∷◌, ◌++◌, length}
+use Rattle.std.proofs.Common.{take}
 use Rattle.std.proofs.Common.{arith, refl, ◌∙◌, Option, Some, None, append_assoc, append-nil}
-use Rattle.std.proofs.Common.{length-append, eqb-true, option_map, chars, IsUtf8}
+use Rattle.std.proofs.Common.{length-append, eqb-true, chars, IsUtf8}
 use Rattle.std.proofs.lemmas.List.{append_cancel_right}
 use Rattle.std.proofs.lemmas.Str.{encodes-chars, encodes-append, IsUtf8-take, chars-append}
 use Rattle.std.specs.Char.{len_utf8}
 use Rattle.interpolator_syntax.specs.At.{At, size, strip_of, after}
 use Rattle.interpolator_syntax.specs.Classes.{front_of, after_of, in_class, hash, close_bracket}
-use Rattle.interpolator_syntax.specs.Groups.{after_hashes, here_or_later, close_from, next_close}
+use Rattle.interpolator_syntax.specs.Groups.{Reached, ReachesNext, after_front, after_hashes}
+use Rattle.interpolator_syntax.specs.Groups.{close_from, here_or_later, next_close}
 use Rattle.interpolator_syntax.specs.declared.class.Class.TheVariants.{Hash, Enclosed}
 use Rattle.interpolator_syntax.proofs.CharacterLemmas.{size-chars}
 use Rattle.interpolator_syntax.proofs.FrontLemmas.{IsRest, front_after, rest_boundary, cut_at_rest}
@@ -36,11 +38,14 @@ pub signs_bytes : (bs cs : List ℕ) → IsUtf8 bs → chars bs ≡ front_of (in
     ≡ length (front_of (in_class Hash) cs)
 signs_bytes bs cs u e = grind (arith, size-chars, signs_size)
 
--- ---- the closing bracket
+-- if too few bytes come before a bracket, there are too few signs
+pub few_signs : (k p : ℕ) (cs : List ℕ) → size (front_of (in_class Enclosed) cs) < k
+    → after_hashes k p cs ≡ None
+few_signs zero p cs h = absurd (omega (arith, h))
+few_signs (suc k) p [] h = refl
+few_signs (suc k) p (c ∷ cs) h = grind (arith, eqb-true, few_signs k (p + len_utf8 c) cs)
 
--- where a text closes, after a front of it
-abbrev pub after_front : List ℕ → Option (List ℕ × At) → Option (List ℕ × At)
-after_front front o = option_map (λ w. (front ++ w.0, w.1)) o
+-- ---- the closing bracket
 
 one_more : (front : List ℕ) (c : ℕ) (o : Option (List ℕ × At))
     → after_front front (here_or_later c None o) ≡ after_front (front ++ (c ∷ [])) o
@@ -86,11 +91,19 @@ next_shorter h b r e = grind (arith, next_is, front_after (in_class Enclosed) h.
 
 -- ---- the search for it
 
--- the text at a closes where the text at h does, after what was passed up to h
-pub record Reached (k : ℕ) (a h : At) : Type 0 where
-  pub front : List ℕ
-  pub split : a.text ≡ front ++ h.text
-  pub closes : after_front front (close_from k h.place h.text) ≡ close_from k a.place a.text
+pub at_first : (k : ℕ) (a : At) → Reached k a a
+at_first k a = record { front = []; split = refl; closes = by_option (close_from k a.place a.text) }
+  where
+    by_option : (o : Option (List ℕ × At)) → after_front [] o ≡ o
+    by_option None = refl
+    by_option (Some w) = refl
+
+pub reached_on : (k : ℕ) (a h g : At) → Reached k a h → Reached k h g → Reached k a g
+reached_on k a h g x y = record {
+  front = x.front ++ y.front;
+  split = rw (append_assoc, ← y.split) x.split;
+  closes = grind (arith, front_then, x.closes, y.closes);
+}
 
 -- if no bracket is left, nothing closes
 pub reached_end : (k : ℕ) (a h : At) → Reached k a h → next_close h ≡ None → None
@@ -112,6 +125,31 @@ pub reached_past : (k : ℕ) (a h b r : At) → Reached k a h → next_close h �
     → after_hashes k r.place r.text ≡ None → Reached k a r
 reached_past k a h b r g e none =
     grind (arith, next_is h b r e, reached_bracket k a h b r g e, append_assoc, one_more)
+
+-- a candidate for the end of a text, from which it has been reached
+pub candidate : (k : ℕ) (a h : At) (o : Option (At × At)) → Reached k a h → ReachesNext k h o
+    → ReachesNext k a o
+candidate k a h o x (g, y, e) = (g, reached_on k a h g x y, e)
+
+-- the text after it is shorter
+pub shorter_reached :
+    (k : ℕ) (a h b r : At) → Reached k a h → next_close h ≡ Some (b, r)
+    → length r.text < length a.text
+shorter_reached k a h b r x e = grind (arith, next_shorter h b r e, x.split, length-append)
+
+-- past a bracket that has another within k bytes, and so too few signs
+pub past_near :
+    (k : ℕ) (a b r next behind : At) → ReachesNext k a (Some (b, r))
+    → next_close r ≡ Some (next, behind) → next.place - r.place < k
+    → ReachesNext k a (Some (next, behind))
+past_near k a b r next behind (h, reached, e) e' near =
+    let n = next_is r next behind e' in
+    let few : size (enclosed r.text) < k = grind (arith, n.is) in
+    (r, reached_past k a h b r reached e (few_signs k r.place r.text few), e')
+
+-- the next bracket is not before the text
+pub next_place : (r next behind : At) → next_close r ≡ Some (next, behind) → r.place ≤ next.place
+next_place r next behind e = let n = next_is r next behind e in grind (arith, n.is)
 
 -- the text closes there, if the signs are there
 pub reached_close :

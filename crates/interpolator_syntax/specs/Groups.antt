@@ -1,5 +1,6 @@
 -- A text in round brackets, guarded by signs `#`.
-use Rattle.std.specs.Prelude.{ℕ, zero, suc, ◌+◌, ◌==◌, ◌||◌, if◌then◌else◌, List, [], ◌∷◌, length}
+use Rattle.std.specs.Prelude.{◌≡◌, ℕ, zero, suc, ◌+◌, ◌++◌, ◌==◌, ◌||◌, if◌then◌else◌, List}
+use Rattle.std.specs.Prelude.{[], ◌∷◌, length}
 use Rattle.std.specs.Prelude.{Option, Some, None, option_map, Result, Ok, Err, codes}
 use Rattle.std.specs.Char.{len_utf8}
 use Rattle.std.specs.Str.{chars}
@@ -87,6 +88,20 @@ abbrev pub next_close : At → Option (At × At)
 next_close a =
     with_after (after (in_class Enclosed) a) (strip close_bracket (after (in_class Enclosed) a))
 
+-- where a text closes, after a front of it
+abbrev pub after_front : List ℕ → Option (List ℕ × At) → Option (List ℕ × At)
+after_front front o = option_map (λ w. (front ++ w.0, w.1)) o
+
+-- the text at a closes where the text at h does, after what was passed up to h
+pub record Reached (k : ℕ) (a h : At) : Type 0 where
+  pub front : List ℕ
+  pub split : a.text ≡ front ++ h.text
+  pub closes : after_front front (close_from k h.place h.text) ≡ close_from k a.place a.text
+
+-- the next `)` of such a text, and the text after it
+abbrev pub ReachesNext : (k : ℕ) → (a : At) → Option (At × At) → Type 0
+ReachesNext k a next = (h : At) × Reached k a h × (next_close h ≡ next)
+
 -- a text that the code read, and the text after it
 abbrev pub text_read : Bor (List ℕ) × Cursor → List ℕ × At
 text_read x = (chars x.0.now, at x.1)
@@ -96,7 +111,8 @@ abbrev pub group_of : code_group.Group → Group
 group_of g = record { text = chars g.text.now; place = g.place }
 
 -- a group that the code read up to `end`; or why it is broken
-abbrev pub group_read : Result code_group.Group ArgumentFault → (end : At) → Result (Group × At) Fault
+abbrev pub group_read : Result code_group.Group ArgumentFault → (end : At)
+    → Result (Group × At) Fault
 group_read (Ok g) end = Ok (group_of g, end)
 group_read (Err broken) end = Err (argument_fault_of broken)
 

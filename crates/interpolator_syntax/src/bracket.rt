@@ -5,7 +5,7 @@ ghost use Rattle.interpolator_syntax.specs.At.{at, after};
 ghost use Rattle.interpolator_syntax.specs.Classes.{in_class, front_of};
 ghost use Rattle.interpolator_syntax.specs.Groups.{after_hashes, close_from, next_close, group_at};
 ghost use Rattle.interpolator_syntax.specs.Groups.{group_if, text_read, group_read, group_if_read};
-ghost use Rattle.interpolator_syntax.specs.Groups.{group_of, inside};
+ghost use Rattle.interpolator_syntax.specs.Groups.{ReachesNext, group_of, inside};
 ghost use Rattle.interpolator_syntax.specs.declared.class.Class.TheVariants.{Hash};
 
 use crate::argument_fault::ArgumentFault;
@@ -44,6 +44,31 @@ fn find_bracket(here: Cursor<'_>) -> Option<(Cursor<'_>, Cursor<'_>)>
     Some((close, after))
 }
 
+/// From how many signs on the bracket after a bracket is looked for first.
+const MANY_HASHES: usize = 4;
+
+/// Returns the next `)` that may have `count` signs after it, and the text after it. One that has
+/// another within `count` bytes has not: in a format of many levels most are such, and to count the
+/// signs after each would cost more.
+fn next_candidate(here: Cursor<'_>, count: usize) -> Option<(Cursor<'_>, Cursor<'_>)>
+    ensures { ReachesNext count (at here.entry) (option_map (λ r. (at r.0, at r.1)) result) }
+{
+    let Some((mut bracket, mut rest)) = find_bracket(here) else {
+        return None;
+    };
+    if count < MANY_HASHES {
+        return Some((bracket, rest));
+    }
+    while let Some((next, behind)) = find_bracket(rest) {
+        if next.place - rest.place >= count {
+            break;
+        }
+        bracket = next;
+        rest = behind;
+    }
+    Some((bracket, rest))
+}
+
 /// Returns the text in front of the rest that ends it.
 fn text_before<'a>(text: &'a str, rest: &str) -> &'a str
     requires { (front : List ℕ) × (chars text.now ≡ front ++ chars rest.now) }
@@ -61,7 +86,7 @@ fn find_close(start: Cursor<'_>, count: usize) -> Option<(&str, Cursor<'_>)>
     ensures len { IfSome result (λ r. length r.0.now ≤ length start.entry.rest.now) }
 {
     let mut here = start;
-    while let Some((close, after)) = find_bracket(here) {
+    while let Some((close, after)) = next_candidate(here, count) {
         if let Some(end) = skip_hashes(after, count) {
             return Some((text_before(start.rest, close.rest), end));
         }

@@ -117,9 +117,6 @@ fn split_space(text: &str) -> (&str, &str)
 /// How many bytes of a literal text are tested one by one before the search in vectors.
 const NEAR_LITERAL: usize = 2;
 
-/// How many bytes of the text in a bracket are tested one by one before the search in vectors.
-const NEAR_ENCLOSED: usize = 8;
-
 /// How many bytes are tested at once.
 const BLOCK: usize = 16;
 
@@ -297,7 +294,7 @@ fn ends_of(class: Class) -> Option<Ends>
             second: b'}',
         }),
         Class::Enclosed => Some(Ends {
-            near: Some(NEAR_ENCLOSED),
+            near: None,
             first: b')',
             second: b')',
         }),
@@ -305,9 +302,9 @@ fn ends_of(class: Class) -> Option<Ends>
     }
 }
 
-/// Splits a text after its longest front of this class. Three classes share a call, which keeps this
-/// short: the build takes `inline(always)` away from a function that would grow very large, as those
-/// that read a name or a token would.
+/// Splits a text after its longest front of this class. Three classes share a call, which keeps
+/// this short: the build takes `inline(always)` away from a function that would grow very large, as
+/// those that read a name or a token would.
 #[inline(always)]
 pub fn split_class(text: &str, class: Class) -> (&str, &str)
     ensures front { chars result.0.now ≡ front_of (in_class class) (chars text.now) }

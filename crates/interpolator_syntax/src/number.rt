@@ -91,12 +91,14 @@ fn take_number(
     ensures in_range { IfOk result (λ n. n ≤ most) }
     ensures after { at here.new ≡ after (in_class Number) (at here.old) }
 {
-    let start = here.place;
-    let number = take_digits(here, 0, most, overflow);
-    if here.place == start {
-        return Err(empty);
-    }
-    number
+    let Some(first) = here.eat_digit() else {
+        if here.strip(b'-').is_none() {
+            return Err(empty);
+        }
+        skip_run(here);
+        return Err(NumberError::InvalidDigit);
+    };
+    take_digits(here, first, most, overflow)
 }
 
 /// Reads the number that the run here spells, and goes past the run.

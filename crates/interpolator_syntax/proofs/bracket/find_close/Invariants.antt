@@ -1,6 +1,6 @@
 use Rattle.std.proofs.Common.{length, chars}
 use Rattle.interpolator_syntax.specs.At.{at}
-use Rattle.interpolator_syntax.proofs.GroupLemmas.{Reached}
+use Rattle.interpolator_syntax.specs.Groups.{Reached}
 use Rattle.interpolator_syntax.proofs.bracket.find_close.Given as goal
 
 abbrev pub invariant-loop-close : goal.invariant-loop-close
