@@ -6,8 +6,11 @@
 pub mod environment;
 pub mod evaluator;
 pub mod list;
+pub mod plain_item;
 pub mod sample;
 pub mod scan;
+mod scanned_groups;
 pub mod sink;
 pub mod source;
+pub mod uncounted;
 pub mod value;

@@ -1,9 +1,9 @@
 //! Formats that are read once, as pieces: how they are stored, written, and known beforehand.
 //!
 //! [`parse_pieces`] reads a text into [`Piece`]s, a tree, which stand for the nodes of the text.
-//! [`Stored`] is a source of them for the evaluator. [`walk_text`] shows them to a [`Visitor`], which
-//! gathers names, finds faults or measures; samples, costs, arguments and places are functions of
-//! the same pieces.
+//! [`Stored`] is a source of them for the evaluator. [`walk_text`] shows them to a [`Visitor`],
+//! which gathers names, finds faults or measures; samples, costs, arguments and places are
+//! functions of the same pieces.
 //!
 //! `interpolator` re-exports what its callers name. The rest is for its templates and its prepared
 //! formats; in each of these functions pieces stand beside their text.
@@ -23,6 +23,7 @@ mod parse;
 mod piece;
 mod place;
 mod sample;
+mod stored_groups;
 mod stored_source;
 mod text_check;
 mod walk;

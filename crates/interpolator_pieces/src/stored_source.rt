@@ -1,5 +1,5 @@
 //! Stored pieces as the source of a format. Callers come before what they call.
-ghost use Rattle.std.specs.Prelude.{◌≡◌, ◌+◌, ◌^◌, ◌<◌, ◌≤◌, ⊤, IfOk, IfSome, IsSome, MatchBool, Some};
+ghost use Rattle.std.specs.Prelude.{◌≡◌, ◌+◌, ◌^◌, ◌<◌, ◌≤◌, IfOk, IsSome, Some};
 ghost use Rattle.std.specs.Prelude.{[], ◌∷◌, false, length, option_map, true};
 ghost use Rattle.std.specs.Str.{chars};
 ghost use Rattle.interpolator_render.specs.Bounds.{bounded_writer};
@@ -24,8 +24,9 @@ ghost use Rattle.interpolator_pieces.specs.declared.piece.Form.TheVariants as fo
 ghost use Rattle.interpolator_pieces.specs.declared.piece.Piece.TheViews.{out-Piece};
 
 use crate::piece::{Detail, Form, Piece, list_detail, part_of, spec_end_of};
+use crate::stored_groups::{plain_pieces, text_pieces};
 use interpolator_eval::{
-    Context, Environment, Escaper, FormatSource, Formattable, LookUp, PieceCount, Sink,
+    Context, Environment, Escaper, FormatSource, Formattable, LookUp, PieceCount, PlainItem, Sink,
     chosen_list, write_plain_value, write_run, write_value,
 };
 use interpolator_render::{Bounded, Spec, TextWrite};
@@ -140,17 +141,17 @@ impl<'t> FormatSource for Stored<'t> {
         }
     }
 
-    fn plain_item(list: &Stored<'t>) -> Option<usize> {
+    fn plain_item<'l>(list: &'l Stored<'t>) -> Option<PlainItem<'l>> {
         let piece = &list.pieces[0];
         match &piece.item {
-            Some(item) => bare_argument(list.text, item),
-            None => Some(list_detail(piece).spec_end),
+            Some(item) => plain_pieces(list.text, item),
+            None => Some(PlainItem::alone(list_detail(piece).spec_end)),
         }
     }
 
     fn text_join<'l>(list: &'l Stored<'t>) -> Option<Group<'l>> {
         match &list.pieces[0].join {
-            Some(join) => text_alone(list.text, join),
+            Some(join) => text_pieces(list.text, join),
             None => None,
         }
     }
@@ -165,82 +166,6 @@ impl<'t> FormatSource for Stored<'t> {
                 pieces: &pieces[1..],
             }),
         }
-    }
-}
-
-/// Returns the place of the closing brace, if pieces are those of `{}`.
-fn bare_argument(text: &str, pieces: &[Piece]) -> Option<usize>
-    requires whole { forest_whole (as_forest (nodes_of text.now pieces.now)) ≡ true }
-    ensures { IfSome result (λ q. IsBare q (branch (as_forest (nodes_of text.now pieces.now)))) }
-{
-    let (piece, rest) = pieces.split_first()?;
-    if rest.is_empty() {
-        bare_piece(text, piece)
-    } else {
-        None
-    }
-}
-
-/// Returns the place of the closing brace, if a piece is an argument without name and spec.
-fn bare_piece(text: &str, piece: &Piece) -> Option<usize>
-    requires whole { node_whole (node_of text.now piece.now) ≡ true }
-    ensures { IfSome result (λ q. IsBare q
-        (branch (as_forest (node_of text.now piece.now ∷ [])))) }
-{
-    if !stands_alone(piece) {
-        return None;
-    }
-    match piece.kind {
-        PieceKind::Closed => {}
-        _ => return None,
-    }
-    let (_, name) = name_of(text, piece);
-    if name.is_empty() {
-        Some(spec_end_of(piece))
-    } else {
-        None
-    }
-}
-
-/// Returns the text of pieces, if they are one run of it.
-fn text_alone<'t>(text: &'t str, pieces: &[Piece]) -> Option<Group<'t>>
-    requires whole { forest_whole (as_forest (nodes_of text.now pieces.now)) ≡ true }
-    ensures { IfSome result (λ g. IsText (group_of g)
-        (branch (as_forest (nodes_of text.now pieces.now)))) }
-{
-    let (piece, rest) = pieces.split_first()?;
-    if rest.is_empty() {
-        text_piece(text, piece)
-    } else {
-        None
-    }
-}
-
-/// Returns the text of a piece, if it is a run of it.
-fn text_piece<'t>(text: &'t str, piece: &Piece) -> Option<Group<'t>>
-    requires whole { node_whole (node_of text.now piece.now) ≡ true }
-    ensures { IfSome result (λ g. IsText (group_of g)
-        (branch (as_forest (node_of text.now piece.now ∷ [])))) }
-{
-    if !stands_alone(piece) {
-        return None;
-    }
-    match piece.kind {
-        PieceKind::Literal => Some(Group {
-            text: text_of(text, piece),
-            place: piece.place,
-        }),
-        _ => None,
-    }
-}
-
-/// Returns whether a piece has neither a detail nor groups.
-fn stands_alone(piece: &Piece) -> bool
-    ensures alone { result ≡ true → StandsAlone piece.now }
-{
-    match (&piece.detail, &piece.item, &piece.join) {
-        (None, None, None) => true,
-        _ => false,
     }
 }
 

@@ -1,7 +1,10 @@
 //! What templates report of their arguments, and laws whose bodies are worth running.
 
 use crate::report::Report;
-use interpolator::{Argument, Error, Formattable, Kind, Pairs, Range, Template, TextBuffer, Trait};
+use interpolator::{
+    Argument, Bounded, Error, Formattable, Interpolate, Kind, Pairs, Range, Template, TextBuffer,
+    Trait,
+};
 use interpolator_laws::samples::{
     a_checked_template_is_formatted, a_checked_template_is_written, a_context_resembles_itself,
 };
@@ -82,9 +85,59 @@ fn arguments(report: &mut Report) -> Result<(), Error> {
     Ok(())
 }
 
+/// A format, how many bytes the writer takes, what it contains in the end, and the fault.
+type Between = (&'static str, usize, &'static str, &'static str);
+
+/// By hand, with a list `l` of 1 and 5.
+#[rattlefmt::skip]
+const BETWEEN: [Between; 13] = [
+    ("{l:i(<{}>)}", 99, "<1><5>", ""),
+    ("{l:i(<{}>)(, )}.", 99, "<1>, <5>.", ""),
+    ("{l:i(é{})}", 99, "é1é5", ""),
+    ("{l:i({};)(-)}", 99, "1;-5;", ""),
+    ("{l:i(a{}{})}", 99, "a11a55", ""),
+    ("{l:i({}{{)}", 99, "1{5{", ""),
+    ("{l:<9i(<{}>)}|", 99, "<1><5>   |", ""),
+    ("{l:i(<{}>)}", 0, "", "Fmt(Error, 5)"),
+    ("{l:i(<{}>)}", 1, "<", "Fmt(Error, 7)"),
+    ("{l:i(<{}>)}", 2, "<1", "Fmt(Error, 8)"),
+    ("{l:i(<{}>)}", 3, "<1>", "Fmt(Error, 5)"),
+    ("{l:i(<{}>)(, )}", 4, "<1>,", "Fmt(Error, 12)"),
+    ("{l:i(é{})}", 1, "", "Fmt(Error, 5)"),
+];
+
+/// By hand, with a list whose second item is not displayed.
+const HIDDEN: Between = ("{l:i(<{}>)}", 99, "<1><", "MissingTraitImpl(Display, 7)");
+
+/// A list by a format that is read for it, and by a template.
+fn between(report: &mut Report, row: Between, items: Formattable<'_, u64>) -> Result<(), Error> {
+    let alloc = report.alloc;
+    let (format, room, text, fault) = row;
+    let context = Pairs(&[("l", items)]);
+    let mut out = Bounded::new(alloc, room);
+    let answer = context.write_to(alloc, &mut out, format);
+    report.written(format, (text, fault), out.as_str(), answer);
+    let template = Template::parse(alloc, format)?;
+    let mut out = Bounded::new(alloc, room);
+    let answer = context.write_template_to(alloc, &mut out, &template);
+    report.written(format, (text, fault), out.as_str(), answer);
+    Ok(())
+}
+
+/// Items between two texts.
+fn items_between_texts(report: &mut Report) -> Result<(), Error> {
+    let shown = [Formattable::display(&1u64), Formattable::display(&5u64)];
+    for row in BETWEEN {
+        between(report, row, Formattable::iter(&shown))?;
+    }
+    let hidden = [Formattable::display(&1u64), Formattable::debug(&5u64)];
+    between(report, HIDDEN, Formattable::iter(&hidden))
+}
+
 pub fn run(report: &mut Report) -> Result<(), Error> {
     report.begin("templates");
     tails(report)?;
     checked(report)?;
+    items_between_texts(report)?;
     arguments(report)
 }

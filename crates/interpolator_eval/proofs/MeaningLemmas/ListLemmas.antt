@@ -1,5 +1,6 @@
 -- Lists: what writing the items one after the other leaves, and how many pieces it goes through.
-use Rattle.std.proofs.Common.{rules, ◌≡◌, ℕ, ◌+◌, ◌<◌, ◌≤◌, List, ◌∷◌, map, drop, length, get_or}
+use Rattle.std.proofs.Common.{rules, ◌≡◌, ℕ, ◌+◌, ◌<◌, ◌≤◌, List, [], ◌∷◌, map, drop, length}
+use Rattle.std.proofs.Common.{get_or}
 use Rattle.std.proofs.Common.{Option, arith, None, Some, refl}
 use Rattle.std.proofs.lemmas.List.{drop_more, drop_all}
 use Rattle.interpolator_render.specs.Written.{Written}
@@ -9,9 +10,17 @@ use Rattle.interpolator_eval.specs.Meaning.Outcomes.{Outcome}
 use Rattle.interpolator_eval.specs.Meaning.Sinks.{SameEnd, Writes, taken_by}
 use Rattle.interpolator_eval.specs.Meaning.Work.{Work, work_after, items_work}
 use Rattle.interpolator_eval.specs.declared.evaluate.sink.Sink.{Sink}
+use Rattle.interpolator_eval.proofs.MeaningLemmas.MeaningLemmas.{nothing_last}
 use Rattle.interpolator_eval.proofs.MeaningLemmas.OutcomeLemmas.{no_fault}
 use Rattle.interpolator_eval.proofs.MeaningLemmas.SinkLemmas.{and_then, fault_first, goes_on}
 use Rattle.interpolator_eval.proofs.MeaningLemmas.SinkLemmas.{nothing_done, same_end, same_then}
+
+-- a list of one item means that
+pub one_item :
+    {X W : Type 0} (into : W → Written) (join : Meaning) (item : X → Meaning) (chosen : List X)
+    (x : X) (s t : Sink W) (answer : Option Answer) → chosen ≡ x ∷ []
+    → Writes into (item x) s t answer → Writes into (items_mean join item chosen) s t answer
+one_item into join item chosen x s t answer split o = rw (split, nothing_last (item x)) o
 
 module _ {F X W : Type 0} (into : W → Written) (join : Meaning) (joins : Work) (item : X → Meaning)
     (each : X → Work) (slots : F → X) where

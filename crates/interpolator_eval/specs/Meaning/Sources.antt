@@ -1,24 +1,28 @@
 -- What a source of a format consists of: its pieces up to the first list, and that list's argument.
-use Rattle.std.specs.Prelude.{◌≡◌, ◌⊎◌, ℕ, List, [], Bool, true, false, if◌then◌else◌, codes}
-use Rattle.std.specs.Prelude.{Option, None, Some, is_some, Result, Ok, Err}
+use Rattle.std.specs.Prelude.{◌≡◌, ◌⊎◌, ◌+◌, ℕ, List, [], Bool, true, false, if◌then◌else◌, codes}
+use Rattle.std.specs.Prelude.{Option, None, Some, is_some, option_map, Result, Ok, Err}
 use Rattle.interpolator_render.specs.declared.view.Spec.{Spec}
 use Rattle.interpolator_render.specs.declared.view.Trait.{Trait}
 use Rattle.interpolator_render.specs.declared.view.Trait.TheVariants.{Display}
 use Rattle.interpolator_render.specs.Views.{Shown}
-use Rattle.interpolator_syntax.specs.Faults.{parse, expected}
+use Rattle.interpolator_syntax.specs.At.{placed_from}
+use Rattle.interpolator_syntax.specs.Faults.{Fault, parse, expected}
 use Rattle.interpolator_syntax.specs.Nodes.{Node, node, Branch, no_branch, branch}
-use Rattle.interpolator_syntax.specs.Groups.{Group}
+use Rattle.interpolator_syntax.specs.Groups.{Group, group_of}
 use Rattle.interpolator_syntax.specs.Nodes.{Forest, no_nodes, nodes_and, text_node}
 use Rattle.interpolator_syntax.specs.Nodes.{Content, argument_content}
 use Rattle.interpolator_syntax.specs.Nodes.{Target, target_value, target_list}
 use Rattle.interpolator_syntax.specs.declared.piece_kind.PieceKind.{PieceKind}
-use Rattle.interpolator_syntax.specs.declared.piece_kind.PieceKind.TheVariants.{Closed, Literal, Unclosed}
+use Rattle.interpolator_syntax.specs.declared.piece_kind.PieceKind.TheVariants.{Closed, Literal}
+use Rattle.interpolator_syntax.specs.declared.piece_kind.PieceKind.TheVariants.{Unclosed}
 use Rattle.interpolator_syntax.specs.SpecTexts.{plain_spec}
 use Rattle.interpolator_syntax.specs.declared.range.Range.{Range}
 use Rattle.interpolator_eval.specs.Slots.{Slots, items}
+use Rattle.interpolator_eval.specs.declared.evaluate.plain_item.PlainItem.{PlainItem}
 use Rattle.interpolator_eval.specs.Meaning.Environments.{Environment, slots_under}
 use Rattle.interpolator_eval.specs.Meaning.Lists.{list_under_name}
-use Rattle.interpolator_eval.specs.Meaning.Meanings.{Meaning, nothing, chain, fault_alone, items_mean}
+use Rattle.interpolator_eval.specs.Meaning.Meanings.{Meaning, nothing, chain, fault_alone}
+use Rattle.interpolator_eval.specs.Meaning.Meanings.{items_mean, text_alone}
 use Rattle.interpolator_eval.specs.Meaning.Meanings.{node_means, join_branch_means}
 use Rattle.interpolator_eval.specs.Meaning.Meanings.{item_branch_means}
 use Rattle.interpolator_eval.specs.Meaning.Work.{Work, under_work, listed_work, items_work}
@@ -76,7 +80,8 @@ pub record FirstAsks (x : ListArgument) (after : Option Forest) (xs : Forest) : 
   pub rest : Forest
   pub first : xs
       ≡ nodes_and (node place last kind
-      (Some (argument_content x.start x.name x.spec (target_list x.range) x.end)) x.item x.join) rest
+      (Some (argument_content x.start x.name x.spec (target_list x.range) x.end))
+      x.item x.join) rest
   pub closing : after ≡ (if has_brace kind then Some rest else None)
 
 -- a list was met, or no pieces are left
@@ -101,19 +106,47 @@ abbrev pub first_holds : Forest → Bool
 first_holds no_nodes = false
 first_holds (nodes_and (node place end kind content item join) xs) = is_some content
 
--- a group is one argument without name and spec, whose closing brace is at q
-pub record IsBare (q : ℕ) (b : Branch) : Type 0 where
+-- a piece is an argument without name and spec, whose closing brace is at q
+pub record IsBare (q : ℕ) (x : Node) : Type 0 where
   pub place : ℕ
   pub last : ℕ
   pub start : ℕ
-  pub is : b
-      ≡ branch (nodes_and (node place last Closed
-      (Some (argument_content start [] plain_spec (target_value Display) q)) no_branch no_branch)
-      no_nodes)
+  pub is : x
+      ≡ node place last Closed
+      (Some (argument_content start [] plain_spec (target_value Display) q)) no_branch no_branch
 
--- each item of a list is displayed plainly, at q: its item format is such a group, or there is none
-abbrev pub IsPlainItem : (q : ℕ) → ListArgument → Type 0
-IsPlainItem q x = ((x.item ≡ no_branch) × (x.end ≡ q)) ⊎ IsBare q x.item
+-- a piece is text without a brace
+pub record IsRun (g : Group) (x : Node) : Type 0 where
+  pub last : ℕ
+  pub is : x ≡ text_node g.place last Literal g.text
+
+-- pieces begin with such a text, if there is one, and then come the others
+abbrev pub RunFirst : Option Group → (rest all : Forest) → Type 0
+RunFirst None rest all = all ≡ rest
+RunFirst (Some g) rest all = (x : Node) × IsRun g x × (all ≡ nodes_and x rest)
+
+-- pieces are such an argument, and then a text, if there is one
+pub record IsBareFirst (q : ℕ) (after : Option Group) (all : Forest) : Type 0 where
+  pub argument : Node
+  pub back : Forest
+  pub bare : IsBare q argument
+  pub is : all ≡ nodes_and argument back
+  pub behind : RunFirst after no_nodes back
+
+-- a group is such an argument, with a text before it and one after it, if they are there
+pub record IsFramed (before : Option Group) (q : ℕ) (after : Option Group) (b : Branch)
+    : Type 0 where
+  pub all : Forest
+  pub rest : Forest
+  pub is : b ≡ branch all
+  pub front : RunFirst before rest all
+  pub bare : IsBareFirst q after rest
+
+-- each item of a list is displayed plainly: its item format is such a group, or there is none
+abbrev pub IsPlainItem : PlainItem → ListArgument → Type 0
+IsPlainItem p x =
+    ((x.item ≡ no_branch) × (x.end ≡ p.place) × (p.before ≡ None) × (p.after ≡ None))
+    ⊎ IsFramed (option_map group_of p.before) p.place (option_map group_of p.after) x.item
 
 -- a group is text without a brace
 pub record IsText (g : Group) (b : Branch) : Type 0 where
@@ -124,6 +157,27 @@ pub record IsText (g : Group) (b : Branch) : Type 0 where
 abbrev pub branch_of : {S : Type 0} → (tree : S → Forest) → Option S → Branch
 branch_of tree None = no_branch
 branch_of tree (Some source) = branch (tree source)
+
+-- ---- an item that is displayed plainly
+
+-- a text that may be absent
+abbrev pub run_means : Option Group → Meaning
+run_means None = nothing
+run_means (Some g) = text_alone (placed_from g.place g.text)
+
+-- it counts as one piece
+abbrev pub run_pieces : Option Group → ℕ
+run_pieces None = 0
+run_pieces (Some g) = 1
+
+-- what an item shows, with a text before it and one after it
+abbrev pub framed_means : (before after : Option Group) → (shown : Meaning) → Meaning
+framed_means before after shown = chain (run_means before) (chain shown (run_means after))
+
+-- through how many pieces that goes: a fault of the item is the last
+abbrev pub framed_pieces : (before after : Option Group) → (fault : Option Fault) → ℕ
+framed_pieces before after (Some f) = run_pieces before + 1
+framed_pieces before after None = run_pieces before + (1 + run_pieces after)
 
 -- ---- what it means
 

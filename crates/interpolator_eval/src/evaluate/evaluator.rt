@@ -23,6 +23,7 @@ ghost use Rattle.interpolator_eval.specs.Slots.{slots_of};
 use crate::context::Context;
 use crate::escaper::Escaper;
 use crate::evaluate::environment::Environment;
+use crate::evaluate::plain_item::{PlainItem, write_by_plain_format};
 use crate::evaluate::sink::Sink;
 use crate::evaluate::source::FormatSource;
 use crate::evaluate::value::{list_buffer, write_plain_item};
@@ -30,44 +31,7 @@ use crate::piece_count::PieceCount;
 use crate::slots::Formattable;
 use interpolator_render::TextWrite;
 use interpolator_syntax::{Error, Group, ParseError};
-use std::marker::Brand;
-use std::sync::ledger::{Blank, Ledger};
-
-/// Writes what the pieces of a source mean, for a caller that needs no count of them.
-#[inline(always)]
-pub fn write_uncounted<'a, W: TextWrite, C: Context, E: Escaper, S: FormatSource>(
-    sink: &mut Sink<'_, W>,
-    environment: &Environment<'a, C, C::Object>,
-    source: S,
-) -> Result<(), Error>
-    ensures writes { Writes W.written
-        (forest_means (shows_by E.shown C.Object.shows) (environment_of C.finds environment.now)
-        (S.tree source))
-        sink.old sink.new (result_answer result) }
-{
-    write_on::<W, C, E, S, Brand>(sink, environment, source, Blank::new(1))
-}
-
-/// Writes what the pieces of a source mean, and counts from a blank ledger.
-#[inline(always)]
-fn write_on<'a, W: TextWrite, C: Context, E: Escaper, S: FormatSource, L: Ledger>(
-    sink: &mut Sink<'_, W>,
-    environment: &Environment<'a, C, C::Object>,
-    source: S,
-    blank: Blank,
-) -> Result<(), Error>
-    requires name { blank.name ≡ L.name }
-    requires parts { blank.parts ≡ L.parts }
-    requires some { 0 < blank.parts }
-    ensures writes { Writes W.written
-        (forest_means (shows_by E.shown C.Object.shows) (environment_of C.finds environment.now)
-        (S.tree source))
-        sink.old sink.new (result_answer result) }
-{
-    let mut count = PieceCount::<L>::open(blank);
-    let mut scratch = source.scratch_list();
-    write_source::<W, C, E, S, L>(sink, environment, source, &mut scratch, &mut count)
-}
+use std::sync::ledger::Ledger;
 
 /// Writes what the pieces of a source mean, in order, and counts those that it goes through. Each
 /// list that is met is stored in `scratch`, which is made once for all items of a list, since
@@ -150,11 +114,13 @@ fn write_list<'a, W: TextWrite, C: Context, E: Escaper, S: FormatSource, L: Ledg
     if S::has_width(list) {
         return write_padded_list::<W, C, E, S, L>(sink, environment, list, items, count);
     }
-    match plain_place::<C, S>(list, items) {
-        Some(place) => {
-            write_plain_items::<W, C, E, S, L>(sink, environment, list, items, place, count)
+    match items {
+        [] => Ok(()),
+        [item] => {
+            let mut scratch = *list;
+            write_formatted::<W, C, E, S, L>(sink, environment, list, item, &mut scratch, count)
         }
-        None => write_items::<W, C, E, S, L>(sink, environment, list, items, count),
+        _ => write_several::<W, C, E, S, L>(sink, environment, list, items, count),
     }
 }
 
@@ -225,35 +191,53 @@ fn write_items<'a, W: TextWrite, C: Context, E: Escaper, S: FormatSource, L: Led
     write_each::<W, C, E, S, L>(sink, environment, list, items, None, None, count)
 }
 
-/// Returns the place of an item's text, if each of several items is displayed plainly.
-#[inline(always)]
-fn plain_place<C: Context, S: FormatSource>(
+/// Writes several items of a list: if each is displayed plainly, by a loop of their own. It is
+/// called, so that a list of one item makes no room for what is read here.
+#[cycle(evaluate)]
+#[inline(never)]
+fn write_several<'a, W: TextWrite, C: Context, E: Escaper, S: FormatSource, L: Ledger>(
+    sink: &mut Sink<'_, W>,
+    environment: &Environment<'a, C, C::Object>,
     list: &S::List,
-    items: &[Formattable<'_, C::Object>],
-) -> Option<usize>
+    items: &'a [Formattable<'a, C::Object>],
+    count: &mut PieceCount<L>,
+) -> Result<(), Error>
     requires met { S.is_met list.now }
-    ensures { IfSome result (λ q. IsPlainItem q (S.asks list.now)) }
+    ensures writes { Writes W.written
+        (list_items (shows_by E.shown C.Object.shows) (environment_of C.finds environment.now)
+        (S.asks list.now)
+        (map slots_of items.now))
+        sink.old sink.new (result_answer result) }
+    ensures gone { count.new ≤ count.old + (list_items_work (shows_by E.shown C.Object.shows)
+        (environment_of C.finds environment.now) (S.asks list.now)
+        (map slots_of items.now)).pieces }
+    ensures exact { IfOk result (λ _. count.new ≡ count.old + (list_items_work
+        (shows_by E.shown C.Object.shows)
+        (environment_of C.finds environment.now) (S.asks list.now)
+        (map slots_of items.now)).pieces) }
 {
-    if items.len() < 2 {
-        None
-    } else {
-        S::plain_item(list)
+    match S::plain_item(list) {
+        Some(plain) => {
+            write_plain_items::<W, C, E, S, L>(sink, environment, list, items, plain, count)
+        }
+        None => write_items::<W, C, E, S, L>(sink, environment, list, items, count),
     }
 }
 
-/// Writes items of a list, each displayed plainly at a place, with the join between two of them.
+/// Writes items of a list, each displayed plainly, with the join between two of them. Items without
+/// texts beside them have a loop of their own.
 #[cycle(evaluate)]
-#[inline(never)]
+#[inline(always)]
 fn write_plain_items<'a, W: TextWrite, C: Context, E: Escaper, S: FormatSource, L: Ledger>(
     sink: &mut Sink<'_, W>,
     environment: &Environment<'a, C, C::Object>,
     list: &S::List,
     items: &'a [Formattable<'a, C::Object>],
-    place: usize,
+    plain: PlainItem<'_>,
     count: &mut PieceCount<L>,
 ) -> Result<(), Error>
     requires met { S.is_met list.now }
-    requires plain { IsPlainItem place (S.asks list.now) }
+    requires plain { IsPlainItem plain (S.asks list.now) }
     ensures writes { Writes W.written
         (list_items (shows_by E.shown C.Object.shows) (environment_of C.finds environment.now)
         (S.asks list.now)
@@ -268,12 +252,17 @@ fn write_plain_items<'a, W: TextWrite, C: Context, E: Escaper, S: FormatSource, 
         (map slots_of items.now)).pieces) }
 {
     let text = S::text_join(list);
-    write_each::<W, C, E, S, L>(sink, environment, list, items, Some(place), text, count)
+    match (plain.before, plain.after) {
+        (None, None) => {
+            let alone = Some(PlainItem::alone(plain.place));
+            write_each::<W, C, E, S, L>(sink, environment, list, items, alone, text, count)
+        }
+        _ => write_each::<W, C, E, S, L>(sink, environment, list, items, Some(plain), text, count),
+    }
 }
 
-/// Writes items of a list, each displayed at the place `plain`, if that is given, with the join
-/// between two of them, which is `text`, if that is given. It is inlined, so that each call has a
-/// loop of its own.
+/// Writes items of a list, each displayed plainly if `plain` is given, with the join between two of
+/// them, which is `text`, if that is given. It is inlined, so that each call has a loop of its own.
 #[cycle(evaluate)]
 #[inline(always)]
 fn write_each<'a, W: TextWrite, C: Context, E: Escaper, S: FormatSource, L: Ledger>(
@@ -281,12 +270,12 @@ fn write_each<'a, W: TextWrite, C: Context, E: Escaper, S: FormatSource, L: Ledg
     environment: &Environment<'a, C, C::Object>,
     list: &S::List,
     items: &'a [Formattable<'a, C::Object>],
-    plain: Option<usize>,
+    plain: Option<PlainItem<'_>>,
     text: Option<Group<'_>>,
     count: &mut PieceCount<L>,
 ) -> Result<(), Error>
     requires met { S.is_met list.now }
-    requires plain { IfSome plain (λ q. IsPlainItem q (S.asks list.now)) }
+    requires plain { IfSome plain (λ p. IsPlainItem p (S.asks list.now)) }
     requires text { IfSome text (λ g. IsText (group_of g) (S.asks list.now).join) }
     ensures writes { Writes W.written
         (list_items (shows_by E.shown C.Object.shows) (environment_of C.finds environment.now)
@@ -313,7 +302,7 @@ fn write_each<'a, W: TextWrite, C: Context, E: Escaper, S: FormatSource, L: Ledg
     Ok(())
 }
 
-/// Writes one item of a list: displayed at the place `plain`, if that is given.
+/// Writes one item of a list: displayed plainly, if `plain` is given.
 #[cycle(evaluate)]
 #[inline(always)]
 fn write_item<'a, W: TextWrite, C: Context, E: Escaper, S: FormatSource, L: Ledger>(
@@ -321,12 +310,12 @@ fn write_item<'a, W: TextWrite, C: Context, E: Escaper, S: FormatSource, L: Ledg
     environment: &Environment<'a, C, C::Object>,
     list: &S::List,
     item: &'a Formattable<'a, C::Object>,
-    plain: Option<usize>,
+    plain: Option<PlainItem<'_>>,
     scratch: &mut S::List,
     count: &mut PieceCount<L>,
 ) -> Result<(), Error>
     requires met { S.is_met list.now }
-    requires plain { IfSome plain (λ q. IsPlainItem q (S.asks list.now)) }
+    requires plain { IfSome plain (λ p. IsPlainItem p (S.asks list.now)) }
     ensures writes { Writes W.written
         (list_item (shows_by E.shown C.Object.shows) (environment_of C.finds environment.now)
         (S.asks list.now)
@@ -339,10 +328,7 @@ fn write_item<'a, W: TextWrite, C: Context, E: Escaper, S: FormatSource, L: Ledg
         (environment_of C.finds environment.now) (S.asks list.now) (slots_of item.now)).pieces) }
 {
     match plain {
-        Some(place) => {
-            count.tick();
-            write_plain_item::<W, C::Object, E>(sink, item, place)
-        }
+        Some(plain) => write_by_plain_format::<W, C::Object, E, L>(sink, item, plain, count),
         None => write_formatted::<W, C, E, S, L>(sink, environment, list, item, scratch, count),
     }
 }

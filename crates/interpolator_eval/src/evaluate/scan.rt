@@ -1,38 +1,33 @@
 //! A text as a source: it is written while it is read. Callers come before what they call.
-ghost use Rattle.std.specs.Prelude.{◌≡◌, ◌≢◌, ◌+◌, ◌<◌, ◌≤◌, ⊤, ℕ, IfOk, IfSome, None, Some};
-ghost use Rattle.std.specs.Prelude.{option_map};
+ghost use Rattle.std.specs.Prelude.{◌≡◌, ◌≢◌, ◌+◌, ◌<◌, ◌≤◌, ⊤, ℕ, IfOk, None, Some};
 ghost use Rattle.interpolator_render.specs.Bounds.{bounded_writer};
 ghost use Rattle.interpolator_render.specs.declared.view.Trait.TheVariants.{Iter};
 ghost use Rattle.interpolator_syntax.specs.At.{at, strip};
 ghost use Rattle.interpolator_syntax.specs.Classes.{close_brace};
-ghost use Rattle.interpolator_syntax.specs.Arguments.{argument_at, argument_after, asked_at};
+ghost use Rattle.interpolator_syntax.specs.Arguments.{argument_at, argument_after};
 ghost use Rattle.interpolator_syntax.specs.Arguments.{plain_argument, named_argument, request_of};
 ghost use Rattle.interpolator_syntax.specs.Faults.{result_answer};
-ghost use Rattle.interpolator_syntax.specs.Groups.{group_of};
-ghost use Rattle.interpolator_syntax.specs.Nodes.{as_forest, branch, group_branch, no_nodes};
-ghost use Rattle.interpolator_syntax.specs.Nodes.{nodes, nodes_and, token_node};
-ghost use Rattle.interpolator_syntax.specs.Pieces.{argument_from};
+ghost use Rattle.interpolator_syntax.specs.Nodes.{nodes, token_node};
 ghost use Rattle.interpolator_syntax.specs.Tokens.{argument as argument_token};
 ghost use Rattle.interpolator_eval.specs.Escaping.{shows_by};
 ghost use Rattle.interpolator_eval.specs.Meaning.CodeEnvironments.{environment_of};
 ghost use Rattle.interpolator_eval.specs.Meaning.Meanings.{argument_means, forest_means};
-ghost use Rattle.interpolator_eval.specs.Meaning.ScannedLists.{
-  ArgumentTold,
-  ListPlace,
-  scanned_list,
-};
-ghost use Rattle.interpolator_eval.specs.Meaning.ScannedLists.{scanned_rest, text_forest};
+ghost use Rattle.interpolator_eval.specs.Meaning.ScannedLists.{ArgumentTold, ListPlace};
+ghost use Rattle.interpolator_eval.specs.Meaning.ScannedLists.{scanned_list, scanned_rest};
+ghost use Rattle.interpolator_eval.specs.Meaning.ScannedLists.{text_forest};
 ghost use Rattle.interpolator_eval.specs.Meaning.Outcomes.{Outcome};
 ghost use Rattle.interpolator_eval.specs.Meaning.Sinks.{Writes};
-ghost use Rattle.interpolator_eval.specs.Meaning.Sources.{FirstAsks, IsBare, IsText, Met};
-ghost use Rattle.interpolator_eval.specs.Meaning.Sources.{asks_list, before_list};
-ghost use Rattle.interpolator_eval.specs.Meaning.Sources.{branch_of, from_list, met_pieces};
+ghost use Rattle.interpolator_eval.specs.Meaning.Sources.{Met};
+ghost use Rattle.interpolator_eval.specs.Meaning.Sources.{before_list};
+ghost use Rattle.interpolator_eval.specs.Meaning.Sources.{from_list, met_pieces};
 ghost use Rattle.interpolator_eval.specs.Meaning.Sources.{unlisted_means, with_brace};
 ghost use Rattle.interpolator_eval.specs.Meaning.Work.{forest_work};
 
 use crate::context::Context;
 use crate::escaper::Escaper;
 use crate::evaluate::environment::Environment;
+use crate::evaluate::plain_item::PlainItem;
+use crate::evaluate::scanned_groups::{group_start, plain_group, text_group};
 use crate::evaluate::sink::{Sink, write_char, write_run};
 use crate::evaluate::source::FormatSource;
 use crate::evaluate::value::{LookUp, chosen_list, write_plain_value, write_value};
@@ -40,7 +35,7 @@ use crate::piece_count::PieceCount;
 use crate::slots::Formattable;
 use interpolator_render::{Bounded, Spec, TextWrite, Trait};
 use interpolator_syntax::{
-    ArgumentName, Cursor, Error, Group, ParseError, Request, Token, inside, next_token, take_name,
+    ArgumentName, Cursor, Error, Group, ParseError, Request, Token, next_token, take_name,
     take_request,
 };
 use std::marker::Brand;
@@ -145,16 +140,16 @@ impl<'t> FormatSource for Cursor<'t> {
         group_start(list.asked.list.join)
     }
 
-    fn plain_item(list: &ScannedList<'t>) -> Option<usize> {
+    fn plain_item<'l>(list: &'l ScannedList<'t>) -> Option<PlainItem<'l>> {
         match list.asked.list.item {
-            Some(group) => bare_argument(group),
-            None => Some(list.end.place),
+            Some(group) => plain_group(group),
+            None => Some(PlainItem::alone(list.end.place)),
         }
     }
 
     fn text_join<'l>(list: &'l ScannedList<'t>) -> Option<Group<'l>> {
         match list.asked.list.join {
-            Some(group) => text_alone(group),
+            Some(group) => text_group(group),
             None => None,
         }
     }
@@ -204,66 +199,6 @@ fn write_before_list_on<'a, W: TextWrite, C: Context, E: Escaper, L: Ledger>(
         return Ok(Some(list.start - 1));
     }
     Ok(None)
-}
-
-/// Returns the place of the closing brace, if a group is `{}`.
-#[inline(never)]
-fn bare_argument(group: Group<'_>) -> Option<usize>
-    ensures { IfSome result (λ q. IsBare q (group_branch nodes (Some (group_of group.entry)))) }
-{
-    if group.text.len() != 2 {
-        return None;
-    }
-    let (token, rest) = next_token(inside(group))?;
-    match token {
-        Token::Argument => bare_rest(rest),
-        _ => None,
-    }
-}
-
-/// Returns the text of a group, if it is not empty and has no brace.
-#[inline(never)]
-fn text_alone(group: Group<'_>) -> Option<Group<'_>>
-    ensures { IfSome result (λ g. IsText (group_of g)
-        (group_branch nodes (Some (group_of group.entry)))) }
-{
-    let (token, rest) = next_token(inside(group))?;
-    match token {
-        Token::Literals(run) if rest.is_at_end() => Some(Group {
-            text: run,
-            place: group.place,
-        }),
-        _ => None,
-    }
-}
-
-/// Returns the place of the closing brace, if the argument that begins here, after its brace, has
-/// neither name nor spec, and nothing follows it.
-#[inline(always)]
-fn bare_rest(here: Cursor<'_>) -> Option<usize>
-    ensures { IfSome result (λ q. (p : ℕ) → IsBare q
-        (branch (nodes_and (token_node nodes p argument_token (at here.entry))
-        (text_forest (argument_from here.entry.place (at here.entry)).rest)))) }
-{
-    let named = take_name(here);
-    let after = named.end.strip(b'}')?;
-    if named.name.is_empty() && after.is_at_end() {
-        Some(named.end.place)
-    } else {
-        None
-    }
-}
-
-/// Returns a cursor at the beginning of a group's text, if there is a group.
-#[inline(always)]
-fn group_start(group: Option<Group<'_>>) -> Option<Cursor<'_>>
-    ensures { branch_of (λ c. text_forest (at c)) result
-        ≡ group_branch nodes (option_map group_of group.entry) }
-{
-    match group {
-        Some(group) => Some(inside(group)),
-        None => None,
-    }
 }
 
 /// Writes what a text means up to its first list, and returns whether there is one. Whether it goes

@@ -24,6 +24,7 @@ ghost use Rattle.interpolator_eval.specs.Meaning.Work.{forest_work};
 use crate::context::Context;
 use crate::escaper::Escaper;
 use crate::evaluate::environment::Environment;
+use crate::evaluate::plain_item::PlainItem;
 use crate::evaluate::sink::Sink;
 use crate::piece_count::PieceCount;
 use crate::slots::Formattable;
@@ -134,14 +135,15 @@ pub trait FormatSource: Copy {
         requires met { is_met list.now }
         ensures { branch_of tree result ≡ (asks list.now).join };
 
-    /// Returns the place of an item's text, if each item is displayed plainly: if there is no item
-    /// format, or that is `{}`. A source may return `None` all the same.
-    fn plain_item(list: &Self::List) -> Option<usize>
+    /// Returns the format of an item, if each item is displayed plainly: if there is no item
+    /// format, or that is `{}`, with or without a text before it and one after it. A source may
+    /// return `None` all the same.
+    fn plain_item<'l>(list: &'l Self::List) -> Option<PlainItem<'l>>
         requires met { is_met list.now }
-        ensures { IfSome result (λ q. IsPlainItem q (asks list.now)) };
+        ensures { IfSome result (λ p. IsPlainItem p (asks list.now)) };
 
-    /// Returns the text of its join, if that is text without a brace. A source may return `None` all
-    /// the same.
+    /// Returns the text of its join, if that is text without a brace. A source may return `None`
+    /// all the same.
     fn text_join(list: &Self::List) -> Option<Group<'_>>
         requires met { is_met list.now }
         ensures { IfSome result (λ g. IsText (group_of g) (asks list.now).join) };

@@ -1,11 +1,15 @@
-use Rattle.std.proofs.Common.{◌≡◌, ◌∷◌, arith, map, rules}
+use Rattle.std.proofs.Common.{◌≡◌, [], ◌∷◌, arith, map, rules}
+use Rattle.std.proofs.lemmas.Grind.{common_steps}
 use Rattle.interpolator_eval.specs.Escaping.{shows_by}
 use Rattle.interpolator_eval.specs.Slots.{slots_of}
 use Rattle.interpolator_eval.specs.Meaning.CodeEnvironments.{environment_of}
 use Rattle.std.proofs.lemmas.Result.{err_from_is_err_and}
-use Rattle.interpolator_eval.specs.Meaning.Sources.{list_items}
+use Rattle.interpolator_eval.specs.Meaning.Sources.{list_item, list_items, list_join}
 use Rattle.interpolator_eval.proofs.MeaningLemmas.ListLemmas.{first_passed, item_passed, item_stops}
 use Rattle.interpolator_eval.proofs.MeaningLemmas.ListLemmas.{items_done, join_stops}
+use Rattle.interpolator_eval.proofs.MeaningLemmas.ListLemmas.{one_item}
+use Rattle.interpolator_eval.proofs.MeaningLemmas.PlainItemLemmas.{item_framed}
+use Rattle.interpolator_eval.proofs.MeaningLemmas.PlainItemLemmas.{item_framed_pieces}
 use Rattle.interpolator_eval.proofs.MeaningLemmas.ScanLemmas.{brace_fault}
 use Rattle.interpolator_eval.proofs.MeaningLemmas.SinkLemmas.{fault_first, same_end, whole_fault}
 use Rattle.interpolator_eval.proofs.MeaningLemmas.SinkLemmas.{whole_refused}
@@ -21,7 +25,8 @@ pub write_padded_list-returns-then-refused-clause-writes :
 write_padded_list-returns-then-refused-clause-writes g t c =
     let e = environment_of g.C.Context.finds c.args.environment.now in
     let asked = g.S.FormatSource.asks c.args.list.now in
-    let all = list_items (shows_by g.E.Escaper.shown g.C.Object.Value.shows) e asked (map slots_of c.args.items.now) in
+    let shows = shows_by g.E.Escaper.shown g.C.Object.Value.shows in
+    let all = list_items shows e asked (map slots_of c.args.items.now) in
     record { outcome = whole_refused _ _ all _; same = same_end c.args.sink.now }
 
 pub write_padded_list-returns-in_err-answer-in-Buffer-clause-writes :
@@ -83,7 +88,37 @@ write_each-returns g t c =
     let done = items_done _ _ c.loop-item.invariant c.loop-item-test.false in
     record { writes = done.0; gone = omega (arith, done.1); exact = done.1 }
 
+pub write_item-returns-in-Some-clause-writes : goal.write_item-returns-in-Some-clause-writes
+write_item-returns-in-Some-clause-writes g t c =
+    let asked = g.S.FormatSource.asks c.args.list.now in
+    let plain = rw c.in-Some.is at c.requires.plain in
+    rw (item_framed _ _ _ c.in-Some.plain asked plain) c.write_by_plain_format.ensures.writes
+
+pub write_item-returns-in-Some-clause-gone : goal.write_item-returns-in-Some-clause-gone
+write_item-returns-in-Some-clause-gone g t c =
+    let asked = g.S.FormatSource.asks c.args.list.now in
+    let plain = rw c.in-Some.is at c.requires.plain in
+    rw (item_framed_pieces _ _ _ c.in-Some.plain asked plain) c.write_by_plain_format.ensures.gone
+
+pub write_item-returns-in-Some-clause-exact : goal.write_item-returns-in-Some-clause-exact
+write_item-returns-in-Some-clause-exact g t c =
+    let asked = g.S.FormatSource.asks c.args.list.now in
+    let plain = rw c.in-Some.is at c.requires.plain in
+    rw (item_framed_pieces _ _ _ c.in-Some.plain asked plain) c.write_by_plain_format.ensures.exact
+
 -- ---- a list that was met
+
+pub write_list-returns-in-len1-clause-writes : goal.write_list-returns-in-len1-clause-writes
+write_list-returns-in-len1-clause-writes g t c =
+    let shows = shows_by g.E.Escaper.shown g.C.Object.Value.shows in
+    let e = environment_of g.C.Context.finds c.args.environment.now in
+    let asked = g.S.FormatSource.asks c.args.list.now in
+    let item = c.item-item.result in
+    let one : map slots_of c.in_ok-items.items.now ≡ slots_of item ∷ []
+    = grind (arith, common_steps) in
+    let whole = one_item g.W.TextWrite.written (list_join shows e asked) (list_item shows e asked)
+    _ (slots_of item) _ _ _ one c.write_formatted.ensures.writes in
+    search rules
 
 pub write_argument-returns-in_err-write_list-clause-writes :
     goal.write_argument-returns-in_err-write_list-clause-writes

@@ -22,6 +22,9 @@ decreases-write_list g l = 16 * asked_size (g.S.FormatSource.asks l.list.now) + 
 abbrev pub decreases-write_padded_list : goal.decreases-write_padded_list
 decreases-write_padded_list g l = 16 * asked_size (g.S.FormatSource.asks l.list.now) + 5
 
+abbrev pub decreases-write_several : goal.decreases-write_several
+decreases-write_several g l = 16 * asked_size (g.S.FormatSource.asks l.list.now) + 5
+
 abbrev pub decreases-write_items : goal.decreases-write_items
 decreases-write_items g l = 16 * asked_size (g.S.FormatSource.asks l.list.now) + 4
 
@@ -47,9 +50,11 @@ decreases-write_formatted_join g l = 16 * asked_size (g.S.FormatSource.asks l.li
 abbrev pub invariant-write_source-loop-sink : goal.invariant-write_source-loop-sink
 invariant-write_source-loop-sink g l =
     let tree = g.S.FormatSource.tree in
+    let shows = shows_by g.E.Escaper.shown g.C.Object.Value.shows in
+    let e = environment_of g.C.Context.finds l.environment in
     record {
       within : forest_size (tree l.here) ≤ forest_size (tree l.fn.source);
-      passed : ListsPassed (shows_by g.E.Escaper.shown g.C.Object.Value.shows) (environment_of g.C.Context.finds l.environment)
+      passed : ListsPassed shows e
           g.W.TextWrite.written (tree l.fn.source) (tree l.here) l.fn.sink l.sink l.fn.count
           l.count;
     }

@@ -3,8 +3,8 @@ use Rattle.interpolator_pieces.proofs.RunLemmas.{first_piece}
 use Rattle.interpolator_pieces.proofs.WholePieceLemmas.{in_item}
 use Rattle.interpolator_pieces.proofs.stored_source.StoredFormatSource.plain_item.Goals as goal
 
-pub bare_argument-requires : goal.bare_argument-requires
-bare_argument-requires c =
+pub plain_pieces-requires : goal.plain_pieces-requires
+plain_pieces-requires c =
     let source = c.args.list.now in
     let x = c.index-list-0.result in
     let first = first_piece source.text.now source.pieces.now x c.requires.met c.index-list-0.is

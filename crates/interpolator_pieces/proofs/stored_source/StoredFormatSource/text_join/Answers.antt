@@ -3,8 +3,8 @@ use Rattle.interpolator_pieces.proofs.RunLemmas.{first_piece}
 use Rattle.interpolator_pieces.proofs.WholePieceLemmas.{in_join}
 use Rattle.interpolator_pieces.proofs.stored_source.StoredFormatSource.text_join.Goals as goal
 
-pub text_alone-requires : goal.text_alone-requires
-text_alone-requires c =
+pub text_pieces-requires : goal.text_pieces-requires
+text_pieces-requires c =
     let source = c.args.list.now in
     let x = c.index-list-0.result in
     let first = first_piece source.text.now source.pieces.now x c.requires.met c.index-list-0.is

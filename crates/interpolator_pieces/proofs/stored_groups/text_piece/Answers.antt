@@ -3,7 +3,7 @@ use Rattle.interpolator_pieces.proofs.PlainPieceLemmas.{text_piece_is}
 use Rattle.interpolator_pieces.proofs.RunLemmas.{text_fits}
 use Rattle.interpolator_pieces.proofs.StoredLemmas.{detail_bare}
 use Rattle.interpolator_pieces.proofs.WholePieceLemmas.{fits_text}
-use Rattle.interpolator_pieces.proofs.stored_source.text_piece.Goals as goal
+use Rattle.interpolator_pieces.proofs.stored_groups.text_piece.Goals as goal
 
 pub text_of-requires : goal.text_of-requires
 text_of-requires c = grind (arith, text_fits, detail_bare, fits_text)

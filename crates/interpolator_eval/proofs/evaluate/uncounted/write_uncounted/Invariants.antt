@@ -1,4 +1,4 @@
-use Rattle.interpolator_eval.proofs.evaluate.evaluator.write_uncounted.Given as goal
+use Rattle.interpolator_eval.proofs.evaluate.uncounted.write_uncounted.Given as goal
 
 -- the ledger that the blank one becomes
 abbrev pub ghosts-write_on : goal.ghosts-write_on
