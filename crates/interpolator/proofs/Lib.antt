@@ -17,5 +17,6 @@ mod NamingLemmas
 mod OwnedLemmas
 mod PositionLemmas
 mod RecordPlaceLemmas
+mod SampleMapLemmas
 mod SampleWalkLemmas
 mod SeamLemmas

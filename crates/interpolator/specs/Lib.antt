@@ -21,6 +21,7 @@ pub mod Escaping
 pub mod EscapedTexts
 pub use Rattle.interpolator_eval.specs.Rows
 pub mod NamedValues
+pub mod SampleMaps
 pub mod Lent
 pub mod OwnedViews
 pub mod DecimalTexts

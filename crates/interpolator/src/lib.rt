@@ -40,6 +40,7 @@ mod owned_view;
 mod parts;
 mod position;
 mod record_template;
+mod sample_map;
 mod template;
 mod values;
 mod values_of;

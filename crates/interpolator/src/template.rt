@@ -21,6 +21,8 @@ ghost use Rattle.interpolator_pieces.specs.Stored.{nodes_of};
 ghost use Rattle.interpolator.specs.NamedValues.{found_by_values, pairs_of, view_shows};
 ghost use Rattle.interpolator_pieces.specs.Calls.{MakesText, WritesLine, WritesText};
 
+use crate::interpolate::Interpolate;
+use crate::sample_map::map_of;
 use crate::values::Values;
 use interpolator_eval::{Context, Escaper, Pairs, PieceCount, Unescaped};
 use interpolator_pieces::{
@@ -32,6 +34,9 @@ use interpolator_syntax::{Cursor, Error};
 use std::alloc::Global;
 use std::marker::Model;
 use std::sync::ledger::Ledger;
+
+/// The most pairs of a sample that are looked through for each name.
+const FEW: usize = 32;
 
 /// A format that was read once: its text and its pieces.
 ///
@@ -224,6 +229,25 @@ impl Template {
         format_pieces::<C, E>(alloc, self.parsed(), context)
     }
 
+    /// Reports the first fault with pairs, as [`check_in`](Template::check_in) does; of many pairs a
+    /// map is made, so that a format takes no time that grows with their square.
+    fn check_pairs<V: Value>(&self, alloc: Global, sample: &Pairs<'_, V>) -> Result<(), Error>
+        ensures faultless { IfOk result (λ _. AnswersFirst (faults_over V.shows
+            (found_by_pairs sample.now.0.now) (outermost (chars self.now))) None) }
+        ensures refused { IfErr result (λ error. (answer_of error ≡ no_memory)
+            ⊎ AnswersFirst (faults_over V.shows (found_by_pairs sample.now.0.now)
+            (outermost (chars self.now))) (Some (answer_of error))) }
+        ensures place { PlaceWithin (length self.now) (result_answer result) }
+    {
+        if sample.0.len() <= FEW {
+            self.check_in(alloc, sample)?;
+            return Ok(());
+        }
+        let map = map_of(alloc, sample.0)?;
+        map.check_template(alloc, self)?;
+        Ok(())
+    }
+
     /// The format, prepared for rows of values in the order of the sample's pairs, if it has no
     /// fault against them: what a pair has is an example of what a row will have at its position,
     /// as for [`check_in`](Template::check_in).
@@ -250,7 +274,7 @@ impl Template {
             (outermost (chars self.now))) (Some (answer_of error))) }
         ensures place { PlaceWithin (length self.now) (result_answer result) }
     {
-        self.check_in(alloc, sample)?;
+        self.check_pairs(alloc, sample)?;
         let names = names_of(alloc, sample.0)?;
         prepare_pieces(alloc, self.text.as_str(), &self.pieces, names)
     }

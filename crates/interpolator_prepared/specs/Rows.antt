@@ -4,6 +4,7 @@ use Rattle.std.specs.Prelude.{Option, Some, None, IsSome, option_map, slice_get,
 use Rattle.std.specs.Option.{option_and_then}
 use Rattle.std.specs.Str.{bytes_eq, encode_utf8_all}
 use Rattle.std.specs.Borrow.{Bor}
+use Rattle.std.specs.HashMap.{HashMap, get_by}
 use Rattle.std.specs.declared.string.String.{String}
 use Rattle.interpolator_render.specs.declared.view.Trait.{Trait}
 use Rattle.interpolator_eval.specs.Slots.{Slots, slots_of, values_of, slot_at}
@@ -30,6 +31,11 @@ abbrev pub last_position : List (List ℕ) → List ℕ → Option ℕ
 last_position [] name = None
 last_position (own ∷ names) name =
     later_or_first (last_position names name) (bytes_eq name own)
+
+-- a map has the last position of each of these names, and no other name
+abbrev pub HasPositions : {S : Type 0} → List (List ℕ) → HashMap (Bor (List ℕ)) ℕ S → Type 0
+HasPositions names positions =
+    (name : List ℕ) → get_by (λ own. bytes_eq name own.now) positions ≡ last_position names name
 
 -- the value at a position of a row, if the row reaches it
 abbrev pub row_at : {X : Type 0} → List (Formattable X) → ℕ → Option (Slots X)

@@ -16,7 +16,7 @@ ghost use Rattle.interpolator_pieces.specs.declared.piece.Form.TheVariants as fo
 
 use crate::joined::join;
 use crate::lists::{list_pieces, made_list};
-use crate::row::last_position;
+use crate::name_index::{FEW, NameIndex, positions_of};
 use crate::step::{Part, Step, ValueSpec};
 use interpolator_pieces::{
     Form, Piece, copy_piece, form_of, part_of, spec_end_of, spec_of, text_of,
@@ -40,6 +40,24 @@ pub fn compile(
     ensures program { IfOk result (λ made. flat_map (steps_of text.now) made.items
         ≡ map Some (program (name_bytes names.now) (nodes_of text.now pieces.now))) }
 {
+    if names.len() <= FEW {
+        return compile_by(alloc, text, &NameIndex::few(names), pieces);
+    }
+    let positions = positions_of(alloc, names)?;
+    compile_by(alloc, text, &NameIndex::many(names, &positions), pieces)
+}
+
+/// The steps of the pieces of a text, by an index of the names.
+fn compile_by(
+    alloc: Global,
+    text: &str,
+    names: &NameIndex<'_, '_>,
+    pieces: &[Piece],
+) -> Result<Vec<Step>, AllocError>
+    requires whole { forest_whole (as_forest (nodes_of text.now pieces.now)) ≡ true }
+    ensures program { IfOk result (λ made. flat_map (steps_of text.now) made.items
+        ≡ map Some (program names.now (nodes_of text.now pieces.now))) }
+{
     let mut made = Vec::with_capacity(alloc, (pieces.len() / 2 + 1).min(MOST_ROOM))?;
     let mut left = pieces;
     while !left.is_empty() {
@@ -53,7 +71,7 @@ pub fn compile(
 fn add_first<'p>(
     alloc: Global,
     text: &str,
-    names: &[String],
+    names: &NameIndex<'_, '_>,
     made: &mut Vec<Step>,
     pieces: &'p [Piece],
 ) -> Result<&'p [Piece], AllocError>
@@ -62,11 +80,10 @@ fn add_first<'p>(
         forest_whole (as_forest (nodes_of text.now left.now)) ≡ true) }
     ensures shorter { 0 < length pieces.now
         → IfOk result (λ left. length left.now < length pieces.now) }
-    ensures added { IfOk result (λ left. let names = name_bytes names.now in
-        flat_map (steps_of text.now) made.new.items
-        ++ map Some (program names (nodes_of text.now left.now))
+    ensures added { IfOk result (λ left. flat_map (steps_of text.now) made.new.items
+        ++ map Some (program names.now (nodes_of text.now left.now))
         ≡ flat_map (steps_of text.now) made.old.items
-        ++ map Some (program names (nodes_of text.now pieces.now))) }
+        ++ map Some (program names.now (nodes_of text.now pieces.now))) }
 {
     let Some((piece, after)) = pieces.split_first() else {
         return Ok(pieces);
@@ -157,14 +174,14 @@ fn push_pair(made: &mut Vec<Step>, first: Step, second: Step) -> Result<(), Allo
 fn first_step(
     alloc: Global,
     text: &str,
-    names: &[String],
+    names: &NameIndex<'_, '_>,
     piece: &Piece,
     texts: &[Piece],
 ) -> Result<Step, AllocError>
     requires whole { node_whole (node_of text.now piece.now) ≡ true }
     requires texts { All (λ piece. IsSome (stored_part text.now piece)) texts.now }
     ensures step { IfOk result (λ step. step_of text.now step
-        ≡ Some (first_step text.now (name_bytes names.now) piece.now texts.now)) }
+        ≡ Some (first_step text.now names.now piece.now texts.now)) }
 {
     if is_text(piece) {
         return text_step(alloc, text, piece, texts);
@@ -192,13 +209,12 @@ fn text_step(alloc: Global, text: &str, piece: &Piece, texts: &[Piece]) -> Resul
 fn argument_step(
     alloc: Global,
     text: &str,
-    names: &[String],
+    names: &NameIndex<'_, '_>,
     piece: &Piece,
 ) -> Result<Step, AllocError>
     requires whole { node_whole (node_of text.now piece.now) ≡ true }
     ensures step { IfOk result (λ step. let x = node_of text.now piece.now in
-        let known = name_bytes names.now in
-        step_of text.now step ≡ Some (argument_step known (node_position known x) x)) }
+        step_of text.now step ≡ Some (argument_step names.now (node_position names.now x) x)) }
 {
     match position_of(text, names, piece) {
         Some(position) => match form_of(piece) {
@@ -269,9 +285,9 @@ fn kept(alloc: Global, piece: &Piece) -> Result<Step, AllocError>
 }
 
 /// The position of the name of a closed argument that asks for a value, if it is one of the names.
-fn position_of(text: &str, names: &[String], piece: &Piece) -> Option<usize>
+fn position_of(text: &str, names: &NameIndex<'_, '_>, piece: &Piece) -> Option<usize>
     requires whole { node_whole (node_of text.now piece.now) ≡ true }
-    ensures { result ≡ node_position (name_bytes names.now) (node_of text.now piece.now) }
+    ensures { result ≡ node_position names.now (node_of text.now piece.now) }
 {
     match piece.kind {
         PieceKind::Closed => match form_of(piece) {
@@ -290,10 +306,10 @@ fn position_of(text: &str, names: &[String], piece: &Piece) -> Option<usize>
 }
 
 /// The position of the name of an argument, if it is one of the names.
-fn position_in(text: &str, names: &[String], piece: &Piece) -> Option<usize>
+fn position_in(text: &str, names: &NameIndex<'_, '_>, piece: &Piece) -> Option<usize>
     requires fits { IsSome (stored_name text.now piece.now) }
     ensures position { (name : List ℕ) → stored_name text.now piece.now ≡ Some name
-        → result ≡ last_position (name_bytes names.now) (encode_utf8_all name) }
+        → result ≡ last_position names.now (encode_utf8_all name) }
 {
-    last_position(names, text_of(text, piece))
+    names.find(text_of(text, piece))
 }

@@ -8,6 +8,7 @@ mod compile;
 mod items;
 mod joined;
 mod lists;
+mod name_index;
 mod prepared;
 mod put;
 mod row;

@@ -17,6 +17,7 @@ mod at_once;
 mod decimals;
 mod lists;
 mod loaded;
+mod many;
 mod named;
 mod names;
 
@@ -29,6 +30,7 @@ pub fn run(report: &mut Report) -> Result<(), Error> {
     decimals::run(report)?;
     lists::run(report)?;
     loaded::run(report)?;
+    many::run(report);
     named::run(report);
     names::run(report)
 }

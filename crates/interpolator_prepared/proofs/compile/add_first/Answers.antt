@@ -1,4 +1,3 @@
-use Rattle.interpolator_prepared.specs.Rows.{name_bytes}
 use Rattle.interpolator_prepared.proofs.CompileLemmas.{first_whole, one_added, rest_whole}
 use Rattle.interpolator_prepared.proofs.CompileLemmas.{two_added, texts_after_fit}
 use Rattle.interpolator_prepared.proofs.compile.add_first.Goals as goal
@@ -6,12 +5,12 @@ use Rattle.interpolator_prepared.proofs.compile.add_first.Goals as goal
 pub first_step-requires-clause-texts : goal.first_step-requires-clause-texts
 first_step-requires-clause-texts c =
     rw (c.split_at.ensures.front, c.texts_after.ensures.count)
-    (texts_after_fit (name_bytes c.args.names.now) c.args.text.now c.in-Some.piece.now
+    (texts_after_fit c.args.names.now c.args.text.now c.in-Some.piece.now
     c.in-Some.after.now (rw c.in-Some.ensures.cases.0 at c.requires.whole))
 
 pub argument_step-requires : goal.argument_step-requires
 argument_step-requires c =
-    let names = name_bytes c.args.names.now in
+    let names = c.args.names.now in
     let left = rest_whole names c.args.text.now _ c.in-Some.piece.now c.in-Some.after.now
     c.split_at.result.1.now c.texts_after.result c.in-Some.ensures.cases.0
     c.texts_after.ensures.count c.split_at.ensures.back c.requires.whole in
@@ -22,7 +21,7 @@ argument_step-requires c =
 
 pub returns-in-Some-split_first-clause-whole : goal.returns-in-Some-split_first-clause-whole
 returns-in-Some-split_first-clause-whole c =
-    let names = name_bytes c.args.names.now in
+    let names = c.args.names.now in
     let left = rest_whole names c.args.text.now _ c.in-Some.piece.now c.in-Some.after.now
     c.split_at.result.1.now c.texts_after.result c.in-Some.ensures.cases.0
     c.texts_after.ensures.count c.split_at.ensures.back c.requires.whole in
@@ -31,7 +30,7 @@ returns-in-Some-split_first-clause-whole c =
 
 pub returns-in-Some-split_first-clause-added : goal.returns-in-Some-split_first-clause-added
 returns-in-Some-split_first-clause-added c =
-    two_added (name_bytes c.args.names.now) c.args.text.now _ c.in-Some.piece.now
+    two_added c.args.names.now c.args.text.now _ c.in-Some.piece.now
     c.in-Some.after.now c.split_at.result.1.now c.texts_after.result c.in-Some.ensures.cases.0
     c.texts_after.ensures.count c.split_at.ensures.back c.requires.whole _ _ c.in_ok-step.step
     (rw (c.split_at.ensures.front, c.texts_after.ensures.count) at c.in_ok-step.ensures.step)
@@ -42,13 +41,13 @@ returns-in-Some-split_first-clause-added c =
 
 pub returns-clause-whole : goal.returns-clause-whole
 returns-clause-whole c =
-    rest_whole (name_bytes c.args.names.now) c.args.text.now _ c.in-Some.piece.now
+    rest_whole c.args.names.now c.args.text.now _ c.in-Some.piece.now
     c.in-Some.after.now c.split_at.result.1.now c.texts_after.result c.in-Some.ensures.cases.0
     c.texts_after.ensures.count c.split_at.ensures.back c.requires.whole
 
 pub returns-clause-added : goal.returns-clause-added
 returns-clause-added c =
-    one_added (name_bytes c.args.names.now) c.args.text.now _ c.in-Some.piece.now
+    one_added c.args.names.now c.args.text.now _ c.in-Some.piece.now
     c.in-Some.after.now c.split_at.result.1.now c.texts_after.result c.in-Some.ensures.cases.0
     c.texts_after.ensures.count c.split_at.ensures.back c.requires.whole _ _ c.in_ok-step.step
     (rw (c.split_at.ensures.front, c.texts_after.ensures.count) at c.in_ok-step.ensures.step)

@@ -1,5 +1,4 @@
 use Rattle.std.proofs.Common.{◌∙◌, sym}
-use Rattle.interpolator_prepared.specs.Rows.{name_bytes}
 use Rattle.interpolator_pieces.specs.declared.piece.Form.TheVariants as forms
 use Rattle.interpolator_prepared.proofs.CompileLemmas.{step_of_name, step_of_value, step_other}
 use Rattle.interpolator_prepared.proofs.CompileLemmas.{if_same}
@@ -9,7 +8,7 @@ use Rattle.interpolator_prepared.proofs.compile.argument_step.Goals as goal
 pub returns-in-Plain : goal.returns-in-Plain
 returns-in-Plain c =
     rw c.spec_end_of.ensures (record {
-      step = step_of_name (name_bytes c.args.names.now) c.args.text.now c.args.piece.now
+      step = step_of_name c.args.names.now c.args.text.now c.args.piece.now
           c.requires.whole c.in-Some.position c.in-Some.ensures (sym c.form_of.ensures ∙ c.in-Plain.is);
     })
 
@@ -17,7 +16,7 @@ pub returns-in-Value : goal.returns-in-Value
 returns-in-Value c =
     record {
       step = if_same _ c.args.text.now _ _
-          (step_of_value (name_bytes c.args.names.now) c.args.text.now c.args.piece.now
+          (step_of_value c.args.names.now c.args.text.now c.args.piece.now
           c.requires.whole c.in-Some.position c.in-Some.ensures c.in-Value.t (sym c.form_of.ensures ∙ c.in-Value.is))
           c.under.ensures.step;
     }
@@ -27,7 +26,7 @@ returns-in-Text c =
     record {
       step = if_same _ c.args.text.now _ _
           (kept_is _ c.requires.whole
-          ∙ step_other (name_bytes c.args.names.now) c.args.text.now c.args.piece.now forms.Text
+          ∙ step_other c.args.names.now c.args.text.now c.args.piece.now forms.Text
           (sym c.form_of.ensures ∙ c.in-Text.is) tt c.in-Some.position c.in-Some.ensures)
           c.kept.ensures.step;
     }
@@ -37,7 +36,7 @@ returns-in-List c =
     record {
       step = if_same _ c.args.text.now _ _
           (kept_is _ c.requires.whole
-          ∙ step_other (name_bytes c.args.names.now) c.args.text.now c.args.piece.now _
+          ∙ step_other c.args.names.now c.args.text.now c.args.piece.now _
           (sym c.form_of.ensures ∙ c.in-List.is) tt c.in-Some.position c.in-Some.ensures)
           c.kept-in-List.ensures.step;
     }
@@ -47,7 +46,7 @@ returns-in-Broken c =
     record {
       step = if_same _ c.args.text.now _ _
           (kept_is _ c.requires.whole
-          ∙ step_other (name_bytes c.args.names.now) c.args.text.now c.args.piece.now _
+          ∙ step_other c.args.names.now c.args.text.now c.args.piece.now _
           (sym c.form_of.ensures ∙ c.in-Broken.is) tt c.in-Some.position c.in-Some.ensures)
           c.kept-in-Broken.ensures.step;
     }

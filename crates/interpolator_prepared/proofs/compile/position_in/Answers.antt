@@ -1,7 +1,7 @@
 use Rattle.std.proofs.Common.{◌≡◌, ◌∙◌, sym, ap, nat_lt, Some}
 use Rattle.std.specs.Str.{chars, encode_utf8_all}
 use Rattle.std.proofs.lemmas.Str.{encodes-chars}
-use Rattle.interpolator_prepared.specs.Rows.{last_position, name_bytes}
+use Rattle.interpolator_prepared.specs.Rows.{last_position}
 use Rattle.interpolator_pieces.specs.Stored.{detail_of}
 use Rattle.interpolator_pieces.specs.StoredMeanings.{stored_part}
 use Rattle.interpolator_pieces.specs.declared.piece.Piece.TheViews.{out-Piece}
@@ -17,7 +17,7 @@ returns c = record {
       named_part (nat_lt (out-Piece x).place (detail_of x).from) (stored_part c.args.text.now x) name is in
       let told : Some (chars bytes) ≡ Some name = c.text_of.ensures.text ∙ whole in
       let same : chars bytes ≡ name = cc in
-      c.last_position.ensures
-      ∙ ap (last_position (name_bytes c.args.names.now))
+      c.find.ensures
+      ∙ ap (last_position c.args.names.now)
       (sym (encodes-chars bytes c.text_of.utf8) ∙ ap encode_utf8_all same);
 }

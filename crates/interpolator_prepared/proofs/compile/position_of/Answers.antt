@@ -1,5 +1,4 @@
 use Rattle.std.proofs.Common.{◌∙◌, sym}
-use Rattle.interpolator_prepared.specs.Rows.{name_bytes}
 use Rattle.interpolator_pieces.specs.declared.piece.Form.TheVariants as forms
 use Rattle.interpolator_prepared.proofs.CompileLemmas.{position_of_name, position_of_value}
 use Rattle.interpolator_prepared.proofs.CompileLemmas.{no_position_kind, no_position_form}
@@ -23,45 +22,45 @@ position_in-requires-in-Value c =
 
 pub returns-in-Plain : goal.returns-in-Plain
 returns-in-Plain c =
-    position_of_name (name_bytes c.args.names.now) c.args.text.now c.args.piece.now
+    position_of_name c.args.names.now c.args.text.now c.args.piece.now
     c.requires.whole c.in-Closed.is _ c.position_in.ensures.position (sym c.form_of.ensures ∙ c.in-Plain.is)
 
 pub returns-in-Value : goal.returns-in-Value
 returns-in-Value c =
-    position_of_value (name_bytes c.args.names.now) c.args.text.now c.args.piece.now
+    position_of_value c.args.names.now c.args.text.now c.args.piece.now
     c.requires.whole c.in-Closed.is _ c.position_in-in-Value.ensures.position _ (sym c.form_of.ensures ∙ c.in-Value.is)
 
 pub returns-in-Text : goal.returns-in-Text
 returns-in-Text c =
-    no_position_form (name_bytes c.args.names.now) c.args.text.now c.args.piece.now forms.Text
+    no_position_form c.args.names.now c.args.text.now c.args.piece.now forms.Text
     (sym c.form_of.ensures ∙ c.in-Text.is) tt c.in-Closed.is
 
 pub returns-in-List : goal.returns-in-List
 returns-in-List c =
-    no_position_form (name_bytes c.args.names.now) c.args.text.now c.args.piece.now _
+    no_position_form c.args.names.now c.args.text.now c.args.piece.now _
     (sym c.form_of.ensures ∙ c.in-List.is) tt c.in-Closed.is
 
 pub returns-in-Broken-form_of : goal.returns-in-Broken-form_of
 returns-in-Broken-form_of c =
-    no_position_form (name_bytes c.args.names.now) c.args.text.now c.args.piece.now _
+    no_position_form c.args.names.now c.args.text.now c.args.piece.now _
     (sym c.form_of.ensures ∙ c.in-Broken-form_of.is) tt c.in-Closed.is
 
 pub returns-in-Literal : goal.returns-in-Literal
 returns-in-Literal c =
-    no_position_kind (name_bytes c.args.names.now) c.args.text.now _ _ c.in-Literal.is (λ e. cc)
+    no_position_kind c.args.names.now c.args.text.now _ _ c.in-Literal.is (λ e. cc)
 
 pub returns-in-Doubled : goal.returns-in-Doubled
 returns-in-Doubled c =
-    no_position_kind (name_bytes c.args.names.now) c.args.text.now _ _ c.in-Doubled.is (λ e. cc)
+    no_position_kind c.args.names.now c.args.text.now _ _ c.in-Doubled.is (λ e. cc)
 
 pub returns-in-LoneClose : goal.returns-in-LoneClose
 returns-in-LoneClose c =
-    no_position_kind (name_bytes c.args.names.now) c.args.text.now _ _ c.in-LoneClose.is (λ e. cc)
+    no_position_kind c.args.names.now c.args.text.now _ _ c.in-LoneClose.is (λ e. cc)
 
 pub returns-in-Unclosed : goal.returns-in-Unclosed
 returns-in-Unclosed c =
-    no_position_kind (name_bytes c.args.names.now) c.args.text.now _ _ c.in-Unclosed.is (λ e. cc)
+    no_position_kind c.args.names.now c.args.text.now _ _ c.in-Unclosed.is (λ e. cc)
 
 pub returns-in-Broken : goal.returns-in-Broken
 returns-in-Broken c =
-    no_position_kind (name_bytes c.args.names.now) c.args.text.now _ _ c.in-Broken.is (λ e. cc)
+    no_position_kind c.args.names.now c.args.text.now _ _ c.in-Broken.is (λ e. cc)

@@ -1,8 +1,7 @@
 use Rattle.std.proofs.Common.{◌≡◌, ◌∙◌, arith, length, refl}
 use Rattle.std.proofs.lemmas.Bool.Decides.{nat_tests}
-use Rattle.interpolator_prepared.specs.Rows.{name_bytes}
 use Rattle.interpolator_prepared.proofs.CompileLemmas.{none_left}
-use Rattle.interpolator_prepared.proofs.compile.compile.Goals as goal
+use Rattle.interpolator_prepared.proofs.compile.compile_by.Goals as goal
 
 pub loop-left-init : goal.loop-left-init
 loop-left-init c = rw (c.in_ok-made.ensures.items) (record { whole = c.requires.whole; goes_on = refl })
@@ -23,6 +22,6 @@ pub returns : goal.returns
 returns c =
     let none : length c.loop-left.left.now ≡ 0 = grind (arith, nat_tests) in
     record {
-      program = none_left (name_bytes c.args.names.now) c.args.text.now _ _ c.loop-left.left.now none
+      program = none_left c.args.names.now c.args.text.now _ _ c.loop-left.left.now none
           c.loop-left.invariant.goes_on;
     }

@@ -1,0 +1,98 @@
+//! The names of a format, in order, and where each was last.
+ghost use Rattle.std.specs.Prelude.{◌≡◌, List, ℕ, []};
+ghost use Rattle.std.specs.Prelude.{◌∷◌, ◌++◌, IfOk, OnOk, length, string_bytes};
+ghost use Rattle.interpolator_prepared.specs.Rows.{HasPositions, last_position, name_bytes};
+
+use crate::row::last_position;
+use std::alloc::{AllocError, Global};
+use std::collections::HashMap;
+use std::marker::Model;
+
+/// The most names among which one is sought from the last to the first.
+pub const FEW: usize = 32;
+
+/// The names of a format, in order. Among few a name is sought from the last to the first; of many
+/// each is put into a map, once, so that a format takes no time that grows with their square.
+#[derive(Drop)]
+pub struct NameIndex<'m, 'n> {
+    names: &'n [String],
+    // the last position of each name, if there are many
+    positions: Option<&'m HashMap<&'n str, usize>>,
+}
+
+impl<'m, 'n> Model for NameIndex<'m, 'n> {
+    ghost use Rattle.std.specs.Prelude.{IfSome, List, ℕ};
+    ghost use Rattle.interpolator_prepared.specs.Rows.{HasPositions, name_bytes};
+
+    ghost Value = { List (List ℕ) };
+
+    ghost view = { λ x. name_bytes x.names.now };
+
+    ghost invariant = { λ x. IfSome x.positions (λ m. HasPositions (name_bytes x.names.now) m.now) };
+}
+
+/// Puts one more name into a map of the last positions of those before it.
+fn add<'n>(
+    positions: &mut HashMap<&'n str, usize>,
+    position: usize,
+    name: &'n String,
+) -> Result<(), AllocError>
+    ensures added { OnOk result ((names : List (List ℕ)) → position ≡ length names
+        → HasPositions names positions.old
+        → HasPositions (names ++ string_bytes name.now ∷ []) positions.new) }
+{
+    positions.insert(name.as_str(), position)?;
+    Ok(())
+}
+
+/// The last position of each of these names.
+pub fn positions_of<'n>(
+    alloc: Global,
+    names: &'n [String],
+) -> Result<HashMap<&'n str, usize>, AllocError>
+    ensures positions { IfOk result (HasPositions (name_bytes names.now)) }
+{
+    let mut positions = HashMap::with_capacity(alloc, names.len())?;
+    let mut position = 0usize;
+    for name in names {
+        add(&mut positions, position, name)?;
+        position += 1;
+    }
+    Ok(positions)
+}
+
+impl<'m, 'n> NameIndex<'m, 'n> {
+    /// Few names, in which one is sought from the last to the first.
+    #[inline(always)]
+    pub fn few(names: &'n [String]) -> Self
+        ensures { result ≡ name_bytes names.now }
+    {
+        NameIndex {
+            names,
+            positions: None,
+        }
+    }
+
+    /// Names, and the last position of each.
+    #[inline(always)]
+    pub fn many(names: &'n [String], positions: &'m HashMap<&'n str, usize>) -> Self
+        requires positions { HasPositions (name_bytes names.now) positions.now }
+        ensures { result ≡ name_bytes names.now }
+    {
+        NameIndex {
+            names,
+            positions: Some(positions),
+        }
+    }
+
+    /// The last position of a name.
+    #[inline(always)]
+    pub fn find(&self, name: &str) -> Option<usize>
+        ensures { result ≡ last_position self.now name.now }
+    {
+        match self.positions {
+            Some(positions) => positions.get(name).copied(),
+            None => last_position(self.names, name),
+        }
+    }
+}
