@@ -387,12 +387,11 @@ public:
     lay_lists();
   }
 
-  // The cells of a table, which have no items.
+  // The cells of a table, none of which is a list.
   laid(const std::vector<const uses *> &columns, const std::vector<std::vector<value>> &rows) {
     for (const auto &row : rows)
       for (std::size_t k = 0; k < row.size(); k++)
         add({}, row[k], k < columns.size() ? *columns[k] : unused());
-    lists_.clear();
   }
 
   const interpolator_field *row() const { return row_.data(); }
@@ -636,22 +635,33 @@ inline std::vector<std::string> explain_all(const source &where, std::string_vie
   return pictures;
 }
 
+namespace detail {
+
+// Throws at the first row that has not a cell for each column, or has a list, which no cell may be.
+inline void check_rows(std::size_t columns, const std::vector<std::vector<value>> &rows) {
+  for (std::size_t k = 0; k < rows.size(); k++) {
+    const bool has_list =
+        std::any_of(rows[k].begin(), rows[k].end(), [](const value &cell) { return cell.items(); });
+    if (rows[k].size() == columns && !has_list) continue;
+    interpolator_answer wrong{};
+    wrong.code = has_list ? INTERPOLATOR_LISTS : INTERPOLATOR_TABLE;
+    wrong.row = k;
+    throw error(wrong, has_list ? "a cell of a table is a list" : sentence_of(wrong.code));
+  }
+}
+
+} // namespace detail
+
 // The text of a format for each row of a table: the columns have a name and an example each, and
-// each row has a cell for each column, none of which is a list. The format is read and prepared
-// once.
+// each row has a cell for each column, none of which is a list (INTERPOLATOR_LISTS). The format is
+// read and prepared once.
 inline std::vector<std::string> rows(std::string_view format, const fields &columns,
                                      const std::vector<std::vector<value>> &cells) {
   const detail::laid heads(format, columns);
   const detail::reading read(format);
   std::vector<const detail::uses *> used;
   for (const auto &column : columns) used.push_back(&read.of(column.name));
-  for (std::size_t k = 0; k < cells.size(); k++) {
-    if (cells[k].size() == columns.size()) continue;
-    interpolator_answer wrong{};
-    wrong.code = INTERPOLATOR_TABLE;
-    wrong.row = k;
-    throw error(wrong, detail::sentence_of(wrong.code));
-  }
+  detail::check_rows(columns.size(), cells);
   const detail::laid table(used, cells);
   std::vector<std::size_t> ends(cells.size());
   const std::string text = detail::text_or_throw(detail::answered(

@@ -231,6 +231,18 @@ static void tables() {
   } catch (const error &fault) {
     WANT(fault.code == INTERPOLATOR_MISSING_TRAIT && fault.row == 2);
   }
+  try {
+    rows("{name:?}{price:i}", columns, {{"a", 1}, {"b", {1, 2}}, {"c"}});
+    WANT(false);
+  } catch (const error &fault) {
+    WANT(fault.code == INTERPOLATOR_LISTS && fault.row == 1);
+  }
+  try {
+    rows("{l:i({})(,)}", {{"l", {1}}}, {});
+    WANT(false);
+  } catch (const error &fault) {
+    WANT(fault.code == INTERPOLATOR_LISTS && fault.row == 0);
+  }
 }
 
 static void escapes() {
