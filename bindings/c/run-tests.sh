@@ -169,15 +169,17 @@ block() {
 
 # The programs of README.md, by its own CMakeLists.txt or else by pkg-config, and what it says of them.
 readme() {
-    local room=$scratch/readme found
+    local room=$scratch/readme found name number=1
     mkdir -p "$room"
     found="$(pkg-config --cflags --libs interpolator) -Wl,-rpath,$scratch/unpacked/lib"
     block cmake 1 >"$room/CMakeLists.txt"
     block c 1 >"$room/lists.c"
     block c 2 >"$room/fault.c"
+    block c 3 >"$room/table.c"
     block cpp 1 >"$room/lists.cpp"
     block cpp 2 >"$room/faults.cpp"
     block cpp 3 >"$room/page.cpp"
+    block cpp 4 >"$room/table.cpp"
     if command -v cmake >/dev/null; then
         cmake -S "$room" -B "$room/made" -DCMAKE_PREFIX_PATH="$scratch/unpacked" -DCMAKE_BUILD_TYPE=Release &&
             cmake --build "$room/made" || return 1
@@ -186,14 +188,19 @@ readme() {
         cc -std=c99 "$room/lists.c" $found -o "$room/made/lists_c" &&
             c++ -std=c++17 "$room/lists.cpp" $found -o "$room/made/lists_cpp" || return 1
     fi
-    cc -std=c99 "${sanitized[@]}" "$room/fault.c" build/libinterpolator.a -o "$room/fault_c" &&
-        c++ -std=c++17 "${sanitized[@]}" "$room/faults.cpp" build/libinterpolator.a \
-            -o "$room/faults_cpp" &&
-        c++ -std=c++17 "$room/page.cpp" $found -o "$room/page_cpp" || return 1
-    diff <(block text 1) <("$room/made/lists_c") && diff <(block text 2) <("$room/fault_c") &&
-        diff <(block text 3) <("$room/made/lists_cpp") && diff <(block text 4) <("$room/faults_cpp") &&
-        diff <(block text 5) <("$room/page_cpp") &&
-        diff <(echo 'Ann 7 true') <("$room/fault_c" '{name} {count:x} {ready}') &&
+    for name in fault table; do
+        cc -std=c99 "${sanitized[@]}" "$room/$name.c" build/libinterpolator.a -o "$room/${name}_c" ||
+            return 1
+    done
+    for name in faults page table; do
+        c++ -std=c++17 "${sanitized[@]}" "$room/$name.cpp" build/libinterpolator.a \
+            -o "$room/${name}_cpp" || return 1
+    done
+    for name in made/lists_c fault_c table_c made/lists_cpp faults_cpp page_cpp table_cpp; do
+        diff <(block text "$number") <("$room/$name") || return 1
+        number=$((number + 1))
+    done
+    diff <(echo 'Ann 7 true') <("$room/fault_c" '{name} {count:x} {ready}') &&
         diff <(echo 'Ann 7 true') <("$room/faults_cpp" '{name} {count:x} {ready}')
 }
 
