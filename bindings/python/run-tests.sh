@@ -50,10 +50,10 @@ suite() {
     echo "bindings/python: $1: passed, $(sed -n 's/^Ran \([0-9]* tests\) .*/\1/p' "$log")"
 }
 
-# pip TARGET: installs the package of this folder, and nothing of a network.
+# install TARGET: the package of this folder by pip, and nothing of a network.
 install() {
     PIP_NO_INDEX=1 PIP_DISABLE_PIP_VERSION_CHECK=1 PIP_NO_CACHE_DIR=1 \
-        "$python" -m pip install --no-deps --target "$1" "$package" >"$log" 2>&1
+        "$python" -m pip install --verbose --no-deps --target "$1" "$package" >"$log" 2>&1
 }
 
 export PYTHONDONTWRITEBYTECODE=1
@@ -71,7 +71,7 @@ if "$python" -m pip --version >/dev/null 2>&1; then
     if [[ -n $(find "$scratch/installed" -name '_speed.*so') ]]; then
         suite 'as it is installed' "$scratch/installed"
     else
-        leave_out 'left out: the extension module, which could not be compiled'
+        leave_out "left out: the extension module: $(grep -om 1 'without its extension module.*' "$log")"
     fi
     if INTERPOLATOR_LIBRARY=/nowhere/libinterpolator.so install "$scratch/none"; then
         stop 'pip installs a package without its library'
