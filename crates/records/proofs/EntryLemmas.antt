@@ -2,7 +2,8 @@
 use Rattle.std.proofs.Common.{◌≡◌, ◌∙◌, List, [], ◌∷◌, ◌++◌, ap, append-nil, append_assoc, map}
 use Rattle.std.proofs.Common.{Err, Ok, refl, sym}
 use Rattle.std.proofs.lemmas.List.{map-append}
-use Rattle.records.specs.Tables.{AreEntries, AreOf, At, Entry, Gives, as_read, faults_in, records_in}
+use Rattle.records.specs.Tables.{AreEntries, AreOf, At, Entry, Gives, as_read, faults_in}
+use Rattle.records.specs.Tables.{records_in}
 use Rattle.records.specs.declared.fault.Fault.{Fault}
 use Rattle.records.specs.declared.separator.Separator.{Separator}
 use Rattle.records.specs.declared.table.Record.{Record}

@@ -1,5 +1,6 @@
 -- Bytes as text.
-use Rattle.std.specs.Prelude.{◌≡◌, ℕ, List, slice_index, take}
+use Rattle.std.specs.Prelude.{◌≡◌, ◌==◌, ◌&&◌, ◌||◌, ℕ, Bool, false, List, ◌∷◌}
+use Rattle.std.specs.Prelude.{slice_index, take}
 use Rattle.std.specs.Str.{IsValidUpTo}
 use Rattle.records.specs.Places.{place_after}
 use Rattle.records.specs.Tables.{line_start}
@@ -11,3 +12,8 @@ pub record IsBad (bytes : List ℕ) (bad : BadByte) : Type 0 where
   pub valid : IsValidUpTo bytes count
   pub byte : bad.byte ≡ slice_index bytes count
   pub placed : bad.place ≡ place_after (line_start 1) (take count bytes)
+
+-- bytes begin with the mark of UTF-16, in one order of its bytes or the other
+abbrev pub is_utf16 : List ℕ → Bool
+is_utf16 (a ∷ b ∷ rest) = (a == 0xFF && b == 0xFE) || (a == 0xFE && b == 0xFF)
+is_utf16 _ = false

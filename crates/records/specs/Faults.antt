@@ -8,8 +8,8 @@ use Rattle.records.specs.declared.fault.Problem.TheVariants.{AfterQuote, LoneRet
 use Rattle.records.specs.declared.fault.Problem.TheVariants.{Unclosed}
 use Rattle.records.specs.declared.separator.Separator.{Separator}
 
--- a front of a text is a field in quotes, and as long as it can be: at the closing quote no quote is
--- doubled, and no blank follows the front
+-- a front of a text is a field in quotes, and as long as it can be: at the closing quote no quote
+-- is doubled, and no blank follows the front
 pub record IsClosed (field front tail : List ℕ) : Type 0 where
   pub before : List ℕ
   pub after : List ℕ

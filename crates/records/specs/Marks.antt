@@ -1,5 +1,5 @@
--- The bytes that mark fields and lines. A text is its bytes in UTF-8, where a byte below 128 is that
--- character, and no part of another.
+-- The bytes that mark fields and lines. A text is its bytes in UTF-8, where a byte below 128 is
+-- that character, and no part of another.
 use Rattle.std.specs.Prelude.{◌≢◌, ⊤, ℕ, List, [], ◌∷◌}
 use Rattle.records.specs.declared.separator.Separator.{Separator}
 use Rattle.records.specs.declared.separator.Separator.TheVariants.{Comma, Semicolon, Tab}

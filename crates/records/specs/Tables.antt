@@ -49,8 +49,8 @@ pub record GivesRecord (separator : Separator) (fields : List (List ℕ)) (from 
     pub front : List ℕ
     pub passes : Passes front from to
 
--- where the text goes on after a fault: nowhere after a quote that is never closed, or else with the
--- next line
+-- where the text goes on after a fault: nowhere after a quote that is never closed, or else with
+-- the next line
 abbrev pub after_fault : Problem → List ℕ → List ℕ
 after_fault Unclosed tail = []
 after_fault _ tail = after_first (λ b. b == line_feed) tail

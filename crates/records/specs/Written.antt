@@ -8,8 +8,8 @@ use Rattle.records.specs.declared.separator.Separator.{Separator}
 abbrev pub Puts : (old new bytes : List ℕ) → Type 0
 Puts old new bytes = new ≡ old ++ bytes
 
--- a text is a record with these fields and a line feed, which is no blank line; without fields it is
--- empty
+-- a text is a record with these fields and a line feed, which is no blank line; without fields it
+-- is empty
 abbrev pub IsWritten : Separator → (fields : List (List ℕ)) → (text : List ℕ) → Type 0
 IsWritten separator fields text = ((fields ≡ []) × (text ≡ []))
     ⊎ ((line : List ℕ) × (line ≢ []) × Spells separator fields line

@@ -2,7 +2,7 @@
 
 ghost use Rattle.std.specs.Prelude.{◌≡◌, IfOk, MatchResult, string_bytes};
 ghost use Rattle.std.specs.Str.{encode_utf8_all};
-ghost use Rattle.records.specs.Encodings.{IsBad};
+ghost use Rattle.records.specs.Encodings.{IsBad, is_utf16};
 
 use crate::fault::Place;
 use crate::place::place_after;
@@ -35,6 +35,25 @@ pub fn text_in(bytes: &[u8]) -> Result<&str, BadByte>
             })
         }
     }
+}
+
+/// Whether bytes begin with the mark of UTF-16, as what a spreadsheet calls Unicode text does. They
+/// are no UTF-8, from their first byte on.
+pub fn is_utf16(bytes: &[u8]) -> bool
+    ensures { result ≡ is_utf16 bytes.now }
+{
+    match bytes {
+        [a, b, ..] => (*a == 0xff && *b == 0xfe) || (*a == 0xfe && *b == 0xff),
+        _ => false,
+    }
+}
+
+/// What to do about a file of these bytes, which are no UTF-8, in words.
+pub fn advice_on(bytes: &[u8]) -> &'static str {
+    if is_utf16(bytes) {
+        return "this looks like UTF-16: save it as UTF-8";
+    }
+    "is this Latin-1? try --latin1"
 }
 
 /// The bytes as text, if they are Latin-1.

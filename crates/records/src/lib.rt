@@ -5,13 +5,14 @@
 //! two quotes stand for one. A fault is returned with its line and column, and nothing is skipped.
 //!
 //! ```text
-//! let mut reader = Reader::new("name;town\n\"Zoë \"\"Z\"\"\";\"Ulm\nWest\"\n", Separator::Semicolon);
+//! let table = "name;town\n\"Zoë \"\"Z\"\"\";\"Ulm\nWest\"\n";
+//! let mut reader = Reader::new(table, Separator::Semicolon);
 //! // line 1: `name` and `town`; line 2: `Zoë "Z"`, and a field of two lines
 //! ```
 //!
 //! [`Table::read`] keeps all records and faults of a table. [`push_record`] writes a record.
-//! [`text_in`] and [`latin1`] make texts of bytes. Read on at `Spellings`, `Records` and `Faults` in
-//! `specs/`, which say how a record is spelled, and at the laws in [`laws`].
+//! [`text_in`] and [`latin1`] make texts of bytes. Read on at `Spellings`, `Records` and `Faults`
+//! in `specs/`, which say how a record is spelled, and at the laws in [`laws`].
 #![tactic(auto)]
 
 mod encoding;
@@ -29,7 +30,7 @@ mod table;
 mod take;
 mod written;
 
-pub use encoding::{BadByte, latin1, text_in};
+pub use encoding::{BadByte, advice_on, is_utf16, latin1, text_in};
 pub use fault::{Fault, Place, Problem};
 pub use field::Field;
 pub use reader::{ReadError, Reader};

@@ -50,7 +50,7 @@ pub(crate) fn before<'a>(text: &'a str, rest: &str) -> &'a str
 }
 
 /// The text after the first line feed; none if there is none.
-fn next_line(text: &str) -> &str
+pub(crate) fn next_line(text: &str) -> &str
     ensures is { result.now ≡ after_first (λ b. b == line_feed) text.now }
     ensures rest { (front : List ℕ) × (text.now ≡ front ++ result.now) }
 {

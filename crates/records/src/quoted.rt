@@ -27,8 +27,8 @@ fn undoubled<'a>(alloc: Global, text: &'a str) -> Result<Option<(String, &'a str
     Ok(None)
 }
 
-/// The field that a text begins with behind its opening quote, and the text after the closing quote;
-/// none if no quote closes it.
+/// The field that a text begins with behind its opening quote, and the text after the closing
+/// quote; none if no quote closes it.
 pub(crate) fn take_quoted<'a>(
     alloc: Global,
     text: &'a str,

@@ -4,7 +4,7 @@ ghost use Rattle.std.specs.Prelude.{◌≡◌, ◌++◌, ◌+◌, ◌^◌, ◌<�
 
 use crate::fault::{Fault, Problem, Stop};
 use crate::field::Field;
-use crate::head::{without_end, without_mark};
+use crate::head::{first_record, without_end, without_mark};
 use crate::place::{after_fault, before, place_after};
 use crate::record::take_record;
 use crate::separator::Separator;
@@ -34,16 +34,17 @@ impl<'a> Reader<'a> {
     ghost use Rattle.records.specs.Spellings.{text_of};
     ghost use Rattle.records.specs.Tables.{GivesFault, IsPast, Passes, ReadsNext, at, separator_of};
 
-    /// A reader of a table from its beginning. A byte order mark at its head and line ends at its
-    /// end belong to no record.
+    /// A reader of a table from its beginning. A byte order mark at its head, a first line `sep=;`,
+    /// `sep=,` or `sep=` and a tab, and line ends at its end belong to no record.
     pub fn new(table: &'a str, separator: Separator) -> Reader<'a>
         ensures starts { Starts table.now (at result) }
         ensures separator { separator_of result ≡ separator }
     {
+        let (line, rest) = first_record(without_mark(table));
         Reader {
             separator,
-            line: 1,
-            rest: without_end(without_mark(table)),
+            line,
+            rest: without_end(rest),
         }
     }
 

@@ -1,9 +1,12 @@
 //! The character between two fields.
 
-ghost use Rattle.std.specs.Prelude.{◌≡◌, ◌==◌};
+ghost use Rattle.std.specs.Prelude.{◌≡◌, ◌==◌, ℕ, List};
 ghost use Rattle.std.specs.List.{before_first, list_any};
+ghost use Rattle.records.specs.Heads.{IsUnmarked};
 ghost use Rattle.records.specs.Marks.{byte_of, line_feed};
-ghost use Rattle.records.specs.Separators.{named, told_by};
+ghost use Rattle.records.specs.Separators.{named, named_in, told_by, told_in};
+
+use crate::head::without_mark;
 
 /// The character between two fields of a record.
 #[derive(Clone, Copy, Debug, PartialEq, Eq)]
@@ -17,7 +20,7 @@ pub enum Separator {
 }
 
 /// The first line of a text.
-fn first_line(text: &str) -> &str
+pub(crate) fn first_line(text: &str) -> &str
     ensures { result.now ≡ before_first (λ b. b == line_feed) text.now }
 {
     match text.split_once('\n') {
@@ -61,12 +64,27 @@ impl Separator {
         line.as_bytes().contains(&self.byte())
     }
 
-    /// The separator that the first line of a table is told by: the one of the three that it has,
-    /// if it has none of the others.
-    pub fn told_by(table: &str) -> Option<Separator>
-        ensures { result ≡ told_by table.now }
+    /// The separator that a line `sep=;` names, which some programs write above a table; with `,`
+    /// or a tab likewise. A carriage return may be at its end.
+    pub(crate) fn named_in(line: &str) -> Option<Separator>
+        ensures { result ≡ named_in line.now }
     {
-        let line = first_line(table);
+        if line == "sep=," || line == "sep=,\r" {
+            return Some(Separator::Comma);
+        }
+        if line == "sep=;" || line == "sep=;\r" {
+            return Some(Separator::Semicolon);
+        }
+        if line == "sep=\t" || line == "sep=\t\r" {
+            return Some(Separator::Tab);
+        }
+        None
+    }
+
+    /// The separator of the three that a line has, if it has none of the others.
+    fn told_in(line: &str) -> Option<Separator>
+        ensures { result ≡ told_in line.now }
+    {
         let comma = Separator::Comma.is_in(line);
         let semicolon = Separator::Semicolon.is_in(line);
         let tab = Separator::Tab.is_in(line);
@@ -75,6 +93,18 @@ impl Separator {
             (false, true, false) => Some(Separator::Semicolon),
             (false, false, true) => Some(Separator::Tab),
             _ => None,
+        }
+    }
+
+    /// The separator that the first line of a table names, as `sep=;`; or else the one of the three
+    /// that it has, if it has none of the others.
+    pub fn told_by(table: &str) -> Option<Separator>
+        ensures { (rest : List ℕ) × IsUnmarked table.now rest × (result ≡ told_by rest) }
+    {
+        let line = first_line(without_mark(table));
+        match Separator::named_in(line) {
+            Some(separator) => Some(separator),
+            None => Separator::told_in(line),
         }
     }
 }

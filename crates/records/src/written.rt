@@ -1,6 +1,7 @@
 //! Records as a table has them.
 
-ghost use Rattle.std.specs.Prelude.{◌≡◌, ◌≢◌, ◌++◌, ◌∷◌, [], ℕ, List, IfOk, map, string_bytes, true};
+ghost use Rattle.std.specs.Prelude.{◌≡◌, ◌≢◌, ◌++◌, ◌∷◌, [], ℕ, List, IfOk, map, true};
+ghost use Rattle.std.specs.Prelude.{string_bytes};
 ghost use Rattle.records.specs.Marks.{byte_of, quote};
 ghost use Rattle.records.specs.Records.{Opens};
 ghost use Rattle.records.specs.Spellings.{IsSpelled, doubled};

@@ -1,5 +1,5 @@
 use Rattle.std.proofs.Common.{[], ◌++◌, ◌∙◌, ◌∷◌}
-use Rattle.records.proofs.EntryLemmas.{all_read, none_kept, none_read, one_read}
+use Rattle.records.proofs.EntryLemmas.{all_read, one_read}
 use Rattle.records.specs.Tables.{at, separator_of}
 use Rattle.records.proofs.table.read_all.Goals as goal
 
