@@ -45,8 +45,8 @@ pub enum Asked<'a> {
     Text(&'a [String]),
 }
 
-/// What a command line asks for: `--help` and `--version` alone, `--explain` before a format and its
-/// words, and `--` before a format that begins with `--`. Any other first word is the format.
+/// What a command line asks for: `--help` and `--version` alone, `--explain` before a format and
+/// its words, and `--` before a format that begins with `--`. Any other first word is the format.
 pub fn asked_by(line: &[String]) -> Asked<'_> {
     let Some((first, rest)) = line.split_first() else {
         return Asked::Text(line);

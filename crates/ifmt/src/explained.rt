@@ -11,8 +11,8 @@ use words::Word;
 /// What a format on a command line is called.
 const NAME: &str = "format";
 
-/// Runs a command line as [`answer`](crate::command::answer) does, but a fault of the format is shown
-/// in its line, as a compiler does, and below a missing name those that there are.
+/// Runs a command line as [`answer`](crate::command::answer) does, but a fault of the format is
+/// shown in its line, as a compiler does, and below a missing name those that there are.
 pub fn answer_explained<O: Write, E: Write>(
     alloc: Global,
     line: &[String],
