@@ -2,15 +2,16 @@
 //!
 //! Each record of the file is a name and whole numbers, spelled as the crate `records` reads them:
 //! fields may stand in quotes, and white space around one does not count. The separator is that of
-//! `--separator`, which is `,`, `;` or `tab`; without it, that of the three which the first line
-//! alone has, or else the comma. Blank lines at the end are skipped. The file is UTF-8, or with
-//! `--latin1` Latin-1.
+//! `--separator`, which is `,`, `;` or `tab`; without it, the one that a line `sep=;` at the head
+//! names, or that of the three which the first line alone has, or else the comma. A byte order mark
+//! and a line `sep=;` at the head, and blank lines at the end, are skipped. The file is UTF-8, or
+//! with `--latin1` Latin-1.
 //!
 //! The second number is the measure of its record: its bar is 100 long, and the other bars of the
-//! record are in proportion, rounded down. The format gets `{height}`, the height of the picture, and
-//! `{rows}`, a list for each record: its place from the top, its name, and each number after the
-//! length of its bar. Values are escaped as in a page, so each has to stand in text, or between the
-//! quotes of an attribute.
+//! record are in proportion, rounded down. The format gets `{height}`, the height of the picture,
+//! and `{rows}`, a list for each record: its place from the top, its name, and each number after
+//! the length of its bar. Values are escaped as in a page, so each has to stand in text, or between
+//! the quotes of an attribute.
 //!
 //! Each record has as many numbers as the first, at least two, and as many as the format draws by
 //! their indices. What is wrong is told by line and column, and no picture is drawn: a byte that is
@@ -29,7 +30,7 @@ use interpolator::{
     PlaceError, Range, Source, Template, View, explain, explain_place, items_of, places_of,
     rows_of,
 };
-use records::{BadByte, Separator, Table, latin1, text_in};
+use records::{BadByte, Place, Separator, Table, advice_on, latin1, text_in};
 use rows::{Rows, place_of, rows_of_records};
 use std::alloc::Global;
 use std::fs;
@@ -46,7 +47,8 @@ usage: chart [--separator , | ; | tab] [--latin1] [--] FORMAT FILE
 Draws the numbers of a file as bars, by a format. A record of the file is a name
 and whole numbers, of which the second has a bar of 100.
 
-  --separator S  between fields; without it, the first line tells it
+  --separator S  between fields; without it, a line `sep=;` at the head tells
+                 it, or else the first record
   --latin1       the file is Latin-1, not UTF-8
   --             what follows are the files
   --help         print this, if it is the only word
@@ -202,10 +204,11 @@ fn chart_of(alloc: Global, asked: Asked<'_>, format: &str, text: &str) -> Result
 }
 
 /// The chart of a table with a byte that is no UTF-8.
-fn chart_bad(alloc: Global, asked: Asked<'_>, bad: BadByte) -> Result<Chart, Error> {
+fn chart_bad(alloc: Global, asked: Asked<'_>, bytes: &[u8], bad: BadByte) -> Result<Chart, Error> {
     let mut faults = Faults::new(alloc, asked.table);
     let byte = bad.byte;
-    let why = format!(in alloc; "byte 0x{byte:02X} is no UTF-8; is this Latin-1? try --latin1")?;
+    let advice = advice_on(bytes);
+    let why = format!(in alloc; "byte 0x{byte:02X} is no UTF-8; {advice}")?;
     faults.tell_at(bad.place, why.as_str())?;
     Ok(Chart::Faults(faults.into_text()))
 }
@@ -223,26 +226,48 @@ fn chart_bytes(
     }
     match text_in(bytes) {
         Ok(text) => chart_of(alloc, asked, format, text),
-        Err(bad) => chart_bad(alloc, asked, bad),
+        Err(bad) => chart_bad(alloc, asked, bytes, bad),
     }
 }
 
-/// Draws the chart of two files.
-fn draw(rt: &HostRuntime, asked: Asked<'_>) -> ExitCode {
-    let name = asked.format;
-    let format = match fs::read_to_string(rt, name) {
-        Ok(text) => text,
-        Err(error) => return ended(eprintln!(rt; "{name}: {error}"), REFUSED),
-    };
-    let name = asked.table;
-    let bytes = match fs::read(rt, name) {
-        Ok(bytes) => bytes,
-        Err(error) => return ended(eprintln!(rt; "{name}: {error}"), REFUSED),
-    };
-    match chart_bytes(rt.alloc(), asked, without_mark(format.as_str()), &bytes) {
-        Ok(Chart::Picture(picture)) => ended(rt.print(picture.as_str()), WRITTEN),
-        Ok(Chart::Faults(told)) => ended(eprint!(rt; "{told}"), FAULT),
-        Err(error) => ended(eprintln!(rt; "{error}"), FAULT),
+/// The bytes of a file, or how the run ends without them.
+fn bytes_in(rt: &HostRuntime, name: &str) -> Result<Vec<u8>, ExitCode> {
+    match fs::read(rt, name) {
+        Ok(bytes) => Ok(bytes),
+        Err(error) => Err(ended(eprintln!(rt; "{name}: {error}"), REFUSED)),
+    }
+}
+
+/// The text of a format, or how the run ends without it.
+fn format_in<'a>(rt: &HostRuntime, name: &str, bytes: &'a [u8]) -> Result<&'a str, ExitCode> {
+    match text_in(bytes) {
+        Ok(text) => Ok(without_mark(text)),
+        Err(bad) => {
+            let Place { line, column } = bad.place;
+            let byte = bad.byte;
+            let told = eprintln!(rt; "{name}:{line}:{column}: byte 0x{byte:02X} is no UTF-8");
+            Err(ended(told, REFUSED))
+        }
+    }
+}
+
+/// Prints a text, and ends the run; if that fails, says why.
+fn print_text(rt: &HostRuntime, text: &str) -> ExitCode {
+    match rt.print(text) {
+        Ok(()) => ExitCode::from(WRITTEN),
+        Err(error) => ended(eprintln!(rt; "cannot write: {error}"), REFUSED),
+    }
+}
+
+/// Draws the chart of two files, or ends the run without one.
+fn draw(rt: &HostRuntime, asked: Asked<'_>) -> Result<ExitCode, ExitCode> {
+    let bytes = bytes_in(rt, asked.format)?;
+    let format = format_in(rt, asked.format, &bytes)?;
+    let table = bytes_in(rt, asked.table)?;
+    match chart_bytes(rt.alloc(), asked, format, &table) {
+        Ok(Chart::Picture(picture)) => Ok(print_text(rt, picture.as_str())),
+        Ok(Chart::Faults(told)) => Ok(ended(eprint!(rt; "{told}"), FAULT)),
+        Err(error) => Err(ended(eprintln!(rt; "{error}"), FAULT)),
     }
 }
 
@@ -297,11 +322,14 @@ fn main(rt: HostRuntime) -> ExitCode {
     };
     if let [word] = words.as_slice() {
         if word.as_str() == "--help" {
-            return ended(rt.print(HELP), WRITTEN);
+            return print_text(&rt, HELP);
         }
     }
-    match asked_by(words.as_slice()) {
-        Some(asked) => draw(&rt, asked),
-        None => usage(&rt, USAGE),
+    let Some(asked) = asked_by(words.as_slice()) else {
+        return usage(&rt, USAGE);
+    };
+    match draw(&rt, asked) {
+        Ok(status) => status,
+        Err(status) => status,
     }
 }

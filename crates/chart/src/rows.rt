@@ -44,8 +44,8 @@ fn text_at<'a>(record: &'a Record<'_>, index: usize) -> &'a str {
     }
 }
 
-/// The number in the field of a record at this index. Tells it, if it is none, or is the measure and
-/// 0, with which no bar can be in proportion.
+/// The number in the field of a record at this index. Tells it, if it is none, or is the measure
+/// and 0, with which no bar can be in proportion.
 fn number_at(faults: &mut Faults<'_>, record: &Record<'_>, index: usize) -> Result<u64, Error> {
     let text = text_at(record, index);
     let column = index.saturating_add(1);
@@ -84,18 +84,20 @@ fn count_of(record: &Record<'_>) -> usize {
 fn check_count(
     faults: &mut Faults<'_>,
     record: &Record<'_>,
-    first: usize,
+    top: &Record<'_>,
     drawn: usize,
 ) -> Result<(), Error> {
     let count = count_of(record);
+    let first = count_of(top);
+    let line = top.line;
     let fewest = drawn.max(FEWEST);
     let noun = if count == 1 { "number" } else { "numbers" };
     let column = count.min(first).saturating_add(2);
-    if record.line > 1 && count != first {
-        let why = format!(in faults.alloc; "{count} {noun}, but line 1 has {first}")?;
+    if record.line > line && count != first {
+        let why = format!(in faults.alloc; "{count} {noun}, but line {line} has {first}")?;
         faults.tell(record.line, column, why.as_str())?;
     }
-    if record.line <= 1 && count < fewest {
+    if record.line <= line && count < fewest {
         let why = format!(in faults.alloc; "{count} {noun}, but at least {fewest} are wanted")?;
         faults.tell(record.line, column, why.as_str())?;
     }
@@ -126,12 +128,11 @@ pub fn rows_of_records<'a>(
     records: &'a [Record<'_>],
     drawn: usize,
 ) -> Result<Rows<'a>, Error> {
-    let first = records.first().map_or(0, count_of);
     let mut cells = Vec::new(faults.alloc);
     let mut ends = Vec::new(faults.alloc);
     for record in records {
         let numbers = numbers_of(faults, record)?;
-        check_count(faults, record, first, drawn)?;
+        check_count(faults, record, records.first().unwrap_or(record), drawn)?;
         push_cells(
             &mut cells,
             place_of(ends.len()),
