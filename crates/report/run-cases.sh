@@ -1,13 +1,14 @@
 #!/usr/bin/env bash
 # Runs the built program on tables, and compares what it writes to both streams and its status with
-# what is worked out by hand: widths count columns of a terminal, a total is the sum of all numbers of its
-# column, at the greatest scale of these, and fields are those of RFC 4180. Then it runs the line of
-# crates/README.md.
+# what is worked out by hand: widths count columns of a terminal, a total is the sum of all numbers
+# of its column, at the greatest scale of these, and fields are those of RFC 4180. Then it runs the
+# line of crates/README.md.
 #
 # usage: run-cases.sh [PROGRAM..]
 set -u
 
-usage='usage: report [--separator , | ; | tab] [--latin1] [--total NAME,..] [--group NAME] [--lenient] [--csv] [--] FILE'
+usage='usage: report [--separator , | ; | tab] [--latin1] [--total NAME,..] '
+usage+='[--group NAME] [--lenient] [--csv] [--] FILE'
 help=$(
     cat <<'END'
 usage: report [--separator , | ; | tab] [--latin1] [--total NAME,..]
@@ -15,7 +16,8 @@ usage: report [--separator , | ; | tab] [--latin1] [--total NAME,..]
 
 Prints the records of a file as a table, with exact totals.
 
-  --separator S  between fields; without it, the header line tells it
+  --separator S  between fields; without it, a line `sep=;` above the header
+                 tells it, or else the header
   --latin1       the file is Latin-1, not UTF-8
   --total NAMES  sum these columns; without it, those of decimals, and those
                  whose name ends in a colon
@@ -30,6 +32,7 @@ END
 )$'\n'
 unclosed='a quote that is never closed'
 wanted_number='wants a number, such as -7 or 12.50'
+utf16='this looks like UTF-16: save it as UTF-8'
 # the greatest number of 128 bits, without its last digit, which is 7
 most=17014118346046923173168730371588410572
 # the number after that one
@@ -37,7 +40,7 @@ next=17014118346046923173168730371588410573
 zeros=0.0000000000000000000000000000000000000000
 here=$(cd "$(dirname "$0")" && pwd)
 name=report
-wanted=100
+wanted=118
 . "$here/../../.ci/cases.sh"
 
 # table WANTED TEXT FLAG..: the report of a file with this text, which goes to the output, with
@@ -73,6 +76,56 @@ table_cases() {
     case_of file file 0 $'a\né\n' '' --latin1 t
     printf 'a\nx\0y\n' >t
     case_of file file 0 $'a\nx y\n' '' t
+}
+
+# The width of each character, by Python's copy of the Unicode data, whose versions 14 and 15 agree
+# on what both have.
+width_case() {
+    if python3 - "$program" <<'END'; then
+import subprocess
+import sys
+import unicodedata
+
+if unicodedata.unidata_version not in ('14.0.0', '15.0.0'):
+    sys.exit(0)
+
+
+def width(c):
+    is_jamo = '\u1160' <= c <= '\u11ff' or '\ud7b0' <= c <= '\ud7fb'
+    if c >= '\u0300' and (is_jamo or unicodedata.category(c) in ('Mn', 'Me', 'Cf')):
+        return 0
+    return 2 if unicodedata.east_asian_width(c) in 'WF' else 1
+
+
+known = [c for c in map(chr, range(0xa0, 0x110000)) if unicodedata.category(c) not in ('Cn', 'Cs')]
+with open('t', 'w', encoding='utf-8', newline='') as file:
+    file.write('abcd\tb\n' + ''.join(f'a{c}a\tx\n' for c in known))
+done = subprocess.run([sys.argv[1], 't'], capture_output=True, timeout=60)
+lines = ['abcd  b'] + [f'a{c}a{" " * (2 - width(c))}  x' for c in known]
+sys.exit(done.returncode != 0 or done.stdout.decode() != '\n'.join(lines) + '\n')
+END
+        passed=$((passed + 1))
+    else
+        fail 'characters of another width than the Unicode data have'
+    fi
+}
+
+# A line that names the separator, above the header.
+named_cases() {
+    table $'a  b\n1  2\n' $'sep=;\na;b\n1;2\n'
+    table $'a  b,c\n1  2,3\n' $'\xef\xbb\xbfsep=;\r\na;b,c\r\n1;2,3\r\n'
+    table $'a  b;\n1   2\n' $'sep=\t\na\tb;\n1\t2\n'
+    table $'a  b;\n1   2\n' $'sep=,\na,b;\n1,2\n'
+    table $'a  b;\n1  2;\n' $'sep=;\na,b;\n1,2;\n' --separator ,
+    table $'sep=;\n    1\n' $'"sep=;"\n1\n'
+    table $'a\nsep=;\n' $'a\nsep=;\n'
+    table $'sep=;  b\n    1  2\n' $'sep=;,b\n1,2\n' --separator ,
+    fault 't:3: 1 field, but line 2 has 2: column 2 has no field' $'sep=;\na;b\n1\n'
+    fault "t:3:1: $unclosed" $'sep=;\na;b\n"1;2\n'
+    fault 't:2: no column has the name `q`' $'sep=;\na;b\n1;2\n' --total q
+    fault 't:2: the total of `n` has more than 128 bits' $'sep=;\nn:;a\n'"${most}7"$';\n1;\n'
+    fault 't:2: the first line names no columns' $'sep=;\n\n1\n'
+    fault 't:1: the first line names no columns' $'sep=;'
 }
 
 number_cases() {
@@ -197,6 +250,11 @@ broken_cases() {
     fault 't:3: 1 field, but line 1 has 2: column 2 has no field' $'a,b\n1,2\n3'
     fault 't:3:2: byte 0xE9 is no UTF-8; is this Latin-1? try --latin1' $'a\né\nx\xe9\n'
     fault 't:2:1: byte 0xC3 is no UTF-8; is this Latin-1? try --latin1' $'a\n\xc3'
+    printf '\xff\xfea\0\t\0b\0\r\0\n\0' >t
+    case_of file file 1 '' "t:1:1: byte 0xFF is no UTF-8; $utf16"$'\n' t
+    printf '\xfe\xff\0a\0\n' >t
+    case_of file file 1 '' "t:1:1: byte 0xFE is no UTF-8; $utf16"$'\n' t
+    fault 't:1:1: byte 0xFF is no UTF-8; is this Latin-1? try --latin1' $'\xff\n'
 }
 
 # Wrong use, unreadable files and refused writes.
@@ -271,6 +329,8 @@ refused_calls() {
 
 all_cases() {
     table_cases
+    width_case
+    named_cases
     number_cases
     empty_cases
     total_cases

@@ -16,7 +16,8 @@ usage: report [--separator , | ; | tab] [--latin1] [--total NAME,..]
 
 Prints the records of a file as a table, with exact totals.
 
-  --separator S  between fields; without it, the header line tells it
+  --separator S  between fields; without it, a line `sep=;` above the header
+                 tells it, or else the header
   --latin1       the file is Latin-1, not UTF-8
   --total NAMES  sum these columns; without it, those of decimals, and those
                  whose name ends in a colon

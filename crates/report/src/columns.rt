@@ -21,7 +21,8 @@ pub struct Column<'a> {
     pub totals: Vec<Total>,
 }
 
-/// Whether most of the cells that are not empty are numbers, some with a point; and whether all are.
+/// Whether most of the cells that are not empty are numbers, some with a point; and whether all
+/// are.
 fn told_by(cells: &[Cell]) -> (bool, bool) {
     let mut numbers = 0usize;
     let mut others = 0usize;
@@ -101,12 +102,12 @@ fn push_total(
             return Ok(());
         }
         Err(NoTotal::Number(before)) => {
-            (
-                records.get(before).map_or(1, |record| record.line),
-                "number",
-            )
+            let line = records
+                .get(before)
+                .map_or(faults.header, |record| record.line);
+            (line, "number")
         }
-        Err(NoTotal::Sum) => (1, "total"),
+        Err(NoTotal::Sum) => (faults.header, "total"),
         Err(NoTotal::NoMemory) => return Err(Error::NoMemory),
     };
     let why = format!(in faults.alloc; "the {what} of `{name}` has more than 128 bits")?;
@@ -202,7 +203,7 @@ pub fn index_of(
         }
     }
     let why = format!(in faults.alloc; "no column has the name `{name}`")?;
-    faults.tell(1, why.as_str())?;
+    faults.tell_header(why.as_str())?;
     Ok(None)
 }
 

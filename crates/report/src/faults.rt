@@ -8,6 +8,8 @@ use std::alloc::Global;
 #[derive(Drop)]
 pub struct Faults<'a> {
     pub alloc: Global,
+    /// The line of the header.
+    pub header: usize,
     file: &'a str,
     told: String,
 }
@@ -16,6 +18,7 @@ impl<'a> Faults<'a> {
     pub fn new(alloc: Global, file: &'a str) -> Faults<'a> {
         Faults {
             alloc,
+            header: 1,
             file,
             told: String::new(alloc),
         }
@@ -27,6 +30,11 @@ impl<'a> Faults<'a> {
         let told = format!(in self.alloc; "{file}:{line}: {why}\n")?;
         self.told.push_str(told.as_str())?;
         Ok(())
+    }
+
+    /// Adds a fault of the header.
+    pub fn tell_header(&mut self, why: &str) -> Result<(), Error> {
+        self.tell(self.header, why)
     }
 
     /// Adds a fault at a place.

@@ -13,8 +13,8 @@ pub struct Foot {
     pub texts: Vec<String>,
 }
 
-/// The text of a column in a line of totals: its sum, or how many cells that is of; without a total,
-/// the label.
+/// The text of a column in a line of totals: its sum, or how many cells that is of; without a
+/// total, the label.
 fn text_of(
     alloc: Global,
     column: &Column<'_>,

@@ -21,8 +21,14 @@ fn tell_before<'a>(
     Ok(broken.get(count..).unwrap_or(&[]))
 }
 
-/// Tells a record with another number of fields than the first line.
-fn tell_count(faults: &mut Faults<'_>, record: &Record<'_>, wanted: usize) -> Result<(), Error> {
+/// Tells a record with another number of fields than the header.
+fn tell_count(
+    faults: &mut Faults<'_>,
+    record: &Record<'_>,
+    header: &Record<'_>,
+) -> Result<(), Error> {
+    let line = header.line;
+    let wanted = header.fields.len();
     let count = record.fields.len();
     if count == wanted {
         return Ok(());
@@ -35,32 +41,33 @@ fn tell_count(faults: &mut Faults<'_>, record: &Record<'_>, wanted: usize) -> Re
         "no name"
     };
     let why = format!(in faults.alloc;
-        "{count} {noun}, but line 1 has {wanted}: column {column} has {has}"
+        "{count} {noun}, but line {line} has {wanted}: column {column} has {has}"
     )?;
     faults.tell(record.line, why.as_str())
 }
 
-/// How many columns the first line names, if it is a record.
-fn width_of(records: &[Record<'_>]) -> Option<usize> {
-    match records {
-        [header, ..] if header.line == 1 => Some(header.fields.len()),
-        _ => None,
+/// The header: the first record, if the file does not go on with none before it.
+fn header_of<'a, 't>(table: &'t Table<'a>) -> Option<&'t Record<'a>> {
+    let header = table.records.first()?;
+    match table.faults.first() {
+        Some(fault) if fault.place.line < header.line => None,
+        _ => Some(header),
     }
 }
 
 /// The records of a table. Tells where it goes on with none, and each record with another number of
-/// fields than the first line.
+/// fields than the header.
 pub fn read_records<'a>(
     faults: &mut Faults<'_>,
     text: &'a str,
     separator: Separator,
 ) -> Result<Vec<Record<'a>>, Error> {
     let table = Table::read(faults.alloc, text, separator)?;
-    let wanted = width_of(&table.records);
+    let header = header_of(&table);
     let mut left = table.faults.as_slice();
     for record in &table.records {
         left = tell_before(faults, left, record.line)?;
-        tell_count(faults, record, wanted.unwrap_or(record.fields.len()))?;
+        tell_count(faults, record, header.unwrap_or(record))?;
     }
     tell_before(faults, left, usize::MAX)?;
     Ok(table.records)

@@ -3,29 +3,31 @@
 //! The first record names the columns, and each other has a field for each. Records are spelled as
 //! the crate `records` reads them: fields may stand in quotes, with separators, line ends and
 //! doubled quotes in them. The separator is that of `--separator`, which is `,`, `;` or `tab`;
-//! without it, that of the three which the first line alone has, or else the comma. Blank lines at
-//! the end and a byte order mark at the head are skipped. The file is UTF-8, or with `--latin1`
-//! Latin-1. White space around a field does not count.
+//! without it, the one that a line `sep=;` above the header names, or that of the three which the
+//! header's line alone has, or else the comma. A byte order mark and a line `sep=;` at the head,
+//! and blank lines at the end, are skipped. The file is UTF-8, or with `--latin1` Latin-1. White
+//! space around a field does not count.
 //!
-//! A column is summed if `--total` names it; without `--total`, if its name ends in `:`, as `count:`,
-//! which is not shown, or if more of its entries are numbers than are not, some with a point, as
-//! -12.50: so years and post codes are not summed. An empty entry counts as none, and so does with
-//! `--lenient` one that is no number; without, this is a fault. The total is exact, with as many
-//! digits after the point as the entry that has the most. If a total leaves out some records, a
-//! line `counted` below it says of how many it is. `--group city` puts records of one city
-//! together, with totals below them. Below the header alone there are none.
+//! A column is summed if `--total` names it; without `--total`, if its name ends in `:`, as
+//! `count:`, which is not shown, or if more of its entries are numbers than are not, some with a
+//! point, as -12.50: so years and post codes are not summed. An empty entry counts as none, and so
+//! does with `--lenient` one that is no number; without, this is a fault. The total is exact, with
+//! as many digits after the point as the entry that has the most. If a total leaves out some
+//! records, a line `counted` below it says of how many it is. `--group city` puts records of one
+//! city together, with totals below them. Below the header alone there are none.
 //!
 //! A column is as wide, in columns of a terminal, as the widest of its name, its entries and its
-//! totals: an East Asian character takes two, a mark on another none. It is aligned to the right if it is summed or all its entries are numbers. A line end in a field is
-//! shown as a blank, as is any other control character, and blanks at the end of a line are left
-//! out. `--csv` writes records of CSV, each field as it is, between quotes.
+//! totals: an East Asian character takes two, a mark on another none. It is aligned to the right if
+//! it is summed or all its entries are numbers. A line end in a field is shown as a blank, as is
+//! any other control character, and blanks at the end of a line are left out. `--csv` writes
+//! records of CSV, each field as it is, between quotes.
 //!
-//! What is wrong is told by line and column: a byte that is no UTF-8; else all places where the file
-//! goes on with no record, and all records with another number of fields than the first line; else
+//! What is wrong is told by line and column: a byte that is no UTF-8; else all places where the
+//! file goes on with no record, and all records with another number of fields than the header; else
 //! a name that no column has; else in each column all entries that are no numbers, and the first
-//! number with more than 128 bits, its point left out, or at line 1 that the total has more. Then no
-//! table is written. The status is 0 if it is, 1 after such a fault, 2 after wrong use, and 3 after
-//! a refused write or for a file that cannot be read.
+//! number with more than 128 bits, its point left out, or at the header that the total has more.
+//! Then no table is written. The status is 0 if it is, 1 after such a fault, 2 after wrong use, and
+//! 3 after a refused write or for a file that cannot be read.
 #![tactic(auto)]
 
 mod asked;
@@ -45,7 +47,7 @@ use faults::Faults;
 use input::read_records;
 use interpolator::Error;
 use layout::page_of;
-use records::{BadByte, Record, Separator, latin1, text_in};
+use records::{BadByte, Record, Separator, advice_on, latin1, text_in};
 use rows::{entry_in, groups_by};
 use std::alloc::Global;
 use std::fs;
@@ -96,10 +98,13 @@ fn page_of_all(
     asked: Asked<'_>,
     records: &[Record<'_>],
 ) -> Result<String, Error> {
+    if let [header, ..] = records {
+        faults.header = header.line;
+    }
     match records {
         [header, below @ ..] if !is_blank(header) => page_below(faults, asked, header, below),
         _ => {
-            faults.tell(1, "the first line names no columns")?;
+            faults.tell_header("the first line names no columns")?;
             Ok(String::new(faults.alloc))
         }
     }
@@ -124,10 +129,16 @@ fn report_on(alloc: Global, asked: Asked<'_>, text: &str) -> Result<Report, Erro
 }
 
 /// The report of a file with a byte that is no UTF-8.
-fn report_bad(alloc: Global, asked: Asked<'_>, bad: BadByte) -> Result<Report, Error> {
+fn report_bad(
+    alloc: Global,
+    asked: Asked<'_>,
+    bytes: &[u8],
+    bad: BadByte,
+) -> Result<Report, Error> {
     let mut faults = Faults::new(alloc, asked.file);
     let byte = bad.byte;
-    let why = format!(in alloc; "byte 0x{byte:02X} is no UTF-8; is this Latin-1? try --latin1")?;
+    let advice = advice_on(bytes);
+    let why = format!(in alloc; "byte 0x{byte:02X} is no UTF-8; {advice}")?;
     faults.tell_at(bad.place, why.as_str())?;
     Ok(Report::Faults(faults.into_text()))
 }
@@ -140,7 +151,7 @@ fn report_bytes(alloc: Global, asked: Asked<'_>, bytes: &[u8]) -> Result<Report,
     }
     match text_in(bytes) {
         Ok(text) => report_on(alloc, asked, text),
-        Err(bad) => report_bad(alloc, asked, bad),
+        Err(bad) => report_bad(alloc, asked, bytes, bad),
     }
 }
 

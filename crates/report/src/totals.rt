@@ -6,7 +6,8 @@ ghost use Rattle.std.specs.Int.{w128};
 ghost use Rattle.std.specs.List.{position};
 ghost use Rattle.interpolator.specs.DecimalTexts.{decimal_of};
 ghost use Rattle.report.specs.Totals.{AreCells, Explains, IsCell, IsTotal, exact_sum};
-ghost use Rattle.report.specs.Totals.{exact_total, greatest_scale, is_large, numbers_in, total_with};
+ghost use Rattle.report.specs.Totals.{exact_total, greatest_scale, is_large, numbers_in};
+ghost use Rattle.report.specs.Totals.{total_with};
 ghost use Rattle.interpolator.specs.declared.decimal.Decimal.{Decimal};
 ghost use Rattle.report.specs.declared.totals.NoTotal.TheVariants.{NoMemory};
 

@@ -1,8 +1,14 @@
 //! How many columns of a terminal a text takes.
 
+ghost use Rattle.std.specs.Prelude.{◌≡◌, true};
+ghost use Rattle.report.specs.Widths.{is_within, rises, width, width_of};
+
+/// The first character that may take another number of columns than one.
+const FIRST: u32 = 0x300;
+
 /// The ranges of characters that add no column, by their first and last: marks on the character
-/// before, formats, and the vowels and ends of syllables of Hangul (Unicode 15.0: General_Category Mn,
-/// Me and Cf, and Hangul_Syllable_Type V and T, from U+0300 on).
+/// before, formats, and the vowels and ends of syllables of Hangul (Unicode 15.0: General_Category
+/// Mn, Me and Cf, and Hangul_Syllable_Type V and T, from U+0300 on).
 #[rattlefmt::skip]
 static NONE: [(u32, u32); 359] = [
     (0x300, 0x36F), (0x483, 0x489), (0x591, 0x5BD), (0x5BF, 0x5BF), (0x5C1, 0x5C2), (0x5C4, 0x5C5),
@@ -117,7 +123,10 @@ static TWO: [(u32, u32); 122] = [
 ];
 
 /// Whether a character is in one of some ranges, which stand in order.
-fn is_within(ranges: &[(u32, u32)], code: u32) -> bool {
+fn is_within(ranges: &[(u32, u32)], code: u32) -> bool
+    requires { rises 0x300 ranges.now ≡ true }
+    ensures { result ≡ is_within ranges.now code }
+{
     let before = ranges.partition_point(|range| range.1 < code);
     match ranges.get(before) {
         Some((first, _)) => *first <= code,
@@ -126,9 +135,11 @@ fn is_within(ranges: &[(u32, u32)], code: u32) -> bool {
 }
 
 /// How many columns a character takes, of which a control takes one: it is shown as a blank.
-fn width_of(c: char) -> usize {
+fn width_of(c: char) -> usize
+    ensures { result ≡ width_of NONE TWO c }
+{
     let code = c as u32;
-    if code < 0x300 {
+    if code < FIRST {
         return 1;
     }
     if is_within(&NONE, code) {
@@ -138,7 +149,9 @@ fn width_of(c: char) -> usize {
 }
 
 /// How many columns a text takes.
-pub fn width(text: &str) -> usize {
+pub fn width(text: &str) -> usize
+    ensures { result ≡ width NONE TWO text.now }
+{
     let mut width = 0usize;
     for c in text.chars() {
         width = width.saturating_add(width_of(c));
