@@ -1,5 +1,7 @@
 pub mod AnswerLemmas
+pub mod DotLemmas
 pub mod FirstLemmas
+pub mod FormLemmas
 pub mod HeldLemmas
 pub mod KeyLemmas
 pub mod KindLemmas

@@ -17,4 +17,5 @@ pub mod Reports
 pub mod Keys
 pub mod Rules
 pub mod Forms
+pub mod Lacks
 pub mod Firsts
