@@ -9,4 +9,5 @@ pub mod LineLemmas
 pub mod OwnLemmas
 pub mod PlaceLemmas
 pub mod SoundLemmas
+pub mod UnusedLemmas
 pub mod ZipLemmas

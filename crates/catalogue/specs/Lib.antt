@@ -17,5 +17,6 @@ pub mod Reports
 pub mod Keys
 pub mod Rules
 pub mod Forms
+pub mod Unused
 pub mod Lacks
 pub mod Firsts

@@ -1,42 +1,85 @@
 //! Words that no message uses.
 
+ghost use Rattle.std.specs.Prelude.{◌≡◌, ◌||◌, IfErr, IfOk, OnOk, filter, map, not};
+ghost use Rattle.std.specs.Prelude.{string_bytes};
+ghost use Rattle.std.specs.List.{concat, list_any};
+ghost use Rattle.std.specs.Option.{option_map};
+ghost use Rattle.std.specs.Str.{bytes_eq, chars};
+ghost use Rattle.interpolator.specs.Faults.{answer_of, no_memory};
+ghost use Rattle.interpolator_pieces.specs.NodeNames.{name_texts};
+ghost use Rattle.plurals.specs.Trees.{tree_of};
+ghost use Rattle.words.specs.Declarations.{as_declaration};
+ghost use Rattle.words.specs.Items.{texts_of};
+ghost use Rattle.catalogue.specs.Declarations.{declared_by, declared_in, is_among};
+ghost use Rattle.catalogue.specs.Files.{as_line, lines_of, page_of};
+ghost use Rattle.catalogue.specs.Formats.{format_of};
+ghost use Rattle.catalogue.specs.Lacks.{each_once, is_one_of};
+ghost use Rattle.catalogue.specs.Unused.{asks, declares, first_name, format_asks, is_in, is_used};
+ghost use Rattle.catalogue.specs.Unused.{name_of, names_of, rule_asks, told_of_unused, told_unused};
+ghost use Rattle.catalogue.specs.Unused.{uses, with_name};
+
 use crate::declarations::{Heading, heading_of};
 use crate::files::{File, Line, lines_of, page_of};
 use crate::formats::format_of;
-use crate::lines::message_of;
+use crate::lines::{head_of, message_of};
 use crate::rules::rule_in;
-use interpolator::Error;
+use interpolator::{Error, Template};
 use plurals::{Expression, ParseError, parse};
-use std::alloc::Global;
-use words::{Declaration, Word, classify};
+use std::alloc::{AllocError, Global};
+use words::{Declaration, declaration_of};
 
-/// The name of a word, if it is none that is bad.
-fn name_of(word: &str) -> Option<&str> {
-    match classify(word) {
-        Word::Bad => None,
-        Word::Text { name, .. } => Some(name),
-        Word::Number { name, .. } => Some(name),
-        Word::Decimal { name, .. } => Some(name),
-        Word::Float { name, .. } => Some(name),
-        Word::List { name, .. } => Some(name),
+/// The name of a word: what is before its first `=`, without the sign of its kind.
+fn name_of(word: &str) -> Option<&str>
+    ensures { option_map (λ x. x.now) result ≡ name_of word.now }
+{
+    match head_of(word) {
+        Some(head) => Some(declaration_of(head).name),
+        None => None,
+    }
+}
+
+/// Whether one of some names is this one.
+fn has(names: &[&str], name: &str) -> bool
+    ensures { result ≡ is_one_of (texts_of names.now) name.now }
+{
+    for one in names {
+        if *one == name {
+            return true;
+        }
+    }
+    false
+}
+
+/// Adds a name, if there is one that is not there.
+fn add_name<'a>(names: &mut Vec<&'a str>, name: Option<&'a str>) -> Result<(), AllocError>
+    ensures { OnOk result (texts_of names.new.items
+        ≡ with_name (texts_of names.old.items) (option_map (λ x. x.now) name.entry)) }
+{
+    match name {
+        Some(name) if !has(names.as_slice(), name) => {
+            names.push(name)?;
+            Ok(())
+        }
+        _ => Ok(()),
     }
 }
 
 /// The names of words, each once, in their order.
-fn names_of(alloc: Global, words: &[String]) -> Result<Vec<&str>, Error> {
+fn names_of(alloc: Global, words: &[String]) -> Result<Vec<&str>, AllocError>
+    ensures { IfOk result (λ names.
+        texts_of names.items ≡ each_once (names_of (map string_bytes words.now))) }
+{
     let mut names = Vec::new(alloc);
     for word in words {
-        if let Some(name) = name_of(word.as_str()) {
-            if !names.contains(&name) {
-                names.push(name)?;
-            }
-        }
+        add_name(&mut names, name_of(word.as_str()))?;
     }
     Ok(names)
 }
 
 /// Whether a name is that of a number or a text in an expression.
-fn is_in(name: &str, read: &Expression<'_>) -> bool {
+fn is_in(name: &str, read: &Expression<'_>) -> bool
+    ensures { result ≡ is_in name.now (tree_of read.now) }
+{
     match read {
         Expression::Name(one) => *one == name,
         Expression::Number(_) => false,
@@ -52,21 +95,37 @@ fn is_in(name: &str, read: &Expression<'_>) -> bool {
 
 /// Whether a rule asks for a name: it is that of a number or a text in its tests. A form that it
 /// chooses has a name too, but no value.
-fn is_asked(name: &str, rule: &Expression<'_>) -> bool {
+fn asks(name: &str, rule: &Expression<'_>) -> bool
+    ensures { result ≡ asks name.now (tree_of rule.now) }
+{
     match rule {
-        Expression::Group(a) => is_asked(name, a),
-        Expression::Choice(test, a, b) => {
-            is_in(name, test) || is_asked(name, a) || is_asked(name, b)
-        }
+        Expression::Group(a) => asks(name, a),
+        Expression::Choice(test, a, b) => is_in(name, test) || asks(name, a) || asks(name, b),
         _ => false,
     }
 }
 
 /// Leaves out the names that a rule asks for.
-fn leave_rule(alloc: Global, left: &mut Vec<&str>, rule: &str) -> Result<(), Error> {
+fn leave_asked(left: &mut Vec<&str>, rule: &Expression<'_>)
+    ensures { texts_of left.new.items
+        ≡ filter (λ name. not (asks name (tree_of rule.now))) (texts_of left.old.items) }
+{
+    left.retain(|name| !asks(name, rule));
+}
+
+/// Leaves out the names that the rule of a line asks for, if it has one.
+fn leave_rule(alloc: Global, left: &mut Vec<&str>, rule: Option<&str>) -> Result<(), Error>
+    ensures left { OnOk result (texts_of left.new.items ≡ filter
+        (λ name. not (rule_asks name (option_map (λ x. x.now) rule.entry)))
+        (texts_of left.old.items)) }
+    ensures refused { IfErr result (λ error. answer_of error ≡ no_memory) }
+{
+    let Some(rule) = rule else {
+        return Ok(());
+    };
     match parse(alloc, rule) {
         Ok(read) => {
-            left.retain(|name| !is_asked(name, &read));
+            leave_asked(left, &read);
             Ok(())
         }
         Err(ParseError::Broken(_)) => Ok(()),
@@ -75,39 +134,117 @@ fn leave_rule(alloc: Global, left: &mut Vec<&str>, rule: &str) -> Result<(), Err
 }
 
 /// Whether a name is declared.
-fn is_declared(name: &str, declared: &[Declaration<'_>]) -> bool {
-    declared.iter().any(|one| one.name == name)
+fn is_declared(name: &str, declared: &[Declaration<'_>]) -> bool
+    ensures { result ≡ is_among (map as_declaration declared.now) name.now }
+{
+    for one in declared {
+        if name == one.name {
+            return true;
+        }
+    }
+    false
+}
+
+/// Whether a heading declares a name.
+fn declares(name: &str, heading: &Heading<'_>) -> bool
+    ensures { result ≡ declares name.now (declared_by heading.now) }
+{
+    match heading {
+        Heading::Declares(declared) => is_declared(name, declared.as_slice()),
+        _ => false,
+    }
+}
+
+/// Leaves out the names that a heading declares.
+fn leave_declared(left: &mut Vec<&str>, heading: &Heading<'_>)
+    ensures { texts_of left.new.items
+        ≡ filter (λ name. not (declares name (declared_by heading.now))) (texts_of left.old.items) }
+{
+    left.retain(|name| !declares(name, heading));
+}
+
+/// Whether a text is this name.
+fn is_name(text: &String, name: &str) -> bool
+    ensures { result ≡ bytes_eq (chars (string_bytes text.now)) (chars name.now) }
+{
+    text.as_str() == name
 }
 
 /// Whether a name is one of these.
-fn is_among(name: &str, names: &[String]) -> bool {
-    names.iter().any(|one| one.as_str() == name)
+fn is_among_names(name: &str, names: &[String]) -> bool
+    ensures { result
+        ≡ list_any (λ one. bytes_eq one (chars name.now)) (name_texts names.now) }
+{
+    for one in names {
+        if is_name(one, name) {
+            return true;
+        }
+    }
+    false
+}
+
+/// Leaves out some names.
+fn leave_names(left: &mut Vec<&str>, names: &[String])
+    ensures { texts_of left.new.items ≡ filter (λ name. not
+        (list_any (λ one. bytes_eq one (chars name)) (name_texts names.now)))
+        (texts_of left.old.items) }
+{
+    left.retain(|name| !is_among_names(name, names));
+}
+
+/// Leaves out the names for which the format of a line asks.
+fn leave_format(alloc: Global, left: &mut Vec<&str>, line: &Line<'_, '_>) -> Result<(), Error>
+    ensures left { OnOk result (texts_of left.new.items ≡ filter
+        (λ name. not (format_asks name (format_of (as_line line.now)))) (texts_of left.old.items)) }
+    ensures refused { IfErr result (λ error. answer_of error ≡ no_memory) }
+{
+    match format_of(alloc, line)? {
+        Ok(template) => {
+            let names = template.names(alloc)?;
+            leave_names(left, names.as_slice());
+            Ok(())
+        }
+        Err(_) => Ok(()),
+    }
+}
+
+/// Leaves out the names that the message of a line declares, or for which its format asks.
+fn leave_message(
+    alloc: Global,
+    left: &mut Vec<&str>,
+    line: &Line<'_, '_>,
+    head: &str,
+) -> Result<(), Error>
+    ensures left { OnOk result (texts_of left.new.items ≡ filter (λ name. not
+        (declares name (declared_in head.now) || format_asks name (format_of (as_line line.now))))
+        (texts_of left.old.items)) }
+    ensures refused { IfErr result (λ error. answer_of error ≡ no_memory) }
+{
+    let (_, heading) = heading_of(alloc, head)?;
+    leave_declared(left, &heading);
+    leave_format(alloc, left, line)
 }
 
 /// Leaves out the names that a line uses: those that its rule asks for, or its declarations and its
 /// format.
-fn leave_line(alloc: Global, left: &mut Vec<&str>, line: &Line<'_, '_>) -> Result<(), Error> {
-    let Some(head) = message_of(line.text) else {
-        return match rule_in(line.text) {
-            Some(rule) => leave_rule(alloc, left, rule),
-            None => Ok(()),
-        };
-    };
-    if let (_, Heading::Declares(declared)) = heading_of(alloc, head)? {
-        left.retain(|name| !is_declared(name, declared.as_slice()));
+fn leave_line(alloc: Global, left: &mut Vec<&str>, line: &Line<'_, '_>) -> Result<(), Error>
+    ensures left { OnOk result (texts_of left.new.items
+        ≡ filter (λ name. not (uses name (as_line line.now))) (texts_of left.old.items)) }
+    ensures refused { IfErr result (λ error. answer_of error ≡ no_memory) }
+{
+    match message_of(line.text) {
+        Some(head) => leave_message(alloc, left, line, head),
+        None => leave_rule(alloc, left, rule_in(line.text)),
     }
-    if let Ok(template) = format_of(alloc, line)? {
-        let names = template.names(alloc)?;
-        left.retain(|name| !is_among(name, names.as_slice()));
-    }
-    Ok(())
 }
 
-/// Leaves out the names that a file uses.
-fn leave_file(alloc: Global, left: &mut Vec<&str>, file: &File) -> Result<(), Error> {
-    let page = page_of(alloc, file)?;
-    let lines = lines_of(alloc, &page)?;
-    for line in &lines {
+/// Leaves out the names that some lines use.
+fn leave_lines(alloc: Global, left: &mut Vec<&str>, lines: &[Line<'_, '_>]) -> Result<(), Error>
+    ensures left { OnOk result (texts_of left.new.items
+        ≡ filter (λ name. not (is_used name (map as_line lines.now))) (texts_of left.old.items)) }
+    ensures refused { IfErr result (λ error. answer_of error ≡ no_memory) }
+{
+    for line in lines {
         if left.is_empty() {
             return Ok(());
         }
@@ -116,11 +253,44 @@ fn leave_file(alloc: Global, left: &mut Vec<&str>, file: &File) -> Result<(), Er
     Ok(())
 }
 
+/// Leaves out the names that a file uses.
+fn leave_file(alloc: Global, left: &mut Vec<&str>, file: &File) -> Result<(), Error>
+    ensures left { OnOk result (texts_of left.new.items
+        ≡ filter (λ name. not (is_used name (lines_of (page_of file.now))))
+        (texts_of left.old.items)) }
+    ensures refused { IfErr result (λ error. answer_of error ≡ no_memory) }
+{
+    let page = page_of(alloc, file)?;
+    let lines = lines_of(alloc, &page)?;
+    leave_lines(alloc, left, lines.as_slice())
+}
+
+/// The name of the first of some files.
+fn first_name(files: &[File]) -> &str
+    ensures { result.now ≡ first_name (map page_of files.now) }
+{
+    match files.first() {
+        Some(file) => file.name.as_str(),
+        None => "",
+    }
+}
+
+/// Reports that no message of a file uses a name.
+fn told_unused(alloc: Global, file: &str, name: &str) -> Result<String, AllocError>
+    ensures { IfOk result (λ told. string_bytes told ≡ told_unused file.now name.now) }
+{
+    let told = format!(in alloc; "{file}: no message uses `{name}`\n")?;
+    Ok(told)
+}
+
 /// Reports that no message of a file uses some names, for each a line.
-fn told_of_names(alloc: Global, file: &str, names: &[&str]) -> Result<String, Error> {
+fn told_of_names(alloc: Global, file: &str, names: &[&str]) -> Result<String, AllocError>
+    ensures { IfOk result (λ told.
+        string_bytes told ≡ concat (map (told_unused file.now) (texts_of names.now))) }
+{
     let mut told = String::new(alloc);
     for name in names {
-        let more = format!(in alloc; "{file}: no message uses `{name}`\n")?;
+        let more = told_unused(alloc, file, name)?;
         told.push_str(more.as_str())?;
     }
     Ok(told)
@@ -132,14 +302,15 @@ fn told_of_names(alloc: Global, file: &str, names: &[&str]) -> Result<String, Er
 /// # Errors
 ///
 /// `NoMemory`.
-pub fn unused(alloc: Global, files: &[File], words: &[String]) -> Result<String, Error> {
+pub fn unused(alloc: Global, files: &[File], words: &[String]) -> Result<String, Error>
+    ensures told { IfOk result (λ told. string_bytes told
+        ≡ told_of_unused (map page_of files.now) (map string_bytes words.now)) }
+    ensures refused { IfErr result (λ error. answer_of error ≡ no_memory) }
+{
     let mut left = names_of(alloc, words)?;
     for file in files {
         leave_file(alloc, &mut left, file)?;
     }
-    let name = match files.first() {
-        Some(file) => file.name.as_str(),
-        None => "",
-    };
-    told_of_names(alloc, name, left.as_slice())
+    let told = told_of_names(alloc, first_name(files), left.as_slice())?;
+    Ok(told)
 }

@@ -1,0 +1,16 @@
+use Rattle.std.proofs.Common.{◌∙◌, ap, ℕ, List, not, rules, sym}
+use Rattle.std.proofs.lemmas.Fn.{filter_same}
+use Rattle.std.specs.List.{list_any}
+use Rattle.std.specs.Str.{bytes_eq, chars}
+use Rattle.interpolator_pieces.specs.NodeNames.{name_texts}
+use Rattle.words.specs.Items.{texts_of}
+use Rattle.catalogue.proofs.FirstLemmas.{filter_mapped}
+use Rattle.catalogue.proofs.unused.leave_names.Goals as goal
+
+pub returns : goal.returns
+returns c =
+    let is_left = λ (name : List ℕ). not
+    (list_any (λ one. bytes_eq one (chars name)) (name_texts c.args.names.now)) in
+    ap texts_of (filter_same _ (λ name. is_left name.now) _ (λ x b f k. search rules) _ _
+    c.retain.ensures.filtered)
+    ∙ sym (filter_mapped is_left (λ name. name.now) c.args.left.now.items)
