@@ -50,7 +50,8 @@ after_part place part = usize_sum (usize_sum place (length part)) 1
 abbrev pub is_among : List (List ℕ × Kind) → List ℕ → Bool
 is_among seen name = list_any (λ one. bytes_eq name one.0) seen
 
--- where a part begins, if it is broken: it is no declaration, or its name is one of those seen before
+-- where a part begins, if it is broken: it is no declaration, or its name is one of those seen
+-- before
 abbrev pub broken_by : ℕ → List (List ℕ × Kind) → Option (List ℕ × Kind) → Option ℕ
 broken_by begin seen (Some declared) = if is_among seen declared.0 then Some begin else None
 broken_by begin seen None = Some begin
@@ -75,8 +76,8 @@ abbrev pub declarations : List (List ℕ) → List (List ℕ × Kind)
 declarations [] = []
 declarations (part ∷ parts) = as_list (part_of part) ++ declarations parts
 
--- what is declared: nothing; these names with their kinds, each once; or that something is broken at
--- a byte of the line
+-- what is declared: nothing; these names with their kinds, each once; or that something is broken
+-- at a byte of the line
 pub data Declared : Type 0 where
   nothing : Declared
   these : List (List ℕ × Kind) → Declared

@@ -72,8 +72,8 @@ pub record IsToldLacking (line : Line) (key : List ℕ) (declared : Declared)
 
 -- what the line that was found comes to: the message; the value that it lacks, or its fault, if it
 -- declares nothing; or that what chooses its form is missing
-abbrev pub Replies : Option Escape → Answer → Option (List ℕ × Kind) → Line → (key : List ℕ) → Declared
-    → (format : List ℕ) → List Object → Type 0
+abbrev pub Replies : Option Escape → Answer → Option (List ℕ × Kind) → Line → (key : List ℕ)
+    → Declared → (format : List ℕ) → List Object → Type 0
 Replies escape (Message message) None line key declared format objects =
     IsMade escape format declared objects message
 Replies escape (Faults told) None line key declared format objects =

@@ -30,7 +30,8 @@ empty_at line place = record {
 -- the line with a mark under the character at a byte: what stands below the first line of what
 -- explains a fault there
 unfoldable pub picture_at : Line → ℕ → List ℕ
-picture_at line place = after_first is_newline (explanation_of (empty_at line place) (fault (fmt 0)))
+picture_at line place =
+    after_first is_newline (explanation_of (empty_at line place) (fault (fmt 0)))
 
 -- what is reported at a byte of a line: the file, the line's number, the column, what it is, and
 -- the line with a mark

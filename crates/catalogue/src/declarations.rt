@@ -128,8 +128,8 @@ fn declared_between<'a>(
     Ok(Heading::Declares(found))
 }
 
-/// What is declared after a `(` at this byte of the line: it ends at the next `)`, after which there
-/// is only white space.
+/// What is declared after a `(` at this byte of the line: it ends at the next `)`, after which
+/// there is only white space.
 fn declared_after<'a>(
     alloc: Global,
     opened: usize,
@@ -159,8 +159,8 @@ pub fn key_in(head: &str) -> &str
 /// The key of a line's head, and what it declares.
 ///
 /// `bill(name, count:, price:., items[])` declares a text `name`, a whole number `count`, a decimal
-/// `price` and a list of texts `items`. Each name is declared once, and has no white space. After the
-/// `)` there is nothing but white space.
+/// `price` and a list of texts `items`. Each name is declared once, and has no white space. After
+/// the `)` there is nothing but white space.
 pub fn heading_of<'a>(alloc: Global, head: &'a str) -> Result<(&'a str, Heading<'a>), AllocError>
     ensures key { IfOk result (λ found. found.0.now ≡ key_in head.now) }
     ensures declared { IfOk result (λ found. declared_by found.1 ≡ declared_in head.now) }

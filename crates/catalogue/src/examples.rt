@@ -110,8 +110,8 @@ fn own_faults(alloc: Global, template: &Template) -> Result<Vec<Error>, Error>
     Ok(own_of(errors))
 }
 
-/// All faults that a format has: by itself, if its line declares nothing, or else with an example of
-/// each declaration, too.
+/// All faults that a format has: by itself, if its line declares nothing, or else with an example
+/// of each declaration, too.
 pub fn faults_of(
     alloc: Global,
     template: &Template,

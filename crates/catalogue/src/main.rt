@@ -48,9 +48,9 @@
 //! plural: gender == 'f' ? she : gender == 'm' ? he : they
 //! ```
 //!
-//! A name followed by `==` or `!=` and a text between quotes `'` is whether the word `NAME=TEXT` gives
-//! that text, byte for byte; it binds more tightly than any operator, and the text has no quote in
-//! it. Such a text stands nowhere else. One that is missing is reported as a number is.
+//! A name followed by `==` or `!=` and a text between quotes `'` is whether the word `NAME=TEXT`
+//! gives that text, byte for byte; it binds more tightly than any operator, and the text has no
+//! quote in it. Such a text stands nowhere else. One that is missing is reported as a number is.
 //!
 //! Beside a message, the words whose names no message or declaration of the files uses and no rule
 //! asks for are told on standard error; a rule does not ask for its forms. Below the report that a
@@ -62,10 +62,11 @@
 //! the first that does not is shown after all other faults, and no message is written.
 //!
 //! With `--po` the file is a PO file of gettext (the crate `po`), and the key a `msgid`, with
-//! `--context` one of this `msgctxt`. The form of a message with a plural is that which Plural-Forms
-//! choose by the number `n`, and a message that is fuzzy or has no translation is its own text. A
-//! check also reports messages that stand twice, a translation that lacks a form or, if there is no
-//! plural, a name of its message, and one with a name, trait or list that its message has not.
+//! `--context` one of this `msgctxt`. The form of a message with a plural is that which
+//! Plural-Forms choose by the number `n`, and a message that is fuzzy or has no translation is its
+//! own text. A check also reports messages that stand twice, a translation that lacks a form or, if
+//! there is no plural, a name of its message, and one with a name, trait or list that its message
+//! has not.
 //!
 //! The status is 0 after a message, or a check without a fault; 1 after a fault, 2 after a wrong
 //! use or a bad word, and 3 if a file cannot be read or is no UTF-8, or the output cannot be

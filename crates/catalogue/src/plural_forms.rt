@@ -31,8 +31,8 @@ pub fn header_of<'t>(entries: &[Entry<'t>]) -> &'t [Placed] {
     &[]
 }
 
-/// The number and the rule of a header `Plural-Forms: nplurals=2; plural=n != 1;`. A file that tells
-/// none has two forms, as English.
+/// The number and the rule of a header `Plural-Forms: nplurals=2; plural=n != 1;`. A file that
+/// tells none has two forms, as English.
 pub fn plural_forms<'h>(header: &'h [Placed], text: &'h str) -> PluralForms<'h> {
     let told = count_in(text).zip(text.split_once("plural="));
     match told {
@@ -66,7 +66,8 @@ fn count_in(text: &str) -> Option<usize> {
     rule_in(rest).trim().parse::<usize>().ok()
 }
 
-/// The first number up to 1000 for which a rule chooses no form that there is, with what it chooses.
+/// The first number up to 1000 for which a rule chooses no form that there is, with what it
+/// chooses.
 fn beyond(read: &plurals::Expression<'_>, count: usize) -> Option<(u128, u128)> {
     for index in 0..1001usize {
         let n = index as u128;
@@ -103,8 +104,8 @@ fn told_of_choices(
     }
 }
 
-/// Reports what is wrong with the rule of a file: it is none, compares a text, or chooses a form that
-/// is not there for a number up to 1000.
+/// Reports what is wrong with the rule of a file: it is none, compares a text, or chooses a form
+/// that is not there for a number up to 1000.
 pub fn told_of_rule(alloc: Global, file: &File, forms: &PluralForms<'_>) -> Result<String, Error> {
     match parse(alloc, forms.rule) {
         Ok(read) => told_of_choices(alloc, file, forms, &read),

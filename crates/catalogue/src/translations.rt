@@ -65,8 +65,8 @@ pub fn told_of_error(
     )
 }
 
-/// Reports what is wrong with the format that strings make by itself, and the first value that is in
-/// no place of an escape.
+/// Reports what is wrong with the format that strings make by itself, and the first value that is
+/// in no place of an escape.
 fn told_of_format(
     alloc: Global,
     file: &File,
@@ -94,8 +94,8 @@ fn told_of_format(
     }
 }
 
-/// Whether two arguments write the same under the same trait, or are both lists. The items of a list
-/// may always be displayed.
+/// Whether two arguments write the same under the same trait, or are both lists. The items of a
+/// list may always be displayed.
 fn is_same(one: &Argument<'_>, other: &Argument<'_>) -> bool {
     match (&one.kind, &other.kind) {
         (Kind::Value(a), Kind::Value(b)) => one.name == other.name && a == b,

@@ -23,7 +23,7 @@ use crate::files::{File, Line, lines_of, page_of};
 use crate::formats::format_of;
 use crate::lines::{head_of, message_of};
 use crate::rules::rule_in;
-use interpolator::{Error, Template};
+use interpolator::Error;
 use plurals::{Expression, ParseError, parse};
 use std::alloc::{AllocError, Global};
 use words::{Declaration, declaration_of};

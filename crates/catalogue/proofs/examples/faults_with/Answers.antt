@@ -9,4 +9,5 @@ returns-clause-all c =
       c.as_slice.ensures.value,
       c.in_ok-examples.ensures.examples,
     ) at c.in_ok-pairs.ensures.pairs in
-    rw (c.deref.ensures.value, found_held c.in_ok-pairs.pairs.items, held) at c.template_faults.ensures.all
+    rw (c.deref.ensures.value, found_held c.in_ok-pairs.pairs.items, held) at
+    c.template_faults.ensures.all

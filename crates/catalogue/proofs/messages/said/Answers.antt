@@ -8,9 +8,15 @@ use Rattle.catalogue.proofs.messages.said.Goals as goal
 
 pub returns-clause-said : goal.returns-clause-said
 returns-clause-said c =
-    let t = told_fault (answer_of c.in-Err.error) (message_means c.args.escape c.args.found.now.template (map held_by_entry c.args.entries.now)).fault
+    let t = told_fault (answer_of c.in-Err.error)
+    (message_means c.args.escape c.args.found.now.template
+    (map held_by_entry c.args.entries.now)).fault
     c.in-Some.field-0 (sym c.in-Some.is ∙ c.place.ensures)
-    (rw (c.as_slice.ensures.value, found_held c.in_ok-pairs.pairs.items, c.in_ok-pairs.ensures.pairs) at (rw c.in-Err.is at c.made.ensures.formats)) in
+    (rw (
+      c.as_slice.ensures.value,
+      found_held c.in_ok-pairs.pairs.items,
+      c.in_ok-pairs.ensures.pairs,
+    ) at (rw c.in-Err.is at c.made.ensures.formats)) in
     record {
       f = t.0;
       faulty = t.2;
@@ -19,4 +25,8 @@ returns-clause-said c =
 
 pub returns-in-Ok-clause-said : goal.returns-in-Ok-clause-said
 returns-in-Ok-clause-said c =
-    rw (c.as_slice.ensures.value, found_held c.in_ok-pairs.pairs.items, c.in_ok-pairs.ensures.pairs) at (rw c.in-Ok.is at c.made.ensures.formats)
+    rw (
+      c.as_slice.ensures.value,
+      found_held c.in_ok-pairs.pairs.items,
+      c.in_ok-pairs.ensures.pairs,
+    ) at (rw c.in-Ok.is at c.made.ensures.formats)
