@@ -8,6 +8,7 @@ pub mod KindLemmas
 pub mod LineLemmas
 pub mod OwnLemmas
 pub mod PlaceLemmas
+pub mod SlipLemmas
 pub mod SoundLemmas
 pub mod UnusedLemmas
 pub mod ZipLemmas

@@ -19,4 +19,5 @@ pub mod Rules
 pub mod Forms
 pub mod Unused
 pub mod Lacks
+pub mod Nearest
 pub mod Firsts
