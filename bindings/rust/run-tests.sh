@@ -1,7 +1,8 @@
 #!/usr/bin/env bash
 # Runs the tests of bindings/rust against libinterpolator.a: without a warning, the documentation's
-# examples and the programs of README.md too, and without the network. With valgrind, it runs src/sys.rs over a library of which a
-# caller gets nothing but what the C header says, with each allocation refused (tests/filled).
+# examples and the programs of README.md too, and without the network. With valgrind, it runs src/sys.rs
+# over a library of which a caller gets nothing but what the C header says, with each allocation refused
+# (tests/filled). It leaves no file in this folder.
 #
 # The library is looked for in the folder that INTERPOLATOR_LIB names, else in ../c/build, where
 # bindings/c builds it. If it or cargo is missing the run fails, but for CI_SKIP_BINDINGS=1, by which
@@ -30,6 +31,9 @@ export RUSTFLAGS="${RUSTFLAGS:-} -D warnings" RUSTDOCFLAGS="${RUSTDOCFLAGS:-} -D
 
 scratch=$(mktemp -d)
 trap 'rm -rf -- "$scratch"' EXIT
+export CARGO_TARGET_DIR=${CARGO_TARGET_DIR:-$scratch/target}
+before=$(find . | sort)
+
 # step NAME COMMAND..: runs the command, and ends the run with what it wrote if it fails.
 step() {
     local name=$1
@@ -94,7 +98,7 @@ filled() {
     step 'it does not differ over the filled one, under valgrind' does_not_differ
     export FILL_UNNAMED=1
     step 'nor if it is 0xAA also where src/sys.rs names nothing' does_not_differ
-    export INTERPOLATOR_LIB=$scratch/filled CARGO_TARGET_DIR=$scratch/target
+    export INTERPOLATOR_LIB=$scratch/filled CARGO_TARGET_DIR=$scratch/target-filled
     export CARGO_TARGET_X86_64_UNKNOWN_LINUX_GNU_RUNNER="${valgrind_of[*]}"
     step 'tests over the filled one, under valgrind' cargo test --offline --quiet --test calls --test checks \
         --test faults --test lists --test values
@@ -141,4 +145,5 @@ if [[ -n $origin ]]; then
 else
     echo 'bindings/rust: comparison with the crate of origin: skipped (INTERPOLATOR_ORIGIN is not set)'
 fi
+step 'no file is left' diff <(echo "$before") <(find . | sort)
 echo 'bindings/rust: passed'
