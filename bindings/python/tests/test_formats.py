@@ -326,7 +326,9 @@ class Formats(unittest.TestCase):
             fit=as_read_by_html)
 
     def test_tables(self) -> None:
-        self.each(cases("csv"), read_tables)
+        # before Python 3.11, csv reads no NUL
+        is_old = sys.version_info < (3, 11)
+        self.each([case for case in cases("csv") if not (is_old and "\0" in case.written)], read_tables)
 
     def test_json(self) -> None:
         self.each(cases("json"), read_strings)
