@@ -1,7 +1,8 @@
 #!/usr/bin/env bash
-# Runs the built program on templates and tables, and compares what it writes to both streams and its
-# status with what docs/DEFINITIONS.md says of each letter, and RFC 4180 of each field, worked out by
-# hand; values are escaped as HTML, RFC 4180 and RFC 8259 read them back. Then it runs the line of crates/README.md.
+# Runs the built program on templates and tables, and compares what it writes to both streams and
+# its status with what docs/DEFINITIONS.md says of each letter, and RFC 4180 of each field, worked out
+# by hand; values are escaped as HTML, RFC 4180 and RFC 8259 read them back. Then it runs the line of
+# crates/README.md.
 #
 # usage: run-cases.sh [PROGRAM..]
 set -u
@@ -17,10 +18,11 @@ unclosed='a quote that is never closed'
 after_quote='text after a closing quote: double the quotes in a field'
 lone='a carriage return without a newline'
 wanted_number='wants a number, such as -7 or 12.50'
+utf16='this looks like UTF-16: save it as UTF-8'
 greatest=170141183460469231731687303715884105727
 here=$(cd "$(dirname "$0")" && pwd)
 name=merge
-wanted=169
+wanted=179
 . "$here/../../.ci/cases.sh"
 
 # files TEMPLATE TABLE: what stands in the files `t` and `r`.
@@ -79,6 +81,21 @@ record_cases() {
     case_of file file 0 'é' '' --separator , --latin1 t r
     case_of file file 3 '' $'r:2:1: byte 0xE9 is no UTF-8; is this Latin-1? try --latin1\n' t r
     nul_case
+}
+
+# A line that names the separator, above the header.
+named_cases() {
+    letters '<1|2>' '<{a}|{b,c}>' $'sep=;\na;b,c\n1;2\n'
+    letters '<1|2>' '<{a}|{b;c}>' $'\xef\xbb\xbfsep=\t\r\na\tb;c\r\n1\t2\r\n'
+    letters '<1>' '<{sep=;}>' $'"sep=;"\n1\n'
+    files '<{a}|{b}>' $'sep=;\na,b\n1;,2\n'
+    case_of file file 0 '<1;|2>' '' --separator , t r
+    fault 'r:3: 1 field, but line 2 has 2' '{a}' $'sep=;\na;b\n1\n'
+    fault $'r:2: column 2 has the name of an earlier column\nr:3: column 1 '"$wanted_number" '{a}' \
+        $'sep=;\na:;a\nx;y\n'
+    fault 'r: the table is empty: it has no names' '{a}' $'sep=;\n'
+    files '{a}' $'sep=;\na;b\n1;2\n'
+    case_of file file 1 '' $'r:2: no column has the name `c`\n' --if-empty c=t t r
 }
 
 # A NUL in a field is written.
@@ -379,6 +396,9 @@ other_cases() {
     printf 'a\n\xff\n' >b
     case_of file file 3 '' $'b:2:1: byte 0xFF is no UTF-8; is this Latin-1? try --latin1\n' t b
     case_of file file 3 '' $'b:2:1: byte 0xFF is no UTF-8\n' b r
+    printf '\xff\xfea\0\n\0' >b
+    case_of file file 3 '' "b:1:1: byte 0xFF is no UTF-8; $utf16"$'\n' t b
+    case_of file file 3 '' "b:1:1: byte 0xFF is no UTF-8; $utf16"$'\n' b r
     case_of file file 3 '' $'.: Is a directory (os error 21)\n' t .
     files '{a}' $'a\n1\n'
     case_of closed file 3 '' $'cannot write: Bad file descriptor (os error 9)\n' t r
@@ -422,6 +442,7 @@ refused_calls() {
 all_cases() {
     letter_cases
     record_cases
+    named_cases
     number_cases
     float_cases
     template_cases

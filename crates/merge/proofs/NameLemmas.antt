@@ -1,5 +1,6 @@
 -- Names, and which of them were seen.
-use Rattle.std.proofs.Common.{◌≡◌, ◌∙◌, refl, sym, ap, ℕ, ◌+◌, ◌<◌, Bool, true, false, ◌||◌, cond, List, []}
+use Rattle.std.proofs.Common.{◌≡◌, ◌∙◌, refl, sym, ap, ℕ, ◌+◌, ◌<◌, Bool, true, false, ◌||◌}
+use Rattle.std.proofs.Common.{cond, List, []}
 use Rattle.std.proofs.Common.{◌∷◌, ◌++◌, map, length, take, drop, get_or, append_assoc}
 use Rattle.std.proofs.Common.{Option, None, Some, is_some, nat_lt, not}
 use Rattle.std.proofs.lemmas.List.{drop_more, length-map, map_more}

@@ -1,6 +1,7 @@
 -- What comes after the header of a table, one after the other.
 use Rattle.std.proofs.Common.{◌≡◌, ◌∙◌, refl, ap, ℕ, ◌+◌, Bool, true, false, List, [], ◌∷◌, ◌++◌}
-use Rattle.std.proofs.Common.{append-nil, append_assoc, sym, inl, inr, Option, None, Some, Result, Ok, Err}
+use Rattle.std.proofs.Common.{append-nil, append_assoc, sym, inl, inr, Option, None, Some}
+use Rattle.std.proofs.Common.{Result, Ok, Err}
 use Rattle.std.specs.Option.{option_map}
 use Rattle.merge.specs.Letters.{IsLetter, MergesFrom, PutsIf, WritesEntry, WritesRows}
 use Rattle.merge.specs.Table.{AreFaults, AreFaultsBy, HasTrouble, IsToldOf, IsTrouble, Joins}

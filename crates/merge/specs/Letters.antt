@@ -324,8 +324,8 @@ pub record WritesRows (letters : Letters) (names : List (List ℕ)) (kinds : Lis
       → (text : List ℕ) × AreLetters letters kinds rows text × (new ≡ old ++ text)
   pub keeps : writes ≡ false → new ≡ old
 
--- the letters of all rows from a place on were appended to a text, and nothing is wrong with them or
--- with the names; or these are the faults of both, and then the text stays, unless a part of the
+-- the letters of all rows from a place on were appended to a text, and nothing is wrong with them
+-- or with the names; or these are the faults of both, and then the text stays, unless a part of the
 -- letters is wanted
 abbrev pub MergesFrom : Separator → Letters → (names : List (List ℕ)) → List Kind
     → (partial : Bool) → (from : At) → (old new : List ℕ) → Result (Unit {0}) Fault → Type 0

@@ -83,7 +83,8 @@ abbrev pub repeat_trouble : List (List ℕ) → List ℕ → Option Trouble
 repeat_trouble before name =
     cond (is_among before name) (Some (troubles.Twice (length before + 1))) None
 
--- the columns that have the name of an earlier one, which some others come before
+-- the columns that have the name of an earlier one, which some others come before; the names count
+-- as line 1
 abbrev pub repeats_after : List (List ℕ) → List (List ℕ) → List LineFault
 repeats_after before [] = []
 repeats_after before (name ∷ more) =

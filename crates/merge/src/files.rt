@@ -233,10 +233,10 @@ fn write_framed(
     Err(FileFault::Letters(Fault::Table(faults)))
 }
 
-/// Writes a letter for each record of the table after the first, which names the fields, into a file
-/// of its own. A file that is there is written anew. If a record is wrong, or gives no name of a
-/// file, no letter is written; unless a part of them is wanted: then those of the records before the
-/// first that is wrong are.
+/// Writes a letter for each record of the table after the first, which names the fields, into a
+/// file of its own. A file that is there is written anew. If a record is wrong, or gives no name of
+/// a file, no letter is written; unless a part of them is wanted: then those of the records before
+/// the first that is wrong are.
 ///
 /// # Errors
 ///

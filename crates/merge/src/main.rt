@@ -1,8 +1,9 @@
 //! `merge TEMPLATE TABLE`: a letter for each record of the table.
 //!
 //! The first record of the table is its header, which names its columns; white space around a name
-//! does not count. A name that ends in `:`, as `price:`, is that of a column of numbers, without the
-//! `:`. Its fields are whole numbers or decimals, as -7 or 12.50, of 128 bits without the point.
+//! does not count. A name that ends in `:`, as `price:`, is that of a column of numbers, without
+//! the `:`. Its fields are whole numbers or decimals, as -7 or 12.50, of 128 bits without the
+//! point.
 //! White space around them, zeros in front and a `+` are not shown; all digits after the point are.
 //! `{price:>10.2}` shows such a field with two digits after the point, at the right of ten
 //! characters. A name that ends in `:~` is that of a column of floats, as std reads an `f64`: also
@@ -10,14 +11,15 @@
 //!
 //! The other records have a field for each name. Records are spelled as the crate `records` reads
 //! them: fields may stand in quotes, with separators, line ends and doubled quotes in them. The
-//! separator is that of `--separator`, which is `,`, `;` or `tab`; without it, that of the three
-//! which the first line alone has, or else the comma. Blank lines at the end are no records; any
-//! other blank line is a record of one empty field, so it is reported in a table of two columns or
-//! more. A byte order mark at the head of a file is skipped. The table is UTF-8, or with `--latin1`
-//! Latin-1; templates are UTF-8.
+//! separator is that of `--separator`, which is `,`, `;` or `tab`; without it, the one that a line
+//! `sep=;` above the header names, or that of the three which the header's line alone has, or else
+//! the comma. Blank lines at the end are no records; any other blank line is a record of one empty
+//! field, so it is reported in a table of two columns or more. A byte order mark at the head of a
+//! file is skipped, and so is a line `sep=;` at the head of a table. The table is UTF-8, or with
+//! `--latin1` Latin-1; templates are UTF-8.
 //!
-//! With `--if-empty title=PLAIN`, the letter of a record whose field `title` is empty is made by the
-//! template in the file PLAIN.
+//! With `--if-empty title=PLAIN`, the letter of a record whose field `title` is empty is made by
+//! the template in the file PLAIN.
 //!
 //! With `--html`, `--csv` or `--json`, of which one may be given, once, values are written
 //! escaped: as in the text and the attributes of a page, in the quoted fields of a table, or in
@@ -29,18 +31,19 @@
 //!
 //! Templates are checked with the columns before the first letter, and all faults of the first
 //! that has any are shown in their lines, as a compiler does; else the first value that is out of
-//! place is, or the end. All records of the table that have a fault are reported, by their first line, and all
-//! places where the table goes on with no record. In both cases no letter is written; but with
-//! `--partial` those of the records before the first fault are. So the table is read twice, or
-//! once with `--partial`, and each letter is written as it is made.
+//! place is, or the end. All records of the table that have a fault are reported, by their first
+//! line, and all places where the table goes on with no record. In both cases no letter is written;
+//! but with `--partial` those of the records before the first fault are. So the table is read
+//! twice, or once with `--partial`, and each letter is written as it is made.
 //!
 //! With `--out letters/{name}.txt`, each letter is written into a file of its own, which this
 //! template names by the record. A value in a name has no `/` and makes no part of it `..`, and no
 //! two records give the same name; else this is told of all records, and no letter is written.
 //!
 //! A flag that is given again counts as it was given last; `--` ends the flags, and `--help` as the
-//! first word prints help. The status is 0 if the letters are written, 1 after a fault of a template
-//! or of the table, 2 after wrong use, and 3 after a refused write or for a file that cannot be read.
+//! first word prints help. The status is 0 if the letters are written, 1 after a fault of a
+//! template or of the table, 2 after wrong use, and 3 after a refused write or for a file that
+//! cannot be read.
 #![tactic(auto)]
 
 ghost use Rattle.std.specs.Prelude.{◌<◌, IfSome, length};
@@ -58,7 +61,7 @@ use files::{FileFault, Named, write_files};
 use interpolator::{Error, Escape, IoWriter};
 use letters::merge;
 use output::Output;
-use records::{BadByte, Separator, latin1, text_in};
+use records::{BadByte, Separator, advice_on, is_utf16, latin1, text_in};
 use std::fs;
 use std::process::ExitCode;
 use templates::{Fault, Templates};
@@ -75,7 +78,8 @@ Writes a letter for each record of a table.
 
 usage: merge [FLAG..] [--] TEMPLATE TABLE
 
-  --separator , | ; | tab    what is between two fields; else that which line 1 alone has, or a comma
+  --separator , | ; | tab    what is between two fields; else the one that a line `sep=;` above
+                             the header names, that which the header alone has, or a comma
   --latin1                   the table is Latin-1, not UTF-8
   --partial                  if a record is wrong, write the letters of those before it
   --html, --csv or --json    values escaped: in text or quoted attributes, quoted fields, or strings
@@ -270,27 +274,29 @@ fn bytes_in(rt: &HostRuntime, name: &str) -> Result<Vec<u8>, ExitCode> {
     }
 }
 
-/// Ends a run with a file that has a byte that is no UTF-8, with advice.
+/// Ends a run with a file that has a byte that is no UTF-8, with advice, which may be empty.
 fn not_utf8(rt: &HostRuntime, name: &str, bad: BadByte, advice: &str) -> ExitCode {
     let line = bad.place.line;
     let column = bad.place.column;
     let byte = bad.byte;
+    let gap = if advice.is_empty() { "" } else { "; " };
     ended(
-        eprintln!(rt; "{name}:{line}:{column}: byte 0x{byte:02X} is no UTF-8{advice}"),
+        eprintln!(rt; "{name}:{line}:{column}: byte 0x{byte:02X} is no UTF-8{gap}{advice}"),
         REFUSED,
     )
 }
 
-/// The bytes of a file as text, or how the run ends without it.
+/// The bytes of a file as text, or how the run ends without it. Only a table may be Latin-1.
 fn text_of<'a>(
     rt: &HostRuntime,
     name: &str,
     bytes: &'a [u8],
-    advice: &str,
+    is_table: bool,
 ) -> Result<&'a str, ExitCode> {
     match text_in(bytes) {
         Ok(text) => Ok(without_mark(text)),
-        Err(bad) => Err(not_utf8(rt, name, bad, advice)),
+        Err(bad) if is_table || is_utf16(bytes) => Err(not_utf8(rt, name, bad, advice_on(bytes))),
+        Err(bad) => Err(not_utf8(rt, name, bad, "")),
     }
 }
 
@@ -331,7 +337,7 @@ fn merge_texts(
 /// Merges files, or ends the run without one.
 fn merge_files(rt: &HostRuntime, asked: Asked<'_>) -> Result<ExitCode, ExitCode> {
     let template = bytes_in(rt, asked.template)?;
-    let template = text_of(rt, asked.template, template.as_slice(), "")?;
+    let template = text_of(rt, asked.template, template.as_slice(), false)?;
     let other = match asked.if_empty {
         Some((_, name)) => bytes_in(rt, name)?,
         None => Vec::new(rt.alloc()),
@@ -340,7 +346,7 @@ fn merge_files(rt: &HostRuntime, asked: Asked<'_>) -> Result<ExitCode, ExitCode>
         Some((_, name)) => name,
         None => "",
     };
-    let other = text_of(rt, other_name, other.as_slice(), "")?;
+    let other = text_of(rt, other_name, other.as_slice(), false)?;
     let table = bytes_in(rt, asked.table)?;
     if asked.is_latin1 {
         return match latin1(rt.alloc(), table.as_slice()) {
@@ -348,8 +354,7 @@ fn merge_files(rt: &HostRuntime, asked: Asked<'_>) -> Result<ExitCode, ExitCode>
             Err(_) => Err(out_of_memory(rt)),
         };
     }
-    let advice = "; is this Latin-1? try --latin1";
-    let table = text_of(rt, asked.table, table.as_slice(), advice)?;
+    let table = text_of(rt, asked.table, table.as_slice(), true)?;
     Ok(merge_texts(rt, asked, template, other, table))
 }
 

@@ -26,7 +26,8 @@ pub enum Trouble {
     NotNumber(usize),
 }
 
-/// A line, by its number from 1, and what is wrong with it. A record is told by its first line.
+/// A line, by its number from 1, and what is wrong with it. A record is told by its first line; but
+/// the names, by line 1, also if a line `sep=;` is above them.
 #[derive(Clone, Copy, Debug)]
 pub struct LineFault {
     pub line: usize,

@@ -25,21 +25,28 @@ pub struct Files<'a> {
     pub escape: Option<Escape>,
 }
 
-/// Fills in the fields of the header; none, if it has a fault.
+/// Fills in the fields of the header; none, if it has a fault. Returns the line in which it begins.
 fn read_header<'a>(
     alloc: Global,
     files: Files<'a>,
     fields: &mut Vec<Field<'a>>,
-) -> Result<(), Error> {
+) -> Result<usize, Error> {
     match Reader::new(files.table, files.separator).next_record(alloc, fields) {
-        Ok(_) => Ok(()),
-        Err(ReadError::Fault(_)) => Ok(()),
+        Ok(line) => Ok(line.unwrap_or(1)),
+        Err(ReadError::Fault(_)) => Ok(1),
         Err(ReadError::NoMemory) => Err(Error::NoMemory),
     }
 }
 
-/// The fault of a line, as a line of text, in a table whose header has `wanted` names.
-fn told_line(alloc: Global, table: &str, fault: LineFault, wanted: usize) -> Result<String, Error> {
+/// The fault of a line, as a line of text, in a table with a header in this line that has `wanted`
+/// names.
+fn told_line(
+    alloc: Global,
+    table: &str,
+    fault: LineFault,
+    header: usize,
+    wanted: usize,
+) -> Result<String, Error> {
     let line = fault.line;
     let told = match fault.trouble {
         Trouble::Broken(broken) => {
@@ -50,10 +57,10 @@ fn told_line(alloc: Global, table: &str, fault: LineFault, wanted: usize) -> Res
         Trouble::Empty => format!(in alloc; "{table}: the table is empty: it has no names\n")?,
         Trouble::Fields(count) => {
             let noun = if count == 1 { "field" } else { "fields" };
-            format!(in alloc; "{table}:{line}: {count} {noun}, but line 1 has {wanted}\n")?
+            format!(in alloc; "{table}:{line}: {count} {noun}, but line {header} has {wanted}\n")?
         }
         Trouble::Twice(column) => format!(in alloc;
-            "{table}:{line}: column {column} has the name of an earlier column\n"
+            "{table}:{header}: column {column} has the name of an earlier column\n"
         )?,
         Trouble::NotNumber(column) => format!(in alloc;
             "{table}:{line}: column {column} wants a number, such as -7 or 12.50\n"
@@ -65,11 +72,11 @@ fn told_line(alloc: Global, table: &str, fault: LineFault, wanted: usize) -> Res
 /// The faults of a table, a line for each.
 fn told_lines(alloc: Global, files: Files<'_>, faults: &[LineFault]) -> Result<String, Error> {
     let mut fields = Vec::new(alloc);
-    read_header(alloc, files, &mut fields)?;
+    let header = read_header(alloc, files, &mut fields)?;
     let wanted = fields.len();
     let mut told = String::new(alloc);
     for fault in faults {
-        let line = told_line(alloc, files.table_name, *fault, wanted)?;
+        let line = told_line(alloc, files.table_name, *fault, header, wanted)?;
         told.push_str(line.as_str())?;
     }
     Ok(told)
@@ -200,9 +207,10 @@ pub fn told(alloc: Global, files: Files<'_>, fault: &Fault) -> Result<String, Er
         }
         Fault::Table(faults) => told_lines(alloc, files, faults.as_slice()),
         Fault::NoColumn => {
+            let line = read_header(alloc, files, &mut Vec::new(alloc))?;
             let table = files.table_name;
             let name = files.column.unwrap_or("");
-            Ok(format!(in alloc; "{table}:1: no column has the name `{name}`\n")?)
+            Ok(format!(in alloc; "{table}:{line}: no column has the name `{name}`\n")?)
         }
         Fault::Stopped => Err(Error::NoMemory),
     }
