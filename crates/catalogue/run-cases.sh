@@ -13,7 +13,7 @@ usage+='[NAME=TEXT | NAME:=NUMBER | NAME:.=DECIMAL | NAME:~=FLOAT | NAME[]=ITEM,
 usage+='catalogue --check [--line | --html] [--] FILE.. | '
 usage+='catalogue --po [--context TEXT] [--line | --html] [--] FILE KEY WORD.. | '
 usage+='catalogue --po --check [--line | --html] [--] FILE..'
-wanted=274
+wanted=275
 . "$here/../../.ci/cases.sh"
 
 # message WANTED WORD..: a message, which goes to standard output, with status 0.
@@ -502,6 +502,7 @@ escape_cases() {
     wrong "$usage" --check --fallback m.txt m.txt
     unread '--html: No such file or directory (os error 2)' -- --html hello
     case_of file file 0 "$(sed -n '/^const HELP/,/^";/p' "$here/src/main.rt" | sed '1d;$d')"$'\n' '' --help
+    case_of file file 0 $'catalogue 0.5.0\n' '' --version
     case_of full file 3 '' $'cannot write: No space left on device (os error 28)\n' --help
 }
 

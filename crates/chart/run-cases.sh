@@ -21,6 +21,7 @@ and whole numbers, of which the second has a bar of 100.
   --latin1       the file is Latin-1, not UTF-8
   --             what follows are the files
   --help         print this, if it is the only word
+  --version      print the version, if it is the only word
 
 chart chart.svg.txt speed.txt >speed.svg
 END
@@ -29,7 +30,7 @@ range='is no whole number from 0 to 18446744073709551615'
 stray='a stray quote: write the field in quotes, and double those in it'
 here=$(cd "$(dirname "$0")" && pwd)
 name=chart
-wanted=61
+wanted=62
 . "$here/../../.ci/cases.sh"
 
 # files TEXT: the format of all cells, and a file with this text.
@@ -120,6 +121,7 @@ other_cases() {
     case_of file file 2 '' "$usage"$'\n' --separator : f t
     case_of file file 2 '' "$usage"$'\n' --help f
     case_of file file 0 "$help" '' --help
+    case_of file file 0 $'chart 0.5.0\n' '' --version
     files $'a,1,2\n'
     cp t ./-t
     case_of file file 0 '146;64,a,50,1,100,2' '' -- f -t

@@ -22,7 +22,7 @@ utf16='this looks like UTF-16: save it as UTF-8'
 greatest=170141183460469231731687303715884105727
 here=$(cd "$(dirname "$0")" && pwd)
 name=merge
-wanted=179
+wanted=180
 . "$here/../../.ci/cases.sh"
 
 # files TEMPLATE TABLE: what stands in the files `t` and `r`.
@@ -388,6 +388,7 @@ other_cases() {
     case_of file file 2 '' "$usage"$'\n' -t r
     case_of file file 2 '' "$usage"$'\n' t --help
     case_of file file 0 "$(sed -n "/^const HELP/,/^\";/p" "$here/src/main.rt" | sed '1d;$d')"$'\n' '' --help
+    case_of file file 0 $'merge 0.5.0\n' '' --version
     case_of file file 2 '' "$usage"$'\n' --separator t r
     case_of file file 2 '' "$usage"$'\n' --separator : t r
     case_of file file 2 '' "$usage"$'\n' --latin1 t

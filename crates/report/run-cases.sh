@@ -26,6 +26,7 @@ Prints the records of a file as a table, with exact totals.
   --csv          write records, not a table
   --             what follows is the file
   --help         print this, if it is the only word
+  --version      print the version, if it is the only word
 
 report --total count,price --group city stock.csv
 END
@@ -40,7 +41,7 @@ next=17014118346046923173168730371588410573
 zeros=0.0000000000000000000000000000000000000000
 here=$(cd "$(dirname "$0")" && pwd)
 name=report
-wanted=118
+wanted=119
 . "$here/../../.ci/cases.sh"
 
 # table WANTED TEXT FLAG..: the report of a file with this text, which goes to the output, with
@@ -272,6 +273,7 @@ other_cases() {
     case_of file file 0 $'a\n1\n' '' -- -t
     case_of file file 0 $'"a"\n"1"\n' '' --csv -- -t
     case_of file file 0 "$help" '' --help
+    case_of file file 0 $'report 0.5.0\n' '' --version
     case_of file file 3 '' $'none: No such file or directory (os error 2)\n' none
     case_of file file 3 '' $'.: Is a directory (os error 21)\n' .
     printf 'a\n1\n' >t

@@ -7,7 +7,7 @@ set -u
 
 here=$(cd "$(dirname "$0")" && pwd)
 name=strangers
-wanted=96
+wanted=97
 . "$here/../../.ci/cases.sh"
 
 usage='usage: strangers [FLAG NUMBER..] FORMAT '
@@ -179,6 +179,7 @@ uses() {
     misused "$usage" --
     misused "$usage" --help x
     case_of file file 0 "$(sed -n "/^const HELP/,/^\";/p" "$here/src/main.rt" | sed '1d;$d')"$'\n' '' --help
+    case_of file file 0 $'strangers 0.5.0\n' '' --version
     prints 'Dear Ann' --text 20 'Dear {name}' name=Ann
     refuses 'characters: 20000, where 10000 are allowed' '{name:>20000}' name=Ann
     misused 'bad word: a' '{' a

@@ -129,6 +129,7 @@ usage: catalogue [--line | --html] [--fallback FILE] [--] FILE KEY WORD..
   --po               files of gettext, whose KEY is a msgid; the number n chooses its form
   --context TEXT     the msgctxt of KEY
   --help             print this
+  --version          print the version
 
 A line of a file is `KEY = FORMAT`, or `KEY(name, count:, price:., x:~, items[]) = FORMAT`, which
 declares a text, a whole number, a decimal, a float and a list. A line that begins with a blank goes
@@ -140,6 +141,8 @@ example: with the line `cart(name, n:) = {name} has {n} items.` in m.txt
 writes
   Ann has 3 items.
 ";
+
+const VERSION: &str = "catalogue 0.5.0\n";
 
 /// Writes the usage line.
 fn tell_usage(rt: &HostRuntime) -> io::Result<u8> {
@@ -166,6 +169,9 @@ fn run(rt: &HostRuntime) -> io::Result<u8> {
     if let [word, ..] = line.as_slice() {
         if word.as_str() == "--help" {
             return status_after(rt, rt.print(HELP));
+        }
+        if word.as_str() == "--version" {
+            return status_after(rt, rt.print(VERSION));
         }
     }
     let Some(asked) = asked_by(line.as_slice()) else {

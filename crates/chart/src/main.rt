@@ -52,9 +52,12 @@ and whole numbers, of which the second has a bar of 100.
   --latin1       the file is Latin-1, not UTF-8
   --             what follows are the files
   --help         print this, if it is the only word
+  --version      print the version, if it is the only word
 
 chart chart.svg.txt speed.txt >speed.svg
 ";
+
+const VERSION: &str = "chart 0.5.0\n";
 
 /// What a table is drawn as.
 #[derive(Drop)]
@@ -323,6 +326,9 @@ fn main(rt: HostRuntime) -> ExitCode {
     if let [word] = words.as_slice() {
         if word.as_str() == "--help" {
             return print_text(&rt, HELP);
+        }
+        if word.as_str() == "--version" {
+            return print_text(&rt, VERSION);
         }
     }
     let Some(asked) = asked_by(words.as_slice()) else {

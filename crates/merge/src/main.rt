@@ -40,10 +40,10 @@
 //! template names by the record. A value in a name has no `/` and makes no part of it `..`, and no
 //! two records give the same name; else this is told of all records, and no letter is written.
 //!
-//! A flag that is given again counts as it was given last; `--` ends the flags, and `--help` as the
-//! first word prints help. The status is 0 if the letters are written, 1 after a fault of a
-//! template or of the table, 2 after wrong use, and 3 after a refused write or for a file that
-//! cannot be read.
+//! A flag that is given again counts as it was given last; `--` ends the flags. `--help` as the
+//! first word prints help, and `--version` the version. The status is 0 if the letters are written,
+//! 1 after a fault of a template or of the table, 2 after wrong use, and 3 after a refused write or
+//! for a file that cannot be read.
 #![tactic(auto)]
 
 ghost use Rattle.std.specs.Prelude.{◌<◌, IfSome, length};
@@ -86,6 +86,7 @@ usage: merge [FLAG..] [--] TEMPLATE TABLE
   --if-empty NAME=TEMPLATE   another template for the records whose field NAME is empty
   --out NAMES                a file for each letter, as 'letters/{name}.txt' names it
   --help                     print this
+  --version                  print the version
 
 The first line of the table names its columns; `price:` names a column of numbers, `price`, and
 `x:~` one of floats, `x`. With --csv, `{x:?}` is a whole field, and with --json a whole value: a
@@ -97,6 +98,8 @@ example: with `Dear {name}, {item} costs {price:.2}.` in letter.txt, and in peop
 the line `merge letter.txt people.csv` writes
   Dear Ann, tea costs 2.50.
 ";
+
+const VERSION: &str = "merge 0.5.0\n";
 
 /// What the command line asks for.
 #[derive(Clone, Copy)]
@@ -366,6 +369,9 @@ fn main(rt: HostRuntime) -> ExitCode {
     if let [word, ..] = words.as_slice() {
         if word.as_str() == "--help" {
             return ended(rt.print(HELP), WRITTEN);
+        }
+        if word.as_str() == "--version" {
+            return ended(rt.print(VERSION), WRITTEN);
         }
     }
     let Some(asked) = asked_by(words.as_slice()) else {

@@ -26,9 +26,13 @@ Prints the records of a file as a table, with exact totals.
   --csv          write records, not a table
   --             what follows is the file
   --help         print this, if it is the only word
+  --version      print the version, if it is the only word
 
 report --total count,price --group city stock.csv
 ";
+
+/// What `--version` writes.
+pub const VERSION: &str = "report 0.5.0\n";
 
 /// What the command line asks for.
 #[derive(Clone, Copy)]

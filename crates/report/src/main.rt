@@ -41,7 +41,7 @@ mod rows;
 mod totals;
 mod widths;
 
-use asked::{Asked, HELP, USAGE, asked_by};
+use asked::{Asked, HELP, USAGE, VERSION, asked_by};
 use columns::{check_names, columns_of, index_of};
 use faults::Faults;
 use input::read_records;
@@ -185,6 +185,9 @@ fn main(rt: HostRuntime) -> ExitCode {
     if let [word] = words.as_slice() {
         if word.as_str() == "--help" {
             return print_text(&rt, HELP);
+        }
+        if word.as_str() == "--version" {
+            return print_text(&rt, VERSION);
         }
     }
     match asked_by(words.as_slice()) {

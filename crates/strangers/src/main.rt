@@ -5,8 +5,8 @@
 //! `--text` and `--items` limit the characters of a text or a decimal and the items of a list among
 //! the values: 80 and 20 by default. `--characters`, `--pieces` and `--buffered` limit the cost of
 //! the format with such values: 10000, 1000 and 10000. Put `--` before a format that begins with
-//! `--`; `--help` as the only word prints help. A float, `NAME:~=FLOAT` in other programs, is a bad
-//! word: its text may be longer than any limit.
+//! `--`; `--help` as the only word prints help, `--version` the version. A float, `NAME:~=FLOAT` in
+//! other programs, is a bad word: its text may be longer than any limit.
 #![tactic(auto)]
 
 mod answering;
@@ -39,10 +39,13 @@ usage: strangers [FLAG NUMBER..] [--] FORMAT
   --buffered N    the most characters that may be held: 10000
   --              before a format that begins with `--`
   --help          print this, if it is the only word
+  --version       print the version, if it is the only word
 
 example: strangers --text 20 'Dear {name}' name=Ann
   Dear Ann
 ";
+
+const VERSION: &str = "strangers 0.5.0\n";
 
 const REJECTED: u8 = 1;
 
@@ -98,18 +101,26 @@ fn tell(rt: &HostRuntime, answer: &Answer) -> io::Result<u8> {
     }
 }
 
-/// Whether the words ask for help alone.
-fn is_help(words: &[String]) -> bool {
-    match words {
-        [word] => word.as_str() == "--help",
-        _ => false,
+/// What is printed for a word alone that asks for help or the version.
+fn told_alone(words: &[String]) -> Option<&'static str> {
+    let [word] = words else {
+        return None;
+    };
+    if word.as_str() == "--help" {
+        return Some(HELP);
     }
+    if word.as_str() == "--version" {
+        return Some(VERSION);
+    }
+    None
 }
 
 fn main(rt: HostRuntime) -> ExitCode {
     let answer = match arguments(&rt) {
-        Ok(line) if is_help(line.as_slice()) => return ended(rt.print(HELP), WRITTEN),
-        Ok(line) => answered(rt.alloc(), line.as_slice()),
+        Ok(line) => match told_alone(line.as_slice()) {
+            Some(text) => return ended(rt.print(text), WRITTEN),
+            None => answered(rt.alloc(), line.as_slice()),
+        },
         Err(error) if error.kind() == io::ErrorKind::OutOfMemory => Err(Error::NoMemory),
         // An argument is not UTF-8.
         Err(_) => Ok(Answer::BadUse),
