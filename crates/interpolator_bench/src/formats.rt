@@ -1,7 +1,7 @@
 //! Formats whose context is made once.
 
 use crate::failure::Failure;
-use crate::uses::{How, repeat_format};
+use crate::uses::{How, repeat_format, repeat_in_map};
 use interpolator::{Formattable, Pairs, Value, View};
 use std::alloc::{AllocError, Global};
 
@@ -188,7 +188,7 @@ pub fn number_names<V: Value>(
     for (name, number) in NUMBER_NAMES.iter().zip(numbers) {
         pairs.push((*name, Formattable::integer(number)))?;
     }
-    repeat_format(alloc, how, format.as_str(), &Pairs(&pairs), repeats)
+    repeat_in_map(alloc, how, format.as_str(), &Pairs(&pairs), repeats)
 }
 
 /// A format that uses eighteen names, with texts.
@@ -198,7 +198,7 @@ pub fn text_names(alloc: Global, how: How, repeats: u32) -> Result<String, Failu
     for (name, text) in TEXT_NAMES.iter().zip(&TEXTS) {
         pairs.push((*name, Formattable::display(text)))?;
     }
-    repeat_format(alloc, how, format.as_str(), &Pairs(&pairs), repeats)
+    repeat_in_map(alloc, how, format.as_str(), &Pairs(&pairs), repeats)
 }
 
 /// Copies of a text, as a format that uses no names.

@@ -1,7 +1,9 @@
 //! Uses of a format, again and again.
 
 use crate::failure::Failure;
-use interpolator::{Error, Interpolate, Pairs, Prepared, Row, Template, TextBuffer, Value};
+use interpolator::{
+    ContextMap, Error, Interpolate, Pairs, Prepared, Row, Template, TextBuffer, Value,
+};
 use std::alloc::Global;
 
 /// How a format is used.
@@ -32,56 +34,74 @@ pub fn repeat_format<V: Value>(
     match how {
         How::Format => repeat_new(alloc, format, pairs, repeats),
         How::Write => repeat_write(alloc, format, pairs, repeats),
-        How::Template => {
-            let template = Template::parse(alloc, format)?;
-            repeat_template(alloc, &template, pairs, repeats)
-        }
+        How::Template => repeat_template(alloc, format, pairs, repeats),
         How::Prepared => repeat_prepared(alloc, format, pairs, repeats),
         How::Parse => repeat_parse(alloc, format, repeats),
         How::Prepare => repeat_prepare(alloc, format, pairs, repeats),
     }
 }
 
-// Formats each time into a new text.
-fn repeat_new<V: Value>(
+/// Uses a format `repeats` times over a map of the pairs, which is made once.
+pub fn repeat_in_map<V: Value>(
     alloc: Global,
+    how: How,
     format: &str,
     pairs: &Pairs<'_, V>,
     repeats: u32,
 ) -> Result<String, Failure> {
+    let mut map = ContextMap::new(alloc);
+    for (name, value) in pairs.0 {
+        map.put(name, *value)?;
+    }
+    match how {
+        How::Format => repeat_new(alloc, format, &map, repeats),
+        How::Write => repeat_write(alloc, format, &map, repeats),
+        How::Template => repeat_template(alloc, format, &map, repeats),
+        _ => repeat_format(alloc, how, format, pairs, repeats),
+    }
+}
+
+// Formats each time into a new text.
+fn repeat_new<C: Interpolate>(
+    alloc: Global,
+    format: &str,
+    context: &C,
+    repeats: u32,
+) -> Result<String, Failure> {
     let mut text = String::new(alloc);
     for _ in 0..repeats {
-        text = pairs.format(alloc, format)?;
+        text = context.format(alloc, format)?;
     }
     Ok(text)
 }
 
 // Writes the format anew in the same buffer.
-fn repeat_write<V: Value>(
+fn repeat_write<C: Interpolate>(
     alloc: Global,
     format: &str,
-    pairs: &Pairs<'_, V>,
+    context: &C,
     repeats: u32,
 ) -> Result<String, Failure> {
     let mut out = TextBuffer::new(alloc);
     for _ in 0..repeats {
         out.clear();
-        pairs.write_to(alloc, &mut out, format)?;
+        context.write_to(alloc, &mut out, format)?;
     }
     Ok(out.into_string())
 }
 
 // Writes the template anew in the same buffer.
-fn repeat_template<V: Value>(
+fn repeat_template<C: Interpolate>(
     alloc: Global,
-    template: &Template,
-    pairs: &Pairs<'_, V>,
+    format: &str,
+    context: &C,
     repeats: u32,
 ) -> Result<String, Failure> {
+    let template = Template::parse(alloc, format)?;
     let mut out = TextBuffer::new(alloc);
     for _ in 0..repeats {
         out.clear();
-        pairs.write_template_to(alloc, &mut out, template)?;
+        context.write_template_to(alloc, &mut out, &template)?;
     }
     Ok(out.into_string())
 }

@@ -6,5 +6,6 @@ pub mod RowLemmas
 mod LoanLemmas
 mod NameLemmas
 mod PairLemmas
+mod PlaceLemmas
 mod SlotLemmas
 mod SlotNameLemmas

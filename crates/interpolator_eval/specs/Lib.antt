@@ -12,4 +12,5 @@ pub mod Contexts
 pub mod Escaping
 pub mod NameMaps
 pub mod Names
+pub mod NameNumbers
 pub mod Rows

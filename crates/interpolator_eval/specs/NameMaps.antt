@@ -1,23 +1,29 @@
 -- A map from names, which are lists of characters, and what a loan of a value leaves in it.
 use Rattle.std.specs.Prelude.{◌≡◌, ◌≢◌, ℕ, ◌+◌, List, Option, Some, Result, MatchOption, is_some}
-use Rattle.std.specs.Prelude.{if◌then◌else◌}
-use Rattle.std.specs.Option.{option_map, OnSome}
-use Rattle.std.specs.Str.{encode_utf8_all}
+use Rattle.std.specs.Prelude.{if◌then◌else◌, length, false}
+use Rattle.std.specs.Option.{option_map, option_or, OnSome}
+use Rattle.std.specs.Str.{bytes_eq, encode_utf8_all}
 use Rattle.std.specs.HashMap.{hash_map_len, get_by_text}
 use Rattle.std.specs.Borrow.{LendsSo, LendsSoOk, Fml, RattleType, MutBor}
 use Rattle.interpolator_eval.specs.Slots.{Slots, slots_of}
+use Rattle.interpolator_eval.specs.NameNumbers.{first_of}
 use Rattle.interpolator_eval.specs.declared.slots.Formattable.{Formattable}
 use Rattle.interpolator_eval.specs.declared.context_map.NameMap.{NameMap}
 use Rattle.interpolator_eval.specs.contracts.context_map.NameMap.{the_row}
 
 module _ {T : Type 0} where
+  -- the value under the bytes of a name, among the few names or among the rest
+  abbrev pub under_bytes : NameMap T → List ℕ → Option T
+  under_bytes map name =
+      option_or (first_of map.few.items name) (get_by_text map.rest name)
+
   -- the value under the name
   abbrev pub under : NameMap T → List ℕ → Option T
-  under map name = get_by_text map.map (encode_utf8_all name)
+  under map name = under_bytes map (encode_utf8_all name)
 
   -- how many names the map has
   abbrev pub name_count : NameMap T → ℕ
-  name_count map = hash_map_len map.map
+  name_count map = length map.few.items + hash_map_len map.rest
 
   -- `new` is `old` with the value under the name, which counts once
   pub record HasPut (old : NameMap T) (name : List ℕ) (value : T) (new : NameMap T) : Type 0 where
@@ -29,6 +35,16 @@ module _ {T : Type 0} where
   pub record IsSame (old new : NameMap T) : Type 0 where
     pub finds : (name : List ℕ) → under new name ≡ under old name
     pub count : name_count new ≡ name_count old
+
+  -- a name of these bytes was put in with a default value
+  pub record HasNew (IsDefault : T → Type 0) (old : NameMap T) (bytes : List ℕ)
+      (new : NameMap T) : Type 0 where
+    pub value : T
+    pub fresh : IsDefault value
+    pub here : under_bytes new bytes ≡ Some value
+    pub others : (other : List ℕ) → bytes_eq other bytes ≡ false
+        → under_bytes new other ≡ under_bytes old other
+    pub count : name_count new ≡ name_count old + 1
 
   -- an absent name was put in with a default value; if the name was there, nothing changed
   abbrev pub HasAdded : (T → Type 0) → NameMap T → List ℕ → NameMap T → Type 0

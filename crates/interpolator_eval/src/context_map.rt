@@ -3,11 +3,14 @@ ghost use Rattle.std.specs.Prelude.{◌≡◌, ◌↔◌, ℕ, List, None, Some,
 ghost use Rattle.std.specs.Prelude.{IfOk, IfErr, OnOk, OnErr};
 ghost use Rattle.std.specs.Option.{option_copied, option_copied_mut};
 ghost use Rattle.std.specs.Str.{chars};
+ghost use Rattle.std.specs.String.{string_bytes};
 ghost use Rattle.std.specs.Borrow.{sem};
-ghost use Rattle.interpolator_eval.specs.NameMaps.{under, name_count, stored_slots, HasPut, IsSame};
-ghost use Rattle.interpolator_eval.specs.NameMaps.{HasAdded, IsEntry, LendsUnder, LendsEntry};
+ghost use Rattle.interpolator_eval.specs.NameMaps.{under, under_bytes, name_count, stored_slots};
+ghost use Rattle.interpolator_eval.specs.NameMaps.{HasPut, IsSame, HasAdded, HasNew, IsEntry};
+ghost use Rattle.interpolator_eval.specs.NameMaps.{LendsUnder, LendsEntry};
 
 use crate::context::{Context, copied};
+use crate::numbered::{Numbered, number_of, place_of};
 use crate::slots::Formattable;
 use interpolator_render::Value;
 use interpolator_syntax::Error;
@@ -27,11 +30,16 @@ use std::marker::PhantomData;
 /// ```
 pub type ContextMap<'a, V> = NameMap<Formattable<'a, V>>;
 
+// How many names are found by their numbers; further ones are in a map.
+const FEW: usize = 32;
+
 /// A map from names, which are compared by their characters. It keeps the allocator that `new`
-/// takes, and copies each name that is put in.
+/// takes, and copies each name that is put in. The first 32 names are found in less time than those
+/// of a `HashMap`.
 #[derive(Drop)]
 pub struct NameMap<T> {
-    map: HashMap<String, T>,
+    few: Vec<Numbered<T>>,
+    rest: HashMap<String, T>,
     alloc: Global,
     of: PhantomData<T>,
 }
@@ -43,7 +51,8 @@ impl<T> NameMap<T> {
         ensures count { name_count result ≡ 0 }
     {
         NameMap {
-            map: HashMap::new(alloc),
+            few: Vec::new(alloc),
+            rest: HashMap::new(alloc),
             alloc,
             of: PhantomData,
         }
@@ -53,22 +62,26 @@ impl<T> NameMap<T> {
     pub fn len(&self) -> usize
         ensures { result ≡ name_count self.now }
     {
-        self.map.len()
+        self.few.len() + self.rest.len()
     }
 
     /// Returns whether the map has no names.
     pub fn is_empty(&self) -> bool
         ensures { IsTrue result ↔ (name_count self.now ≡ 0) }
     {
-        self.map.is_empty()
+        self.few.is_empty() && self.rest.is_empty()
     }
 
-    // Finds the value under a name.
-    #[inline(always)]
+    // Finds the value under a name. It is not inlined, so that each use of a name is a short call.
+    #[inline(never)]
     fn find(&self, name: &str) -> Option<&T>
         ensures { option_copied result ≡ under self.now (chars name.now) }
     {
-        self.map.get(name)
+        let place = place_of(&self.few, name);
+        if place < self.few.len() {
+            return Some(&self.few[place].value);
+        }
+        self.rest.get(name)
     }
 
     // Lends the value under a name, to be changed.
@@ -76,12 +89,54 @@ impl<T> NameMap<T> {
         ensures* writes_back { sem 𝓛 (LendsUnder T.row self.entry (chars name.now) result) }
         ensures value { option_copied_mut result ≡ under self.old (chars name.now) }
     {
-        self.map.get_mut(name)
+        let place = place_of(&self.few, name);
+        if place < self.few.len() {
+            return Some(&mut self.few[place].value);
+        }
+        self.rest.get_mut(name)
     }
 }
 
 impl<T: Default + Drop> NameMap<T> {
-    // Puts an absent name in, with a default value.
+    // Puts an absent name in among the few, with a default value.
+    fn add_few(&mut self, name: String) -> Result<(), AllocError>
+        requires absent { under_bytes self.now (string_bytes name) ≡ None }
+        ensures ok { OnOk result (HasNew T.is_default self.old (string_bytes name) self.new) }
+        ensures err { OnErr result (IsSame self.old self.new) }
+    {
+        let number = number_of(name.as_bytes());
+        self.few.push(Numbered {
+            number,
+            name,
+            value: T::default(),
+        })?;
+        Ok(())
+    }
+
+    // Puts an absent name in among the rest, with a default value.
+    fn add_rest(&mut self, name: String) -> Result<(), AllocError>
+        requires absent { under_bytes self.now (string_bytes name) ≡ None }
+        ensures ok { OnOk result (HasNew T.is_default self.old (string_bytes name) self.new) }
+        ensures err { OnErr result (IsSame self.old self.new) }
+    {
+        self.rest.insert(name, T::default())?;
+        Ok(())
+    }
+
+    // Puts an absent name in, among the few as long as there is room.
+    fn add_new(&mut self, name: String) -> Result<(), AllocError>
+        requires absent { under_bytes self.now (string_bytes name) ≡ None }
+        ensures ok { OnOk result (HasNew T.is_default self.old (string_bytes name) self.new) }
+        ensures err { OnErr result (IsSame self.old self.new) }
+    {
+        if self.few.len() < FEW {
+            self.add_few(name)
+        } else {
+            self.add_rest(name)
+        }
+    }
+
+    // Puts a name in, with a default value, if it is absent.
     #[tactic(auto, using(crate::proofs::LoanLemmas::absent_name))]
     fn add(&mut self, name: &str) -> Result<(), AllocError>
         ensures ok { OnOk result (HasAdded T.is_default self.old (chars name.now) self.new) }
@@ -92,8 +147,7 @@ impl<T: Default + Drop> NameMap<T> {
             return Ok(());
         }
         let key = String::from_str(self.alloc, name)?;
-        self.map.insert(key, T::default())?;
-        Ok(())
+        self.add_new(key)
     }
 
     // Lends the value under a name, which is put in first if it is absent.

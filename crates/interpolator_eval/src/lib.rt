@@ -17,6 +17,7 @@ mod evaluate;
 mod field_names;
 pub mod laws;
 mod names;
+mod numbered;
 mod pairs;
 mod piece_count;
 mod rows;
