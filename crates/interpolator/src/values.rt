@@ -10,7 +10,7 @@ ghost use Rattle.interpolator.specs.NamedValues.{pairs_of};
 ghost use Rattle.interpolator.specs.declared.values.NamedView.{NamedView};
 
 use crate::interpolate::Interpolate;
-use interpolator_eval::{Context, Formattable};
+use interpolator_eval::{Context, Formattable, same_name};
 use interpolator_render::{Trait, View};
 
 /// A name and what it stands for: a value in the slots of some traits, or a list.
@@ -139,7 +139,7 @@ fn last_named<'s, 'a>(values: &'s [NamedValue<'a>], name: &str) -> Option<&'s Na
     ensures { option_copied result
         ≡ find (λ value. bytes_eq name.now value.name.now) (reverse values.now) }
 {
-    values.iter().rev().find(|value| value.name == name)
+    values.iter().rev().find(|value| same_name(value.name, name))
 }
 
 /// The most names in one row.
