@@ -6,7 +6,7 @@ ghost use Rattle.std.specs.Str.{encode_utf8_all};
 ghost use Rattle.interpolator_syntax.specs.Nodes.{as_forest};
 ghost use Rattle.interpolator_prepared.specs.Programs.{argument_step, node_position, program};
 ghost use Rattle.interpolator_prepared.specs.Programs.{text_step, value_step, whole_step};
-ghost use Rattle.interpolator_prepared.specs.Rows.{last_position, name_bytes};
+ghost use Rattle.interpolator_prepared.specs.Rows.{HasPositions, last_position, name_bytes};
 ghost use Rattle.interpolator_prepared.specs.StoredSteps.{first_step, is_text, kept_step, step_of};
 ghost use Rattle.interpolator_prepared.specs.StoredSteps.{steps_of};
 ghost use Rattle.interpolator_prepared.specs.StoredSteps.{text_count, texts_after, texts_placed};
@@ -16,7 +16,7 @@ ghost use Rattle.interpolator_pieces.specs.declared.piece.Form.TheVariants as fo
 
 use crate::joined::join;
 use crate::lists::{list_pieces, made_list};
-use crate::name_index::{FEW, NameIndex, positions_of};
+use crate::name_index::{FEW, NameIndex, Names, positions_of};
 use crate::step::{Part, Step, ValueSpec};
 use interpolator_pieces::{
     Form, Piece, copy_piece, form_of, part_of, spec_end_of, spec_of, text_of,
@@ -24,6 +24,7 @@ use interpolator_pieces::{
 use interpolator_render::Trait;
 use interpolator_syntax::{PieceKind, Range};
 use std::alloc::{AllocError, Global};
+use std::collections::HashMap;
 
 /// The most steps for which room is made at the beginning: half as many as there are pieces, since
 /// most have text before a value.
@@ -41,22 +42,54 @@ pub fn compile(
         ≡ map Some (program (name_bytes names.now) (nodes_of text.now pieces.now))) }
 {
     if names.len() <= FEW {
-        return compile_by(alloc, text, &NameIndex::few(names), pieces);
+        return compile_by(alloc, text, names, pieces);
     }
-    let positions = positions_of(alloc, names)?;
-    compile_by(alloc, text, &NameIndex::many(names, &positions), pieces)
+    compile_many(alloc, text, names, pieces)
 }
 
-/// The steps of the pieces of a text, by an index of the names.
-fn compile_by(
+/// As [`compile`], for many names: each is put into a map first. It stays out of the way of few.
+#[cold]
+#[inline(never)]
+fn compile_many(
     alloc: Global,
     text: &str,
-    names: &NameIndex<'_, '_>,
+    names: &[String],
     pieces: &[Piece],
 ) -> Result<Vec<Step>, AllocError>
     requires whole { forest_whole (as_forest (nodes_of text.now pieces.now)) ≡ true }
     ensures program { IfOk result (λ made. flat_map (steps_of text.now) made.items
-        ≡ map Some (program names.now (nodes_of text.now pieces.now))) }
+        ≡ map Some (program (name_bytes names.now) (nodes_of text.now pieces.now))) }
+{
+    let positions = positions_of(alloc, names)?;
+    compile_mapped(alloc, text, names, &positions, pieces)
+}
+
+/// The steps of the pieces of a text, for names whose last positions are in a map.
+fn compile_mapped(
+    alloc: Global,
+    text: &str,
+    names: &[String],
+    positions: &HashMap<&str, usize>,
+    pieces: &[Piece],
+) -> Result<Vec<Step>, AllocError>
+    requires positions { HasPositions (name_bytes names.now) positions.now }
+    requires whole { forest_whole (as_forest (nodes_of text.now pieces.now)) ≡ true }
+    ensures program { IfOk result (λ made. flat_map (steps_of text.now) made.items
+        ≡ map Some (program (name_bytes names.now) (nodes_of text.now pieces.now))) }
+{
+    compile_by(alloc, text, &NameIndex::new(names, positions), pieces)
+}
+
+/// The steps of the pieces of a text, for names that are found by a map or by a search.
+fn compile_by<N: Names>(
+    alloc: Global,
+    text: &str,
+    names: N,
+    pieces: &[Piece],
+) -> Result<Vec<Step>, AllocError>
+    requires whole { forest_whole (as_forest (nodes_of text.now pieces.now)) ≡ true }
+    ensures program { IfOk result (λ made. flat_map (steps_of text.now) made.items
+        ≡ map Some (program (N.known names) (nodes_of text.now pieces.now))) }
 {
     let mut made = Vec::with_capacity(alloc, (pieces.len() / 2 + 1).min(MOST_ROOM))?;
     let mut left = pieces;
@@ -68,10 +101,10 @@ fn compile_by(
 
 /// Adds the step of the first piece, with the text after it if it is text, and with the argument
 /// after that. Returns the pieces that are left.
-fn add_first<'p>(
+fn add_first<'p, N: Names>(
     alloc: Global,
     text: &str,
-    names: &NameIndex<'_, '_>,
+    names: N,
     made: &mut Vec<Step>,
     pieces: &'p [Piece],
 ) -> Result<&'p [Piece], AllocError>
@@ -81,9 +114,9 @@ fn add_first<'p>(
     ensures shorter { 0 < length pieces.now
         → IfOk result (λ left. length left.now < length pieces.now) }
     ensures added { IfOk result (λ left. flat_map (steps_of text.now) made.new.items
-        ++ map Some (program names.now (nodes_of text.now left.now))
+        ++ map Some (program (N.known names) (nodes_of text.now left.now))
         ≡ flat_map (steps_of text.now) made.old.items
-        ++ map Some (program names.now (nodes_of text.now pieces.now))) }
+        ++ map Some (program (N.known names) (nodes_of text.now pieces.now))) }
 {
     let Some((piece, after)) = pieces.split_first() else {
         return Ok(pieces);
@@ -171,17 +204,17 @@ fn push_pair(made: &mut Vec<Step>, first: Step, second: Step) -> Result<(), Allo
 
 /// The step of a piece, and of the text after it if it is text.
 #[inline(always)]
-fn first_step(
+fn first_step<N: Names>(
     alloc: Global,
     text: &str,
-    names: &NameIndex<'_, '_>,
+    names: N,
     piece: &Piece,
     texts: &[Piece],
 ) -> Result<Step, AllocError>
     requires whole { node_whole (node_of text.now piece.now) ≡ true }
     requires texts { All (λ piece. IsSome (stored_part text.now piece)) texts.now }
     ensures step { IfOk result (λ step. step_of text.now step
-        ≡ Some (first_step text.now names.now piece.now texts.now)) }
+        ≡ Some (first_step text.now (N.known names) piece.now texts.now)) }
 {
     if is_text(piece) {
         return text_step(alloc, text, piece, texts);
@@ -206,15 +239,16 @@ fn text_step(alloc: Global, text: &str, piece: &Piece, texts: &[Piece]) -> Resul
 
 /// The step of an argument: the value at the position of its name, or a copy of its piece.
 #[inline(always)]
-fn argument_step(
+fn argument_step<N: Names>(
     alloc: Global,
     text: &str,
-    names: &NameIndex<'_, '_>,
+    names: N,
     piece: &Piece,
 ) -> Result<Step, AllocError>
     requires whole { node_whole (node_of text.now piece.now) ≡ true }
     ensures step { IfOk result (λ step. let x = node_of text.now piece.now in
-        step_of text.now step ≡ Some (argument_step names.now (node_position names.now x) x)) }
+        let known = N.known names in
+        step_of text.now step ≡ Some (argument_step known (node_position known x) x)) }
 {
     match position_of(text, names, piece) {
         Some(position) => match form_of(piece) {
@@ -285,9 +319,9 @@ fn kept(alloc: Global, piece: &Piece) -> Result<Step, AllocError>
 }
 
 /// The position of the name of a closed argument that asks for a value, if it is one of the names.
-fn position_of(text: &str, names: &NameIndex<'_, '_>, piece: &Piece) -> Option<usize>
+fn position_of<N: Names>(text: &str, names: N, piece: &Piece) -> Option<usize>
     requires whole { node_whole (node_of text.now piece.now) ≡ true }
-    ensures { result ≡ node_position names.now (node_of text.now piece.now) }
+    ensures { result ≡ node_position (N.known names) (node_of text.now piece.now) }
 {
     match piece.kind {
         PieceKind::Closed => match form_of(piece) {
@@ -306,10 +340,10 @@ fn position_of(text: &str, names: &NameIndex<'_, '_>, piece: &Piece) -> Option<u
 }
 
 /// The position of the name of an argument, if it is one of the names.
-fn position_in(text: &str, names: &NameIndex<'_, '_>, piece: &Piece) -> Option<usize>
+fn position_in<N: Names>(text: &str, names: N, piece: &Piece) -> Option<usize>
     requires fits { IsSome (stored_name text.now piece.now) }
     ensures position { (name : List ℕ) → stored_name text.now piece.now ≡ Some name
-        → result ≡ last_position names.now (encode_utf8_all name) }
+        → result ≡ last_position (N.known names) (encode_utf8_all name) }
 {
     names.find(text_of(text, piece))
 }

@@ -13,22 +13,40 @@ pub const FEW: usize = 32;
 
 /// The names of a format, in order. Among few a name is sought from the last to the first; of many
 /// each is put into a map, once, so that a format takes no time that grows with their square.
-#[derive(Drop)]
-pub struct NameIndex<'m, 'n> {
-    names: &'n [String],
-    // the last position of each name, if there are many
-    positions: Option<&'m HashMap<&'n str, usize>>,
+pub trait Names: Copy {
+    // the names, in order
+    ghost known: { Self → List (List ℕ) };
+
+    /// The last position of a name.
+    fn find(self, name: &str) -> Option<usize>
+        ensures { result ≡ last_position (known self) name.now };
 }
 
-impl<'m, 'n> Model for NameIndex<'m, 'n> {
-    ghost use Rattle.std.specs.Prelude.{IfSome, List, ℕ};
+impl<'n> Names for &'n [String] {
+    ghost known = { λ names. name_bytes names.now };
+
+    #[inline(always)]
+    fn find(self, name: &str) -> Option<usize> {
+        last_position(self, name)
+    }
+}
+
+/// Many names, and the last position of each.
+#[derive(Drop)]
+pub struct NameIndex<'m> {
+    names: &'m [String],
+    positions: &'m HashMap<&'m str, usize>,
+}
+
+impl<'m> Model for NameIndex<'m> {
+    ghost use Rattle.std.specs.Prelude.{List, ℕ};
     ghost use Rattle.interpolator_prepared.specs.Rows.{HasPositions, name_bytes};
 
     ghost Value = { List (List ℕ) };
 
     ghost view = { λ x. name_bytes x.names.now };
 
-    ghost invariant = { λ x. IfSome x.positions (λ m. HasPositions (name_bytes x.names.now) m.now) };
+    ghost invariant = { λ x. HasPositions (name_bytes x.names.now) x.positions.now };
 }
 
 /// Puts one more name into a map of the last positions of those before it.
@@ -61,38 +79,21 @@ pub fn positions_of<'n>(
     Ok(positions)
 }
 
-impl<'m, 'n> NameIndex<'m, 'n> {
-    /// Few names, in which one is sought from the last to the first.
-    #[inline(always)]
-    pub fn few(names: &'n [String]) -> Self
-        ensures { result ≡ name_bytes names.now }
-    {
-        NameIndex {
-            names,
-            positions: None,
-        }
-    }
-
+impl<'m> NameIndex<'m> {
     /// Names, and the last position of each.
-    #[inline(always)]
-    pub fn many(names: &'n [String], positions: &'m HashMap<&'n str, usize>) -> Self
+    pub fn new(names: &'m [String], positions: &'m HashMap<&'m str, usize>) -> Self
         requires positions { HasPositions (name_bytes names.now) positions.now }
         ensures { result ≡ name_bytes names.now }
     {
-        NameIndex {
-            names,
-            positions: Some(positions),
-        }
+        NameIndex { names, positions }
     }
+}
 
-    /// The last position of a name.
+impl<'m> Names for &'m NameIndex<'m> {
+    ghost known = { λ index. index.now };
+
     #[inline(always)]
-    pub fn find(&self, name: &str) -> Option<usize>
-        ensures { result ≡ last_position self.now name.now }
-    {
-        match self.positions {
-            Some(positions) => positions.get(name).copied(),
-            None => last_position(self.names, name),
-        }
+    fn find(self, name: &str) -> Option<usize> {
+        self.positions.get(name).copied()
     }
 }

@@ -3,14 +3,14 @@ use Rattle.interpolator_prepared.proofs.CompileLemmas.{two_added, texts_after_fi
 use Rattle.interpolator_prepared.proofs.compile.add_first.Goals as goal
 
 pub first_step-requires-clause-texts : goal.first_step-requires-clause-texts
-first_step-requires-clause-texts c =
+first_step-requires-clause-texts g c =
     rw (c.split_at.ensures.front, c.texts_after.ensures.count)
-    (texts_after_fit c.args.names.now c.args.text.now c.in-Some.piece.now
+    (texts_after_fit (g.N.Names.known c.args.names) c.args.text.now c.in-Some.piece.now
     c.in-Some.after.now (rw c.in-Some.ensures.cases.0 at c.requires.whole))
 
 pub argument_step-requires : goal.argument_step-requires
-argument_step-requires c =
-    let names = c.args.names.now in
+argument_step-requires g c =
+    let names = g.N.Names.known c.args.names in
     let left = rest_whole names c.args.text.now _ c.in-Some.piece.now c.in-Some.after.now
     c.split_at.result.1.now c.texts_after.result c.in-Some.ensures.cases.0
     c.texts_after.ensures.count c.split_at.ensures.back c.requires.whole in
@@ -20,8 +20,8 @@ argument_step-requires c =
     }
 
 pub returns-in-Some-split_first-clause-whole : goal.returns-in-Some-split_first-clause-whole
-returns-in-Some-split_first-clause-whole c =
-    let names = c.args.names.now in
+returns-in-Some-split_first-clause-whole g c =
+    let names = g.N.Names.known c.args.names in
     let left = rest_whole names c.args.text.now _ c.in-Some.piece.now c.in-Some.after.now
     c.split_at.result.1.now c.texts_after.result c.in-Some.ensures.cases.0
     c.texts_after.ensures.count c.split_at.ensures.back c.requires.whole in
@@ -29,8 +29,8 @@ returns-in-Some-split_first-clause-whole c =
     c.in-Some-split_first.left.now (rw c.in-Some-split_first.ensures.cases.0 at left)).1
 
 pub returns-in-Some-split_first-clause-added : goal.returns-in-Some-split_first-clause-added
-returns-in-Some-split_first-clause-added c =
-    two_added c.args.names.now c.args.text.now _ c.in-Some.piece.now
+returns-in-Some-split_first-clause-added g c =
+    two_added (g.N.Names.known c.args.names) c.args.text.now _ c.in-Some.piece.now
     c.in-Some.after.now c.split_at.result.1.now c.texts_after.result c.in-Some.ensures.cases.0
     c.texts_after.ensures.count c.split_at.ensures.back c.requires.whole _ _ c.in_ok-step.step
     (rw (c.split_at.ensures.front, c.texts_after.ensures.count) at c.in_ok-step.ensures.step)
@@ -40,14 +40,14 @@ returns-in-Some-split_first-clause-added c =
     (c.in_ok-push_pair.ensures.pushed c.args.text.now)
 
 pub returns-clause-whole : goal.returns-clause-whole
-returns-clause-whole c =
-    rest_whole c.args.names.now c.args.text.now _ c.in-Some.piece.now
+returns-clause-whole g c =
+    rest_whole (g.N.Names.known c.args.names) c.args.text.now _ c.in-Some.piece.now
     c.in-Some.after.now c.split_at.result.1.now c.texts_after.result c.in-Some.ensures.cases.0
     c.texts_after.ensures.count c.split_at.ensures.back c.requires.whole
 
 pub returns-clause-added : goal.returns-clause-added
-returns-clause-added c =
-    one_added c.args.names.now c.args.text.now _ c.in-Some.piece.now
+returns-clause-added g c =
+    one_added (g.N.Names.known c.args.names) c.args.text.now _ c.in-Some.piece.now
     c.in-Some.after.now c.split_at.result.1.now c.texts_after.result c.in-Some.ensures.cases.0
     c.texts_after.ensures.count c.split_at.ensures.back c.requires.whole _ _ c.in_ok-step.step
     (rw (c.split_at.ensures.front, c.texts_after.ensures.count) at c.in_ok-step.ensures.step)

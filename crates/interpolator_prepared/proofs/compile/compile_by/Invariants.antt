@@ -7,13 +7,13 @@ use Rattle.interpolator_prepared.proofs.compile.compile_by.Given as goal
 
 -- the steps so far, and those of the pieces that are left, are the program of all
 abbrev pub invariant-loop-left : goal.invariant-loop-left
-invariant-loop-left l =
+invariant-loop-left g l =
     record {
       whole : forest_whole (as_forest (nodes_of l.text l.left)) ≡ true;
       goes_on : flat_map (steps_of l.text) l.made.items
-          ++ map Some (program l.names (nodes_of l.text l.left))
-          ≡ map Some (program l.names (nodes_of l.text l.pieces));
+          ++ map Some (program (g.N.Names.known l.names) (nodes_of l.text l.left))
+          ≡ map Some (program (g.N.Names.known l.names) (nodes_of l.text l.pieces));
     }
 
 abbrev pub decreases-loop-left : goal.decreases-loop-left
-decreases-loop-left l = length l.left
+decreases-loop-left g l = length l.left

@@ -9,7 +9,7 @@ use Rattle.interpolator_prepared.proofs.CompileLemmas.{named_part}
 use Rattle.interpolator_prepared.proofs.compile.position_in.Goals as goal
 
 pub returns : goal.returns
-returns c = record {
+returns g c = record {
   position = λ name is.
       let bytes = c.text_of.result.now in
       let x = c.args.piece.now in
@@ -18,6 +18,6 @@ returns c = record {
       let told : Some (chars bytes) ≡ Some name = c.text_of.ensures.text ∙ whole in
       let same : chars bytes ≡ name = cc in
       c.find.ensures
-      ∙ ap (last_position c.args.names.now)
+      ∙ ap (last_position (g.N.Names.known c.args.names))
       (sym (encodes-chars bytes c.text_of.utf8) ∙ ap encode_utf8_all same);
 }
