@@ -22,7 +22,7 @@ utf16='this looks like UTF-16: save it as UTF-8'
 greatest=170141183460469231731687303715884105727
 here=$(cd "$(dirname "$0")" && pwd)
 name=merge
-wanted=180
+wanted=188
 . "$here/../../.ci/cases.sh"
 
 # files TEMPLATE TABLE: what stands in the files `t` and `r`.
@@ -356,6 +356,67 @@ large_cases() {
     fi
 }
 
+# A template that names each of more columns than the names could be compared with one by one; then
+# of as many as go into a map, with each growth refused.
+column_cases() {
+    { seq 300000 | paste -sd , -; seq 6 300005 | paste -sd , -; } >r
+    seq 300000 | sed 's/.*/{&}/' >t
+    if timeout 60 "$program" t r | cmp -s - <(seq 6 300005); then
+        passed=$((passed + 1))
+    else
+        fail 'another letter of 300,000 columns'
+    fi
+    printf '{1:x}\n' >>t
+    case_of file file 1 '' "$(printf '%s\n' \
+        't:300001:5: trait `LowerHex` not implemented, used by format argument at 2588899' \
+        '       |' '300001 | {1:x}' '       | ~~~~^')"$'\n' t r
+    { seq 40 | paste -sd , -; seq 6 45 | paste -sd , -; } >r
+    seq 40 | sed 's/.*/{&}/' >t
+    refusals_of 0 "$(seq 6 45)"$'\n' '' t r
+    printf '{1:x}{40:x}\n' >>t
+    refusals_of 1 '' "$(printf '%s\n' \
+        't:41:5: trait `LowerHex` not implemented, used by format argument at 195' \
+        '   |' '41 | {1:x}{40:x}' '   | ~~~~^' \
+        't:41:11: trait `LowerHex` not implemented, used by format argument at 201' \
+        '   |' '41 | {1:x}{40:x}' '   |      ~~~~~^')"$'\n' t r
+}
+
+# terminal_case CASE END COMMAND: runs a command with standard error on a terminal. There it tells
+# how many records are done, in lines of which each overwrites the one before, and clears the last;
+# then comes this end.
+terminal_case() {
+    local told line=$'\r[ 0-9]{12} records ' form
+    form="^($line(checked|written))*${line}written"$'\r {28}\r(.*)x$'
+    told=$(timeout 60 script -qec "$3" /dev/null </dev/null; printf x)
+    if [[ $told =~ $form && ${BASH_REMATCH[3]} == "$2" ]]; then
+        passed=$((passed + 1))
+    else
+        fail "$1: another text on a terminal"
+        printf '  found:  %q\n' "$told"
+    fi
+}
+
+# Runs of more than a second: what takes the letters does not, for a time.
+progress_cases() {
+    local run="'$program' t r | { sleep 2; cat >o; }"
+    printf '{a}\n' >t
+    { echo a; seq 100000; } >r
+    terminal_case 'a long run' '' "$run"
+    if { "$program" t r 2>e | { sleep 2; cmp -s - <(seq 100000); }; } && [[ ! -s e ]]; then
+        passed=$((passed + 1))
+    else
+        fail 'a long run without a terminal'
+    fi
+    echo 1,2 >>r
+    terminal_case 'a long run with a fault' $'r:100002: 2 fields, but line 1 has 1\r\n' \
+        "${run/t r/--partial t r}"
+    { echo a; seq 200; } >r
+    mkdir n
+    mkfifo n/1
+    terminal_case 'many files' '' "{ sleep 2; cat n/1 >o; } & '$program' --out 'n/{a}' t r"
+    rm -r n o
+}
+
 table_cases() {
     fault 'r:3: 1 field, but line 1 has 2' '{a}' $'a,b\n1,2\n3\n'
     fault 'r:2: 2 fields, but line 1 has 1' '{a}' $'a\n1,2\n'
@@ -456,6 +517,8 @@ all_cases() {
     partial_cases
     file_cases
     large_cases
+    column_cases
+    progress_cases
     table_cases
     other_cases
     refused_calls

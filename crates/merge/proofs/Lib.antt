@@ -1,4 +1,5 @@
 mod LetterLemmas
 mod NameLemmas
+mod SampleLemmas
 mod TableLemmas
 mod ValueLemmas

@@ -5,8 +5,10 @@ ghost use Rattle.merge.specs.Letters.{AreReady, HasNames};
 
 use crate::columns::columns_of;
 use crate::letters::{read_header, write_record, write_rows};
+use crate::progress::Progress;
+use crate::samples::sample_of;
 use crate::table::is_clean;
-use crate::templates::{Fault, Frame, Letters, Templates, prepared_letters, sample_of};
+use crate::templates::{Fault, Frame, Letters, Templates, prepared_letters};
 use interpolator::{Error, TextBuffer, View};
 use records::{Field, Reader, Record, Separator, Table};
 use std::alloc::{AllocError, Global};
@@ -163,11 +165,14 @@ fn write_all(
     frame: Frame<'_>,
     names: &[String],
     records: &[Record<'_>],
+    progress: &mut Progress<'_>,
 ) -> Result<(), FileFault>
     requires ready { AreReady by.now (kinds_in frame.columns.now) frame.sample.now }
 {
+    progress.begin(true);
     for (name, record) in names.iter().zip(records) {
         write_file(rt, by, frame, name.as_str(), record)?;
+        progress.count();
     }
     Ok(())
 }
@@ -180,6 +185,7 @@ fn write_below(
     rest: Reader<'_>,
     records: &[Record<'_>],
     is_partial: bool,
+    progress: &mut Progress<'_>,
 ) -> Result<(), FileFault> {
     let alloc = rt.alloc();
     let held = columns_of(alloc, header)?;
@@ -195,6 +201,7 @@ fn write_below(
         rest,
         records,
         is_partial,
+        progress,
     )
 }
 
@@ -206,6 +213,7 @@ fn write_framed(
     rest: Reader<'_>,
     records: &[Record<'_>],
     is_partial: bool,
+    progress: &mut Progress<'_>,
 ) -> Result<(), FileFault>
     requires { HasNames (names_in frame.columns.now) (kinds_in frame.columns.now) frame.sample.now }
 {
@@ -219,11 +227,19 @@ fn write_framed(
         Err(Fault::Template(faults)) => return Err(FileFault::Pattern(faults)),
         Err(fault) => return Err(FileFault::Letters(fault)),
     };
-    let faults = write_rows(alloc, &mut TextBuffer::new(alloc), &by, frame, rest, false)?;
+    let faults = write_rows(
+        alloc,
+        &mut TextBuffer::new(alloc),
+        &by,
+        frame,
+        rest,
+        false,
+        progress,
+    )?;
     let end = faults.first().map_or(usize::MAX, |fault| fault.line);
     if is_partial || is_clean(&faults) {
         match names_of(alloc, named.pattern, &names, frame, records, end)? {
-            Ok(names) => write_all(rt, &by, frame, &names, records)?,
+            Ok(names) => write_all(rt, &by, frame, &names, records, progress)?,
             Err(faults) => return Err(FileFault::Names(faults)),
         }
     }
@@ -248,6 +264,7 @@ pub fn write_files(
     table: &str,
     separator: Separator,
     is_partial: bool,
+    progress: &mut Progress<'_>,
 ) -> Result<(), FileFault> {
     let alloc = rt.alloc();
     let mut reader = Reader::new(table, separator);
@@ -257,7 +274,15 @@ pub fn write_files(
     }
     let read = Table::read(alloc, table, separator)?;
     match read.records.as_slice() {
-        [_, below @ ..] => write_below(rt, named, fields.as_slice(), reader, below, is_partial),
+        [_, below @ ..] => write_below(
+            rt,
+            named,
+            fields.as_slice(),
+            reader,
+            below,
+            is_partial,
+            progress,
+        ),
         [] => Ok(()),
     }
 }

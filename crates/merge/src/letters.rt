@@ -21,10 +21,12 @@ ghost use Rattle.records.specs.Spellings.{text_of};
 ghost use Rattle.records.specs.Tables.{AreEntries, Entry, GivesRecord, at, separator_of};
 
 use crate::columns::columns_of;
+use crate::progress::Progress;
+use crate::samples::sample_of;
 use crate::table::{
     LineFault, Trouble, count_trouble, goes_on, is_clean, push_broken, push_fault, repeats_of,
 };
-use crate::templates::{Fault, Form, Frame, Letters, Templates, Way, prepared_letters, sample_of};
+use crate::templates::{Fault, Form, Frame, Letters, Templates, Way, prepared_letters};
 use crate::values::{row_of, views_of};
 use interpolator::{Error, Escape, Pairs, Prepared, Row, TextWrite, Value, View};
 use interpolator_escapes::{
@@ -202,6 +204,7 @@ pub fn write_rows<W: TextWrite>(
     frame: Frame<'_>,
     rest: Reader<'_>,
     writes: bool,
+    progress: &mut Progress<'_>,
 ) -> Result<Vec<LineFault>, Error>
     requires ready { AreReady letters.now (kinds_in frame.columns.now) frame.sample.now }
     ensures { IfOk result (λ faults. (rows : List Entry)
@@ -213,6 +216,7 @@ pub fn write_rows<W: TextWrite>(
     let mut reader = rest;
     let mut fields = Vec::new(alloc);
     let mut faults = repeats_of(alloc, frame.columns)?;
+    progress.begin(writes);
     'rows: while write_next(
         alloc,
         out,
@@ -222,7 +226,9 @@ pub fn write_rows<W: TextWrite>(
         &mut reader,
         &mut fields,
         writes,
-    )? {}
+    )? {
+        progress.count();
+    }
     Ok(faults)
 }
 
@@ -234,13 +240,14 @@ fn write_letters<W: TextWrite>(
     letters: &Letters,
     frame: Frame<'_>,
     rest: Reader<'_>,
+    progress: &mut Progress<'_>,
 ) -> Result<(), Fault>
     requires ready { AreReady letters.now (kinds_in frame.columns.now) frame.sample.now }
     ensures { MergesFrom (separator_of rest.entry) letters.now (names_in frame.entry.columns.now)
         (kinds_in frame.entry.columns.now) true (at rest.entry) (W.written out.old).text
         (W.written out.new).text result }
 {
-    let faults = write_rows(alloc, out, letters, frame, rest, true)?;
+    let faults = write_rows(alloc, out, letters, frame, rest, true, progress)?;
     if is_clean(&faults) {
         return Ok(());
     }
@@ -255,6 +262,7 @@ fn merge_letters<W: TextWrite>(
     frame: Frame<'_>,
     rest: Reader<'_>,
     is_partial: bool,
+    progress: &mut Progress<'_>,
 ) -> Result<(), Fault>
     requires ready { AreReady letters.now (kinds_in frame.columns.now) frame.sample.now }
     ensures { MergesFrom (separator_of rest.entry) letters.now (names_in frame.entry.columns.now)
@@ -262,12 +270,12 @@ fn merge_letters<W: TextWrite>(
         (W.written out.new).text result }
 {
     if is_partial {
-        return write_letters(alloc, out, letters, frame, rest);
+        return write_letters(alloc, out, letters, frame, rest, progress);
     }
-    let faults = write_rows(alloc, out, letters, frame, rest, false)?;
+    let faults = write_rows(alloc, out, letters, frame, rest, false, progress)?;
     if is_clean(&faults) {
         a_table_is_read_in_one_way();
-        return write_letters(alloc, out, letters, frame, rest);
+        return write_letters(alloc, out, letters, frame, rest, progress);
     }
     Err(Fault::Table(faults))
 }
@@ -312,6 +320,7 @@ fn merge_rows<W: TextWrite>(
     header: &[Field<'_>],
     rest: Reader<'_>,
     is_partial: bool,
+    progress: &mut Progress<'_>,
 ) -> Result<(), Fault>
     ensures { MergesAfter (separator_of rest.entry) templates.entry (map text_of header.now)
         is_partial (at rest.entry) (W.written out.old).text (W.written out.new).text result }
@@ -324,7 +333,7 @@ fn merge_rows<W: TextWrite>(
     let sample = held.as_slice();
     let frame = Frame { columns, sample };
     match prepared_letters(alloc, templates, frame) {
-        Ok(letters) => merge_letters(alloc, out, &letters, frame, rest, is_partial),
+        Ok(letters) => merge_letters(alloc, out, &letters, frame, rest, is_partial, progress),
         Err(fault) => Err(fault),
     }
 }
@@ -346,6 +355,7 @@ pub fn merge<W: TextWrite>(
     table: &str,
     separator: Separator,
     is_partial: bool,
+    progress: &mut Progress<'_>,
 ) -> Result<(), Fault>
     ensures { Merges separator templates.entry table.now is_partial (W.written out.old).text
         (W.written out.new).text result }
@@ -353,7 +363,15 @@ pub fn merge<W: TextWrite>(
     let mut reader = Reader::new(table, separator);
     let mut fields = Vec::new(alloc);
     match read_header(alloc, &mut reader, &mut fields) {
-        Ok(()) => merge_rows(alloc, out, templates, fields.as_slice(), reader, is_partial),
+        Ok(()) => merge_rows(
+            alloc,
+            out,
+            templates,
+            fields.as_slice(),
+            reader,
+            is_partial,
+            progress,
+        ),
         Err(fault) => Err(fault),
     }
 }

@@ -43,7 +43,7 @@
 //! A flag that is given again counts as it was given last; `--` ends the flags. `--help` as the
 //! first word prints help, and `--version` the version. The status is 0 if the letters are written,
 //! 1 after a fault of a template or of the table, 2 after wrong use, and 3 after a refused write or
-//! for a file that cannot be read.
+//! for a file that cannot be read. A run of more than a second tells a terminal how far it is.
 #![tactic(auto)]
 
 ghost use Rattle.std.specs.Prelude.{◌<◌, IfSome, length};
@@ -52,6 +52,8 @@ mod columns;
 mod files;
 mod letters;
 mod output;
+mod progress;
+mod samples;
 mod table;
 mod templates;
 mod told;
@@ -61,6 +63,7 @@ use files::{FileFault, Named, write_files};
 use interpolator::{Error, Escape, IoWriter};
 use letters::merge;
 use output::Output;
+use progress::Progress;
 use records::{BadByte, Separator, advice_on, is_utf16, latin1, text_in};
 use std::fs;
 use std::process::ExitCode;
@@ -228,7 +231,16 @@ fn templates_of<'a>(files: Files<'a>) -> Templates<'a> {
 fn write_named(rt: &HostRuntime, files: Files<'_>, pattern: &str) -> ExitCode {
     let templates = templates_of(files);
     let named = Named { templates, pattern };
-    let written = write_files(rt, named, files.table, files.separator, files.is_partial);
+    let mut progress = Progress::new(rt);
+    let written = write_files(
+        rt,
+        named,
+        files.table,
+        files.separator,
+        files.is_partial,
+        &mut progress,
+    );
+    progress.clear();
     let Err(fault) = written else {
         return ExitCode::from(WRITTEN);
     };
@@ -246,6 +258,7 @@ fn write_named(rt: &HostRuntime, files: Files<'_>, pattern: &str) -> ExitCode {
 fn write_letters(rt: &HostRuntime, files: Files<'_>) -> ExitCode {
     let alloc = rt.alloc();
     let mut out = IoWriter::new(alloc, Output::new(rt));
+    let mut progress = Progress::of_output(rt);
     let merged = merge(
         alloc,
         &mut out,
@@ -253,7 +266,9 @@ fn write_letters(rt: &HostRuntime, files: Files<'_>) -> ExitCode {
         files.table,
         files.separator,
         files.is_partial,
+        &mut progress,
     );
+    progress.clear();
     if let Err(Fault::Stopped) = merged {
         return stopped(rt, out.into_inner());
     }

@@ -1,21 +1,20 @@
 //! The templates of letters, prepared for the columns of a table, and why letters are missing.
 
 ghost use Rattle.std.specs.Prelude.{◌≡◌, IfOk, MatchOption, MatchResult, map};
-ghost use Rattle.interpolator.specs.Prepared.Rows.{pair_names};
-ghost use Rattle.interpolator.specs.Slots.{slots_of};
 ghost use Rattle.merge.specs.Columns.{kinds_in, names_in};
 ghost use Rattle.merge.specs.Letters.{ArePlaced, HasFaults, HasNames, IsReady, IsUnfit, LooksUp};
 ghost use Rattle.merge.specs.Letters.{IsCsvWay, IsFit, IsMisplaced, IsUnfitForCsv, IsWay, Prepares};
 ghost use Rattle.merge.specs.Letters.{form_by, form_for, format_of, further, is_csv, unfit_place};
-ghost use Rattle.merge.specs.Values.{example_by, is_empty_at};
+ghost use Rattle.merge.specs.Values.{is_empty_at};
 ghost use Rattle.merge.specs.declared.templates.Fault.TheVariants.{Stopped};
 ghost use Rattle.merge.specs.declared.templates.Way.TheVariants as ways;
 ghost use Rattle.interpolator_escapes.specs.declared.escape.Escape.TheVariants.{Csv};
 ghost use Rattle.records.specs.Spellings.{text_of};
 
 use crate::columns::{Column, column_named};
+use crate::samples::map_of;
 use crate::table::LineFault;
-use crate::values::{example_of, is_empty_at};
+use crate::values::is_empty_at;
 use interpolator::{
     Error, Escape, Formattable, Interpolate, Misplaced, Pairs, PlaceError, Prepared, Template, View,
 };
@@ -127,24 +126,6 @@ pub struct Frame<'a> {
     pub sample: &'a [(&'a str, Formattable<'a, View<'a>>)],
 }
 
-/// An example value under the name of each column, of an example of a text and one of a number.
-pub fn sample_of<'a>(
-    alloc: Global,
-    columns: &'a [Column<'a>],
-    text: &'a View<'a>,
-    number: &'a View<'a>,
-) -> Result<Vec<(&'a str, Formattable<'a, View<'a>>)>, AllocError>
-    ensures names { IfOk result (λ sample. pair_names sample.items ≡ names_in columns.now) }
-    ensures values { IfOk result (λ sample. map (λ pair. slots_of pair.1) sample.items
-        ≡ map (example_by text.now number.now) (kinds_in columns.now)) }
-{
-    let mut sample = Vec::with_capacity(alloc, columns.len())?;
-    for column in columns.iter() {
-        sample.push((column.name, example_of(column.kind, text, number)))?;
-    }
-    Ok(sample)
-}
-
 /// Prepares a template, or returns all faults that it has with the sample.
 fn prepared_letter(
     alloc: Global,
@@ -160,10 +141,15 @@ fn prepared_letter(
         (kinds_in frame.entry.columns.now) faults.items)) }
 {
     let template = Template::parse(alloc, text)?;
-    let sample = Pairs(frame.sample);
+    let refused = match template.prepare(alloc, &Pairs(frame.sample)) {
+        Ok(letter) => return Ok(Ok(letter)),
+        Err(refused) => refused,
+    };
+    let sample = map_of(alloc, frame.sample)?;
     let faults = sample.template_faults(alloc, &template)?;
     if faults.is_empty() {
-        return Ok(Ok(template.prepare(alloc, &sample)?));
+        // then what was refused is memory
+        return Err(refused);
     }
     Ok(Err(faults))
 }

@@ -3,7 +3,7 @@ use Rattle.interpolator.specs.Prepared.Rows.{pair_names}
 use Rattle.interpolator.specs.Slots.{slots_of}
 use Rattle.merge.specs.Columns.{kinds_in}
 use Rattle.merge.specs.Values.{example_by}
-use Rattle.merge.proofs.templates.sample_of.Given as goal
+use Rattle.merge.proofs.samples.sample_of.Given as goal
 
 abbrev pub invariant-loop-column : goal.invariant-loop-column
 invariant-loop-column l = record {
