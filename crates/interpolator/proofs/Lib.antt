@@ -3,6 +3,7 @@ pub mod DeepLemmas
 pub mod EscapeLemmas
 pub mod ExcerptLemmas
 pub mod PartLemmas
+pub mod SampleMapLemmas
 pub mod SamplePlaceLemmas
 -- of this crate alone
 mod DecimalDigitLemmas
@@ -17,6 +18,5 @@ mod NamingLemmas
 mod OwnedLemmas
 mod PositionLemmas
 mod RecordPlaceLemmas
-mod SampleMapLemmas
 mod SampleWalkLemmas
 mod SeamLemmas

@@ -1,8 +1,8 @@
 -- A map of pairs finds what the pairs do.
 use Rattle.std.proofs.Common.{◌≡◌, refl, sym, ap, ℕ, Bool, true, false, cond, List, [], ◌∷◌, ◌++◌}
-use Rattle.std.proofs.Common.{Option, Some, option_map, reverse}
+use Rattle.std.proofs.Common.{Option, Some, option_map, reverse, length, take, get_or, ◌+◌, ◌<◌}
 use Rattle.std.proofs.Math.Path.{fun_ext}
-use Rattle.std.proofs.lemmas.List.{reverse-append}
+use Rattle.std.proofs.lemmas.List.{reverse-append, take_more}
 use Rattle.std.proofs.lemmas.Slice.Eq.{bytes_eq-Decides}
 use Rattle.std.specs.Borrow.{Bor}
 use Rattle.std.specs.HashMap.{HashMap, get_by}
@@ -11,7 +11,7 @@ use Rattle.std.specs.Str.{bytes_eq, encode_utf8_all}
 use Rattle.interpolator_eval.specs.Contexts.{found_by_pairs, found_by_str, last_under}
 use Rattle.interpolator_eval.specs.Slots.{slots_of}
 use Rattle.interpolator_eval.specs.declared.slots.Formattable.{Formattable}
-use Rattle.interpolator.specs.SampleMaps.{HasLast}
+use Rattle.interpolator.specs.SampleMaps.{HasLast, HasOneMore}
 
 -- two tests that pass each other's way are the same
 same_test : (a b : Bool) → (a ≡ true → b ≡ true) → (b ≡ true → a ≡ true) → a ≡ b
@@ -54,6 +54,14 @@ module _ {Y : Type 0} where
       ≡ cond (bytes_eq x.0.now name) (Some x.1) (get_by (λ one. bytes_eq name one.now) old) =
       puts (lent name) in
       rw (put, so_far name, swapped x.0.now name, last_more pairs x name) refl
+
+  -- the map of the pairs before a place, once the pair at the place is put in
+  pub last_next : {S : Type 0} (pairs : List (Bor (List ℕ) × Y)) (n : ℕ) (pair : Bor (List ℕ) × Y)
+      (old new : HashMap (Bor (List ℕ)) Y S) → n < length pairs
+      → HasOneMore old (get_or pairs n pair) new → HasLast (take n pairs) old
+      → HasLast (take (n + 1) pairs) new
+  last_next pairs n pair old new within more so_far =
+      rw (take_more pairs n pair within) (more (take n pairs) so_far)
 
 -- what such a map finds
 pub map_finds : {X S : Type 0} (pairs : List (Bor (List ℕ) × Formattable X))

@@ -1,5 +1,4 @@
 mod LetterLemmas
 mod NameLemmas
-mod SampleLemmas
 mod TableLemmas
 mod ValueLemmas

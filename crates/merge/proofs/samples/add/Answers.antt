@@ -1,4 +1,4 @@
-use Rattle.merge.proofs.SampleLemmas.{pair_more}
+use Rattle.interpolator.proofs.SampleMapLemmas.{pair_more}
 use Rattle.merge.proofs.samples.add.Goals as goal
 
 pub returns : goal.returns

@@ -1,5 +1,5 @@
 use Rattle.std.proofs.lemmas.List.{take_all}
-use Rattle.merge.proofs.SampleLemmas.{last_next, map_finds}
+use Rattle.interpolator.proofs.SampleMapLemmas.{last_next, map_finds}
 use Rattle.merge.proofs.samples.map_of.Goals as goal
 
 pub loop-pair-preserved : goal.loop-pair-preserved
