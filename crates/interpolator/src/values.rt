@@ -139,7 +139,10 @@ fn last_named<'s, 'a>(values: &'s [NamedValue<'a>], name: &str) -> Option<&'s Na
     ensures { option_copied result
         ≡ find (λ value. bytes_eq name.now value.name.now) (reverse values.now) }
 {
-    values.iter().rev().find(|value| same_name(value.name, name))
+    values
+        .iter()
+        .rev()
+        .find(|value| same_name(value.name, name))
 }
 
 /// The most names in one row.
