@@ -8,11 +8,11 @@
 set -u
 
 usage='usage: report [--separator , | ; | tab] [--latin1] [--total NAME,..] '
-usage+='[--group NAME] [--lenient] [--csv] [--] FILE'
+usage+='[--group NAME] [--lenient] [--csv | --format F] [--] FILE'
 help=$(
     cat <<'END'
 usage: report [--separator , | ; | tab] [--latin1] [--total NAME,..]
-    [--group NAME] [--lenient] [--csv] [--] FILE
+    [--group NAME] [--lenient] [--csv | --format F] [--] FILE
 
 Prints the records of a file as a table, with exact totals.
 
@@ -24,6 +24,8 @@ Prints the records of a file as a table, with exact totals.
   --group NAME   subtotals for each text in this column
   --lenient      what is no number in a column that is summed counts as none
   --csv          write records, not a table
+  --format F     write each record by the format in the file F, whose names are
+                 those of columns, as `{item:<9}{price:>8.2}`; without totals
   --             what follows is the file
   --help         print this, if it is the only word
   --version      print the version, if it is the only word
@@ -41,7 +43,7 @@ next=17014118346046923173168730371588410573
 zeros=0.0000000000000000000000000000000000000000
 here=$(cd "$(dirname "$0")" && pwd)
 name=report
-wanted=119
+wanted=174
 . "$here/../../.ci/cases.sh"
 
 # table WANTED TEXT FLAG..: the report of a file with this text, which goes to the output, with
@@ -56,6 +58,19 @@ table() {
 fault() {
     printf '%s' "$2" >t
     case_of file file 1 '' "$1"$'\n' "${@:3}" t
+}
+
+# lines WANTED FORMAT TEXT FLAG..: what a format writes of a file with this text, with status 0.
+lines() {
+    printf '%s' "$2" >f
+    table "$1" "$3" --format f "${@:4}"
+}
+
+# unfit WANTED FORMAT TEXT FLAG..: the faults of the format or of the file, which go to the errors,
+# with status 1; no line is written.
+unfit() {
+    printf '%s' "$2" >f
+    fault "$1" "$3" --format f "${@:4}"
 }
 
 table_cases() {
@@ -220,6 +235,125 @@ END
     fi
 }
 
+stock=$'item,count:,price\nbread,7,1.20\ncrème,1234,0.05\ntea,-3,12.5\n'
+
+# Lines by a format. Texts are padded by characters, and decimals written as Rust does both.
+line_cases() {
+    lines $'bread    |    1.20|+7\ncrème    |    0.05|+1234\ntea      |   12.50|-3\n' \
+        $'{item:<9}|{price:>8.2}|{count:+}\n' "$stock"
+    lines $'tea is -3.\n' '{item} is {count}.' $'item,count:\ntea,-3\n'
+    lines $'x\r\ny\r\n' $'{a}\r\n' $'a\nx\ny\n'
+    lines $'x\n\ty{}\nz\n\t{}\n' $'{a}\n\t{b}{{}}\n' $'a,b\nx,y\nz,\n'
+    lines $'x\n\ny\n\n' $'{a}\n\n' $'a\nx\ny\n'
+    lines $'-\n-\n' $'-\n' $'a\nx\ny\n'
+    lines '' $'{a}\n' $'a\n'
+    lines $'x y\n' $'\xef\xbb\xbf{a}' $'\xef\xbb\xbfsep=;\na;b\n "x\ny" ;1\n'
+    lines $'"x y"|3|"c"\n' $'{a:?}|{n:?}|{unit price:?}\n' $'a,n,unit price\n"x\ty",3,c\n'
+    lines $'x-\n' $'{a}-{}\n' $'a,b,\nx,y,\n'
+    lines $' 1,5  2\n' $'{b:>4}  {a}\n' $'a;b\n2;1,5\n' --separator ';'
+    printf 'a\n\xe9\n' >t
+    printf '[{a:>2}]\xc3\xa9\n' >f
+    case_of file file 0 $'[ é]é\n' '' --latin1 --format f -- t
+    python_case
+}
+
+# What is shown as a number, and what as a text.
+kind_cases() {
+    lines $' 01234|01\n 10115|10\n' $'{zip:>6}|{zip:.2}\n' $'zip\n01234\n10115\n'
+    lines $'+1|+1\n 2| 2\n' $'{n:>2}|{n:>2.2}\n' $'n\n+1\n2\n'
+    lines $'-0|-0\n2|2\n' $'{n}|{n:.3}\n' $'n\n-0\n2\n'
+    lines $'  0.0\n 10.0\n-10.0\n' $'{n:5.1}\n' $'n\n0\n10\n-10\n'
+    lines $'1999.00\n\n2001.00\n' $'{year:.2}\n' $'year,a\n1999,x\n,x\n2001,x\n'
+    lines $'7.0\n1.0\n' $'{n:.1}\n' $'n:\n007\n+1\n'
+    lines $'12\nx1\n' $'{n:.2}\n' $'n\n123\nx12\n'
+    lines $'   1.5|\n      |\n' $'{n:>6}|\n' $'n,a\n1.5,x\n,x\n'
+    lines $' 1.500|\n 2.000|\n   n/a|\n' $'{n:>6.3}|\n' $'n\n1.50\n2.00\nn/a\n' --lenient
+    lines "${most}8"$'\n1\n' $'{n}\n' $'n\n'"${most}8"$'\n1\n'
+    unfit "t:4: column 1, \`n\`, $wanted_number" '{n}' $'n\n1.5\n2\nn/a\n'
+    unfit "t:2: column 2, \`m\`, $wanted_number"$'\n''t:3: the number of `n` has more than 128 bits' \
+        '{n}{m}' $'x:,m:,n:\na,1.,1\na,2,'"-${most}9"$'\n'
+    unfit 't:3: the number of `n` has more than 128 bits' '{n}' $'n:\nx\n'"${most}8"$'\n' --lenient
+    lines $'a\n' '{m}' $'n:,m\nx,a\n'
+}
+
+# Lines by Python's format, which pads texts and numbers as Rust does.
+python_case() {
+    if python3 - "$program" <<'END'; then
+import decimal
+import random
+import subprocess
+import sys
+
+random.seed(1964)
+rows = []
+for _ in range(1000):
+    name = ''.join(random.choices('abc xyz\u00e9\u6f22', k=random.randrange(1, 16))).strip() or '-'
+    price = decimal.Decimal(random.randrange(-10**9, 10**9)).scaleb(-2)
+    rows.append((name, price, random.randrange(-9999, 10**12)))
+with open('t', 'w', newline='', encoding='utf-8') as file:
+    file.write('name,price,n:\n' + ''.join(f'{name},{price},{n}\n' for name, price, n in rows))
+with open('f', 'w', encoding='utf-8') as file:
+    file.write('{name:*^12}|{name:.3}|{price:>16.3}|{n:+012}|{n:#<9}\n')
+done = subprocess.run([sys.argv[1], '--format', 'f', 't'], capture_output=True, timeout=60)
+lines = [f'{a:*^12}|{a:.3}|{b:>16.3f}|{n:+012}|{n:#<9}\n' for a, b, n in rows]
+sys.exit(done.returncode != 0 or done.stdout.decode() != ''.join(lines))
+END
+        passed=$((passed + 1))
+    else
+        fail 'lines that Python writes otherwise'
+    fi
+}
+
+# Faults of formats, shown in their lines; all of a format, and before those of the file.
+format_cases() {
+    unfit $'f:1:2: specified value not in context `itm` at 1\n  |\n1 | {itm}\n  | ~^~~~\n  = did you mean `item`? names: `item`, `count`, `price`' \
+        '{itm}' "$stock"
+    unfit $'f:2:5: specified value not in context `q` at 12\n  |\n2 | \té {q}\n  | \t  ~^~\n  = names: `item`, `count`, `price`' \
+        $'{item}\n\té {q}\n' "$stock"
+    unfit "$(printf '%s\n' 'f:1:2: specified value not in context `q` at 1' '  |' '1 | {q}{a:x}' '  | ~^~' \
+        '  = did you mean `a`? names: `a`' \
+        'f:1:8: trait `LowerHex` not implemented, used by format argument at 7' \
+        '  |' '1 | {q}{a:x}' '  |    ~~~~^')" $'{q}{a:x}\n' $'a\n"1\n'
+    unfit "$(printf '%s\n' 'f:1:5: trait `LowerExp` not implemented, used by format argument at 4' \
+        '  |' '1 | {n:e}' '  | ~~~~^')" '{n:e}' $'n:\n1\n'
+    unfit $'f:1:4: error while parsing input: Expected `}` at 3\n  |\n1 | {a:y\n  | ~~~^' \
+        $'{a:y\n' $'a\n1\n'
+    unfit $'f:1:6: more than one column has the name `a`\n  |\n1 | {b} {a}\n  |     ~^~' \
+        '{b} {a}' $'a,b,a:\n1,2,3\n'
+    lines $'2\n' '{b}' $'a,b,a,,\n1,2,3,4,5\n'
+    unfit 't:1: the first line names no columns' '{q}' $'\n1\n'
+    unfit "t:1:1: $unclosed" '{q}' $'"a\n1\n'
+    unfit "t:3:1: $unclosed" '{a}' $'a\n1\n"2\n'
+    unfit 't:3: 2 fields, but line 1 has 1: column 2 has no name' '{a}' $'a\n1\n2,3\n'
+    unfit 'f:1: the format is empty' '' "$stock"
+    unfit 'f:1: the format is empty' $'\xef\xbb\xbf\r\n' "$stock"
+    unfit 'f:2:3: byte 0xE9 is no UTF-8; save it as UTF-8' $'{item}\né{\xe9}' "$stock"
+    printf '\xff\xfe{\0}\0' >f
+    case_of file file 1 '' $'f:1:1: byte 0xFF is no UTF-8; this looks like UTF-16: save it as UTF-8\n' \
+        --format f t
+}
+
+# A format with other flags, unreadable formats and refused writes.
+format_use_cases() {
+    local flag
+    printf 'a\n1\n' >t
+    printf '{a}\n' >f
+    for flag in --csv '--total a' '--group a'; do
+        # the words of a flag are two or one
+        # shellcheck disable=SC2086
+        case_of file file 2 '' "${flag% *} does not go with --format"$'\n'"$usage"$'\n' \
+            $flag --format f t
+    done
+    case_of file file 2 '' "$usage"$'\n' --format f
+    case_of file file 2 '' "$usage"$'\n' t --format
+    case_of file file 3 '' $'none: No such file or directory (os error 2)\n' --format none t
+    case_of file file 3 '' $'.: Is a directory (os error 21)\n' --format . t
+    case_of file file 3 '' $'none: No such file or directory (os error 2)\n' --format f none
+    case_of closed file 3 '' $'cannot write: Bad file descriptor (os error 9)\n' --format f t
+    case_of full file 3 '' $'cannot write: No space left on device (os error 28)\n' --format f t
+    pipe_case --format f
+}
+
 fault_cases() {
     fault 't:2: 3 fields, but line 1 has 2: column 3 has no name' $'item,count\nbread,1,2\n'
     fault $'t:3: 1 field, but line 1 has 2: column 2 has no field\nt:4: 3 fields, but line 1 has 2: column 3 has no name' \
@@ -296,12 +430,12 @@ locked_case() {
     fi
 }
 
-# A pipe that is closed before all is written.
+# pipe_case FLAG..: a pipe that is closed before all is written.
 pipe_case() {
     local ended
     { printf 'a\n' && times 100000 $'x\n'; } >t
     {
-        timeout 60 "$program" t 2>told
+        timeout 60 "$program" "$@" t 2>told
         printf '%s' "$?" >ended
     } | head -c 1 >first
     ended=$(<ended)
@@ -323,6 +457,11 @@ refused_calls() {
     refusals_of 0 $'item   count\nbread      7\ncrème  -1.25\ntotal   5.75\n' '' t
     refusals_of 0 $'"item","count"\n"bread","7"\n"total bread","7"\n"crème","-1.25"\n"total crème","-1.25"\n"total","5.75"\n' '' \
         --csv --group item t
+    printf '%s' '{item:>7}|{count:>6.2}' >f
+    refusals_of 0 $'  bread|  7.00\n  crème| -1.25\n' '' --format f t
+    printf '%s' $'{itm}\n' >f
+    refusals_of 1 '' $'f:1:2: specified value not in context `itm` at 1\n  |\n1 | {itm}\n  | ~^~~~\n  = did you mean `item`? names: `item`, `count`\n' \
+        --format f t
     printf '%s' $'t,n\na,9\nb\nc,1,2' >t
     refusals_of 1 '' $'t:3: 1 field, but line 1 has 2: column 2 has no field\nt:4: 3 fields, but line 1 has 2: column 3 has no name\n' t
     refusals_of 2 '' "$usage"$'\n' --total
@@ -338,6 +477,10 @@ all_cases() {
     total_cases
     group_cases
     csv_cases
+    line_cases
+    kind_cases
+    format_cases
+    format_use_cases
     fault_cases
     broken_cases
     other_cases

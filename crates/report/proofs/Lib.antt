@@ -1,3 +1,4 @@
+pub mod LineLemmas
 pub mod PlaceLemmas
 pub mod TotalLemmas
 pub mod WidthLemmas

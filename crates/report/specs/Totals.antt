@@ -1,8 +1,9 @@
 -- What the total of cells is.
 use Rattle.std.specs.Prelude.{◌≡◌, ◌≢◌, ◌+ℤ◌, ◌*ℤ◌, ◌-◌, ℕ, ℤ, pos, ⊤, FitsSigned}
 use Rattle.std.specs.Prelude.{List, [], ◌∷◌, Bool, true, false, None, Some, length, max}
+use Rattle.std.specs.Prelude.{◌&&◌, ◌||◌, codes, eqb, nat_lt}
 use Rattle.std.specs.Int.{int_pow, w128}
-use Rattle.std.specs.List.{position}
+use Rattle.std.specs.List.{position, starts_with}
 use Rattle.interpolator.specs.DecimalTexts.{Spells, SpellsDecimal}
 use Rattle.interpolator.specs.declared.decimal.Decimal.{Decimal}
 use Rattle.report.specs.declared.totals.Cell.{Cell}
@@ -33,6 +34,11 @@ AreCells (text ∷ texts) (cell ∷ cells) = IsCell text cell × AreCells texts 
 abbrev pub is_large : Cell → Bool
 is_large Large = true
 is_large _ = false
+
+-- a whole number is a code, which is not the same without what is in front: a zero or a plus
+abbrev pub is_code : List ℕ → Bool
+is_code text = starts_with eqb text (codes "+") || (starts_with eqb text (codes "-0")
+    || (starts_with eqb text (codes "0") && nat_lt 1 (length text)))
 
 -- the numbers among cells
 abbrev pub numbers_in : List Cell → List Decimal

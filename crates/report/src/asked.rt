@@ -7,12 +7,12 @@ use words::program::is_flag;
 
 /// The line that says what is right after a wrong use.
 pub const USAGE: &str = "usage: report [--separator , | ; | tab] [--latin1] [--total NAME,..] \
-    [--group NAME] [--lenient] [--csv] [--] FILE";
+    [--group NAME] [--lenient] [--csv | --format F] [--] FILE";
 
 /// What `--help` writes.
 pub const HELP: &str = "\
 usage: report [--separator , | ; | tab] [--latin1] [--total NAME,..]
-    [--group NAME] [--lenient] [--csv] [--] FILE
+    [--group NAME] [--lenient] [--csv | --format F] [--] FILE
 
 Prints the records of a file as a table, with exact totals.
 
@@ -24,6 +24,8 @@ Prints the records of a file as a table, with exact totals.
   --group NAME   subtotals for each text in this column
   --lenient      what is no number in a column that is summed counts as none
   --csv          write records, not a table
+  --format F     write each record by the format in the file F, whose names are
+                 those of columns, as `{item:<9}{price:>8.2}`; without totals
   --             what follows is the file
   --help         print this, if it is the only word
   --version      print the version, if it is the only word
@@ -46,6 +48,8 @@ pub struct Asked<'a> {
     pub group: Option<&'a str>,
     pub is_lenient: bool,
     pub is_csv: bool,
+    /// The file of the format by which each record is written.
+    pub format: Option<&'a str>,
 }
 
 /// Takes a flag at the beginning of words, and returns the words after it; none if there is none.
@@ -77,9 +81,22 @@ impl<'a> Asked<'a> {
             "--separator" => self.separator = Some(Separator::named(value)?),
             "--total" => self.totals = Some(value),
             "--group" => self.group = Some(value),
+            "--format" => self.format = Some(value),
             _ => return None,
         }
         Some(())
+    }
+
+    /// A flag that is given beside `--format`, and does not go with it.
+    pub fn beside_format(&self) -> Option<&'static str> {
+        self.format?;
+        if self.is_csv {
+            return Some("--csv");
+        }
+        if self.totals.is_some() {
+            return Some("--total");
+        }
+        self.group.map(|_| "--group")
     }
 }
 
@@ -93,6 +110,7 @@ pub fn asked_by<'a>(words: &'a [String]) -> Option<Asked<'a>> {
         group: None,
         is_lenient: false,
         is_csv: false,
+        format: None,
     };
     let mut rest = words;
     while let Some(next) = after_flag(&mut asked, rest) {

@@ -3,7 +3,7 @@
 use crate::asked::Asked;
 use crate::faults::Faults;
 use crate::rows::{Group, entries_of, entry_in};
-use crate::totals::{Cell, NoTotal, Total, cells_of, total_of};
+use crate::totals::{Cell, NoTotal, Total, cells_of, first_large, has_codes, total_of};
 use crate::widths::width;
 use interpolator::Error;
 use records::Record;
@@ -42,7 +42,7 @@ fn told_by(cells: &[Cell]) -> (bool, bool) {
 }
 
 /// The name that a field of the header gives, and whether it marks a column of numbers.
-fn name_of(field: &str) -> (&str, bool) {
+pub fn name_of(field: &str) -> (&str, bool) {
     match field.strip_suffix(":") {
         Some(name) => (name.trim(), true),
         None => (field, false),
@@ -174,6 +174,45 @@ fn column_of<'a>(
         column.totals = totals_of(faults, records, groups, &cells, name)?;
     }
     Ok(column)
+}
+
+/// Tells the cells of a column that are numbers of more than 128 bits.
+fn tell_large(
+    faults: &mut Faults<'_>,
+    records: &[Record<'_>],
+    cells: &[Cell],
+    name: &str,
+) -> Result<(), Error> {
+    let why = format!(in faults.alloc; "the number of `{name}` has more than 128 bits")?;
+    for (record, cell) in records.iter().zip(cells) {
+        if matches!(cell, Cell::Large) {
+            faults.tell(record.line, why.as_str())?;
+        }
+    }
+    Ok(())
+}
+
+/// Whether a format shows what the column at this index has as numbers: if it would be summed, or
+/// all are numbers, none of which is a code. What is no number in such a column is told.
+pub fn is_shown_as_numbers(
+    faults: &mut Faults<'_>,
+    asked: Asked<'_>,
+    header: &Record<'_>,
+    records: &[Record<'_>],
+    index: usize,
+) -> Result<bool, Error> {
+    let (name, is_marked) = name_of(entry_in(header, index));
+    let entries = entries_of(faults.alloc, records, index)?;
+    let cells = cells_of(faults.alloc, &entries)?;
+    let (has_decimals, has_numbers_alone) = told_by(&cells);
+    if !is_marked && !has_decimals {
+        return Ok(has_numbers_alone && first_large(&cells).is_none() && !has_codes(&entries));
+    }
+    if !asked.is_lenient {
+        tell_others(faults, records, &cells, name, index)?;
+    }
+    tell_large(faults, records, &cells, name)?;
+    Ok(true)
 }
 
 /// The columns that the header names. What is wrong with them is told.

@@ -4,6 +4,15 @@ use interpolator::Error;
 use records::Place;
 use std::alloc::Global;
 
+/// What a file is reported as.
+#[derive(Drop)]
+pub enum Report {
+    /// Its table, or the lines of its records.
+    Table(String),
+    /// A line for each fault that it has.
+    Faults(String),
+}
+
 /// The faults of a file, as lines of text.
 #[derive(Drop)]
 pub struct Faults<'a> {

@@ -2,6 +2,7 @@
 
 use crate::columns::Column;
 use crate::feet::{Foot, push_feet};
+use crate::lines::shown_character;
 use crate::rows::{Group, entry_in};
 use crate::widths::width;
 use interpolator::{
@@ -159,7 +160,7 @@ fn views_of<'a>(alloc: Global, entries: &[&'a str]) -> Result<Vec<View<'a>>, Err
 /// Adds a text, with a blank for each control character.
 fn push_shown(out: &mut String, text: &str) -> Result<(), Error> {
     for c in text.chars() {
-        out.push(if c.is_control() { ' ' } else { c })?;
+        out.push(shown_character(c))?;
     }
     Ok(())
 }

@@ -22,20 +22,32 @@
 //! any other control character, and blanks at the end of a line are left out. `--csv` writes
 //! records of CSV, each field as it is, between quotes.
 //!
+//! `--format line.txt` writes each record by the format in that file, which is UTF-8, and no header
+//! or totals. The line end at its end, or else a newline, ends each line. A name in it is that of
+//! one column, whose entries are numbers if it would be summed without `--total`, or if all are
+//! whole numbers that are no codes: none has a plus in front, or a zero in front of other digits.
+//! An empty entry, any other, and with `--lenient` one that is no number, is a text, with a blank
+//! for each control character. Each value can be displayed, and debugged by `?`.
+//!
 //! What is wrong is told by line and column: a byte that is no UTF-8; else all places where the
 //! file goes on with no record, and all records with another number of fields than the header; else
 //! a name that no column has; else in each column all entries that are no numbers, and the first
 //! number with more than 128 bits, its point left out, or at the header that the total has more.
-//! Then no table is written. The status is 0 if it is, 1 after such a fault, 2 after wrong use, and
-//! 3 after a refused write or for a file that cannot be read.
+//! Then no table is written. With `--format`, all faults of the format with the header are shown in
+//! their lines before the other records are read, and entries are told in the columns that it
+//! names. The status is 0 if all is written, 1 after such a fault, 2 after wrong use, and 3 after a
+//! refused write or for a file that cannot be read.
 #![tactic(auto)]
 
 mod asked;
 mod columns;
 mod faults;
 mod feet;
+mod formats;
+mod formatted;
 mod input;
 mod layout;
+mod lines;
 mod places;
 mod rows;
 mod totals;
@@ -43,7 +55,9 @@ mod widths;
 
 use asked::{Asked, HELP, USAGE, VERSION, asked_by};
 use columns::{check_names, columns_of, index_of};
-use faults::Faults;
+use faults::{Faults, Report};
+use formats::{Format, format_of};
+use formatted::{header_in, report_by};
 use input::read_records;
 use interpolator::Error;
 use layout::page_of;
@@ -52,16 +66,7 @@ use rows::{entry_in, groups_by};
 use std::alloc::Global;
 use std::fs;
 use std::process::ExitCode;
-use words::program::{FAULT, REFUSED, WRITTEN, arguments, ended, usage, without_words};
-
-/// What a file is reported as.
-#[derive(Drop)]
-enum Report {
-    /// Its table.
-    Table(String),
-    /// A line for each fault that it has.
-    Faults(String),
-}
+use words::program::{BAD_USE, FAULT, REFUSED, WRITTEN, arguments, ended, usage, without_words};
 
 /// The page of these records below a header. What is wrong with them is told.
 fn page_below(
@@ -110,13 +115,14 @@ fn page_of_all(
     }
 }
 
-/// The report of a file's text.
-fn report_on(alloc: Global, asked: Asked<'_>, text: &str) -> Result<Report, Error> {
+/// The table of a file's text.
+fn report_table(
+    alloc: Global,
+    asked: Asked<'_>,
+    text: &str,
+    separator: Separator,
+) -> Result<Report, Error> {
     let mut faults = Faults::new(alloc, asked.file);
-    let separator = match asked.separator {
-        Some(separator) => separator,
-        None => Separator::told_by(text).unwrap_or(Separator::Comma),
-    };
     let records = read_records(&mut faults, text, separator)?;
     if !faults.is_empty() {
         return Ok(Report::Faults(faults.into_text()));
@@ -126,6 +132,28 @@ fn report_on(alloc: Global, asked: Asked<'_>, text: &str) -> Result<Report, Erro
         return Ok(Report::Faults(faults.into_text()));
     }
     Ok(Report::Table(page))
+}
+
+/// The report of a file's text. Without a header this says so, whatever the format is.
+fn report_on(
+    alloc: Global,
+    asked: Asked<'_>,
+    format: Option<Format<'_>>,
+    text: &str,
+) -> Result<Report, Error> {
+    let separator = match asked.separator {
+        Some(separator) => separator,
+        None => Separator::told_by(text).unwrap_or(Separator::Comma),
+    };
+    let Some(format) = format else {
+        return report_table(alloc, asked, text, separator);
+    };
+    match header_in(alloc, text, separator)? {
+        Some(header) if !is_blank(&header) => {
+            report_by(alloc, asked, format, &header, text, separator)
+        }
+        _ => report_table(alloc, asked, text, separator),
+    }
 }
 
 /// The report of a file with a byte that is no UTF-8.
@@ -144,13 +172,18 @@ fn report_bad(
 }
 
 /// The report of a file's bytes.
-fn report_bytes(alloc: Global, asked: Asked<'_>, bytes: &[u8]) -> Result<Report, Error> {
+fn report_bytes(
+    alloc: Global,
+    asked: Asked<'_>,
+    format: Option<Format<'_>>,
+    bytes: &[u8],
+) -> Result<Report, Error> {
     if asked.is_latin1 {
         let text = latin1(alloc, bytes)?;
-        return report_on(alloc, asked, text.as_str());
+        return report_on(alloc, asked, format, text.as_str());
     }
     match text_in(bytes) {
-        Ok(text) => report_on(alloc, asked, text),
+        Ok(text) => report_on(alloc, asked, format, text),
         Err(bad) => report_bad(alloc, asked, bytes, bad),
     }
 }
@@ -163,17 +196,57 @@ fn print_text(rt: &HostRuntime, text: &str) -> ExitCode {
     }
 }
 
-/// Prints the table of a file, or what is wrong with it.
-fn print_report(rt: &HostRuntime, asked: Asked<'_>) -> ExitCode {
-    let file = asked.file;
-    let bytes = match fs::read(rt, file) {
-        Ok(bytes) => bytes,
-        Err(error) => return ended(eprintln!(rt; "{file}: {error}"), REFUSED),
-    };
-    match report_bytes(rt.alloc(), asked, &bytes) {
+/// Prints a report, and ends the run.
+fn print_report(rt: &HostRuntime, report: Result<Report, Error>) -> ExitCode {
+    match report {
         Ok(Report::Table(table)) => print_text(rt, table.as_str()),
         Ok(Report::Faults(faults)) => ended(eprint!(rt; "{faults}"), FAULT),
         Err(error) => ended(eprintln!(rt; "{error}"), FAULT),
+    }
+}
+
+/// The bytes of a file, or how the run ends without them.
+fn bytes_in(rt: &HostRuntime, file: &str) -> Result<Vec<u8>, ExitCode> {
+    match fs::read(rt, file) {
+        Ok(bytes) => Ok(bytes),
+        Err(error) => Err(ended(eprintln!(rt; "{file}: {error}"), REFUSED)),
+    }
+}
+
+/// Prints the report of a file, by this format, if there is one.
+fn report(
+    rt: &HostRuntime,
+    asked: Asked<'_>,
+    format: Option<Format<'_>>,
+) -> Result<ExitCode, ExitCode> {
+    let bytes = bytes_in(rt, asked.file)?;
+    let report = report_bytes(rt.alloc(), asked, format, &bytes);
+    Ok(print_report(rt, report))
+}
+
+/// Prints the report of a file by the format in another.
+fn report_by_file(rt: &HostRuntime, asked: Asked<'_>, file: &str) -> Result<ExitCode, ExitCode> {
+    if let Some(flag) = asked.beside_format() {
+        let told = eprintln!(rt; "{flag} does not go with --format\n{USAGE}");
+        return Err(ended(told, BAD_USE));
+    }
+    let bytes = bytes_in(rt, file)?;
+    match format_of(rt.alloc(), file, &bytes) {
+        Ok(Ok(format)) => report(rt, asked, Some(format)),
+        Ok(Err(faults)) => Ok(print_report(rt, Ok(faults))),
+        Err(error) => Ok(print_report(rt, Err(error))),
+    }
+}
+
+/// Prints what is asked for.
+fn answer(rt: &HostRuntime, asked: Asked<'_>) -> ExitCode {
+    let answered = match asked.format {
+        Some(file) => report_by_file(rt, asked, file),
+        None => report(rt, asked, None),
+    };
+    match answered {
+        Ok(status) => status,
+        Err(status) => status,
     }
 }
 
@@ -191,7 +264,7 @@ fn main(rt: HostRuntime) -> ExitCode {
         }
     }
     match asked_by(words.as_slice()) {
-        Some(asked) => print_report(&rt, asked),
+        Some(asked) => answer(&rt, asked),
         None => usage(&rt, USAGE),
     }
 }

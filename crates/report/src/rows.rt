@@ -1,11 +1,17 @@
 //! The records below the header, and their groups.
 
+ghost use Rattle.std.specs.Prelude.{◌≡◌, map};
+ghost use Rattle.records.specs.Spellings.{text_of};
+ghost use Rattle.report.specs.Lines.{trimmed_at};
+
 use records::Record;
 use std::alloc::{AllocError, Global};
 use std::collections::BTreeMap;
 
 /// The entry of a record in the column at this index: its field without the white space around it.
-pub fn entry_in<'a>(record: &'a Record<'_>, index: usize) -> &'a str {
+pub fn entry_in<'a>(record: &'a Record<'_>, index: usize) -> &'a str
+    ensures { result.now ≡ trimmed_at (map text_of record.now.fields.items) index }
+{
     match record.fields.get(index) {
         Some(field) => field.as_str().trim(),
         None => "",

@@ -1,12 +1,12 @@
 //! The total of cells.
 
 ghost use Rattle.std.specs.Prelude.{◌≡◌, ◌++◌, ◌∷◌, [], FitsSigned, IfErr, IfOk, SomeIff, map};
-ghost use Rattle.std.specs.Prelude.{None, option_map, vec_items};
+ghost use Rattle.std.specs.Prelude.{None, eqb, option_map, vec_items};
 ghost use Rattle.std.specs.Int.{w128};
-ghost use Rattle.std.specs.List.{position};
+ghost use Rattle.std.specs.List.{list_any, position, starts_with};
 ghost use Rattle.interpolator.specs.DecimalTexts.{decimal_of};
 ghost use Rattle.report.specs.Totals.{AreCells, Explains, IsCell, IsTotal, exact_sum};
-ghost use Rattle.report.specs.Totals.{exact_total, greatest_scale, is_large, numbers_in};
+ghost use Rattle.report.specs.Totals.{exact_total, greatest_scale, is_code, is_large, numbers_in};
 ghost use Rattle.report.specs.Totals.{total_with};
 ghost use Rattle.interpolator.specs.declared.decimal.Decimal.{Decimal};
 ghost use Rattle.report.specs.declared.totals.NoTotal.TheVariants.{NoMemory};
@@ -56,7 +56,7 @@ impl From<AllocError> for NoTotal {
 }
 
 /// What an entry is.
-fn cell_of(entry: &str) -> Cell
+pub fn cell_of(entry: &str) -> Cell
     ensures { IsCell entry.now result }
 {
     match Decimal::parse(entry) {
@@ -79,6 +79,32 @@ pub fn cells_of(alloc: Global, entries: &[&str]) -> Result<Vec<Cell>, AllocError
     Ok(cells)
 }
 
+/// Whether a text begins with another.
+#[tactic(auto, using(std::proofs::lemmas::Slice::Eq::starts_is))]
+fn begins(text: &str, front: &str) -> bool
+    ensures { result ≡ starts_with eqb text.now front.now }
+{
+    match text.strip_prefix(front) {
+        Some(_) => true,
+        None => false,
+    }
+}
+
+/// Whether a whole number is a code, as of the post: it has a zero or a plus in front, which would
+/// be lost if it were shown as a number.
+fn is_code(entry: &str) -> bool
+    ensures { result ≡ is_code entry.now }
+{
+    begins(entry, "+") || begins(entry, "-0") || (begins(entry, "0") && entry.len() > 1)
+}
+
+/// Whether one of some whole numbers is a code.
+pub fn has_codes(entries: &[&str]) -> bool
+    ensures { result ≡ list_any (λ entry. is_code entry.now) entries.now }
+{
+    entries.iter().any(|entry| is_code(entry))
+}
+
 /// Whether a cell is a number of more than 128 bits.
 fn is_large(cell: Cell) -> bool
     ensures { result ≡ is_large cell }
@@ -87,7 +113,7 @@ fn is_large(cell: Cell) -> bool
 }
 
 /// How many cells come before the first number of more than 128 bits.
-fn first_large(cells: &[Cell]) -> Option<usize>
+pub fn first_large(cells: &[Cell]) -> Option<usize>
     ensures { result ≡ position is_large cells.now }
 {
     cells.iter().position(|cell| is_large(*cell))

@@ -1,0 +1,10 @@
+use Rattle.std.proofs.Common.{refl}
+use Rattle.std.proofs.lemmas.Bool.{false_from_ne_true}
+use Rattle.std.proofs.lemmas.Bool.Decides.{Decides-eqb}
+use Rattle.std.proofs.lemmas.Slice.Eq.{ends_is}
+use Rattle.report.proofs.formats.before_end.Goals as goal
+
+pub returns-in-None : goal.returns-in-None
+returns-in-None c =
+    let ends = ends_is Decides-eqb c.args.text.now c.args.end.now _ refl in
+    rw (false_from_ne_true _ (λ e. c.in-None.ensures.cases _ (ends.0 e))) refl
