@@ -3,7 +3,6 @@ use Rattle.std.proofs.Common.{◌≡◌, ap, arith, refl, sym, ℕ, List, [], �
 use Rattle.std.proofs.Common.{Bool, append_assoc, filter, not, true, false}
 use Rattle.std.proofs.lemmas.List.Folds.{list_any-append}
 use Rattle.std.proofs.lemmas.Slice.Eq.{bytes_eq-Decides}
-use Rattle.std.specs.List.{list_any}
 use Rattle.std.specs.Option.{option_or}
 use Rattle.std.specs.Str.{bytes_eq}
 use Rattle.catalogue.specs.Files.{Line}

@@ -6,8 +6,10 @@ pub mod HeldLemmas
 pub mod KeyLemmas
 pub mod KindLemmas
 pub mod LineLemmas
+pub mod NearLemmas
 pub mod OwnLemmas
 pub mod PlaceLemmas
+pub mod ReportLemmas
 pub mod SlipLemmas
 pub mod SoundLemmas
 pub mod UnusedLemmas

@@ -21,3 +21,5 @@ pub mod Unused
 pub mod Lacks
 pub mod Nearest
 pub mod Firsts
+pub mod Reported
+pub mod Translations

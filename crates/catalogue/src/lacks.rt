@@ -27,7 +27,7 @@ use std::alloc::{AllocError, Global};
 use std::collections::HashMap;
 
 /// The key of the message of a line, if it has one.
-fn key_of(line: &str) -> Option<&str>
+pub fn key_of(line: &str) -> Option<&str>
     ensures { option_map (λ x. x.now) result ≡ key_if_message line.now }
 {
     match message_of(line) {
@@ -165,7 +165,7 @@ fn has_before(
 }
 
 /// The parts of a key around its last `.`, if it has one.
-fn around_dot(key: &str) -> Option<(&str, &str)>
+pub fn around_dot(key: &str) -> Option<(&str, &str)>
     ensures { option_map (λ x. (x.0.now, x.1.now)) result ≡ rsplit_once 46 key.now }
 {
     key.rsplit_once('.')

@@ -75,6 +75,7 @@
 #![tactic(auto)]
 
 mod answers;
+mod arguments;
 mod asked;
 mod checks;
 mod declarations;
@@ -94,6 +95,7 @@ mod objects;
 mod picks;
 mod places;
 mod plural_forms;
+mod po_reports;
 mod reports;
 mod rules;
 mod translated;

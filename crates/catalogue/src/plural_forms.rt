@@ -1,8 +1,9 @@
 //! The header of a PO file: its Plural-Forms, and its character set.
 
 use crate::files::File;
+use crate::po_reports::told_in;
 use crate::rules::problem_text;
-use crate::translations::{is_head, told_in};
+use crate::translations::is_head;
 use interpolator::Error;
 use plurals::{ParseError, parse};
 use po::{Entry, Placed};

@@ -5,10 +5,9 @@ use crate::files::File;
 use crate::messages::{Answer, made};
 use crate::objects::objects_of;
 use crate::plural_forms::{PluralForms, header_of, plural_forms, told_of_charset};
+use crate::po_reports::{told_at_byte, told_of_error};
 use crate::rules::Named;
-use crate::translations::{
-    is_translated, template_of, told_at_byte, told_of_entries, told_of_error,
-};
+use crate::translations::{is_translated, template_of, told_of_entries};
 use interpolator::{Error, Escape};
 use plurals::{ParseError, Values, parse};
 use po::{Entry, Placed, ReadError, text_of, tokens_of};

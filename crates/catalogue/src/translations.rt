@@ -1,68 +1,73 @@
 //! What is wrong with the messages of a PO file, as `msgfmt -c` tells it of `%s`.
 
+ghost use Rattle.std.specs.Prelude.{◌≡◌, ◌==◌, IfErr, IfOk, length, map, string_bytes};
+ghost use Rattle.std.specs.Str.{chars};
+ghost use Rattle.interpolator.specs.Faults.{answer_of, no_memory};
+ghost use Rattle.interpolator_syntax.specs.Arguments.{argument_of};
+ghost use Rattle.po.specs.Entries.{as_entry, lists_of};
+ghost use Rattle.po.specs.Sections.{text_of, token_text};
+ghost use Rattle.catalogue.specs.Reported.{Each, When};
+ghost use Rattle.catalogue.specs.Translations.{TellsFault, TellsFormat, TellsFormats, TellsPlaces};
+ghost use Rattle.catalogue.specs.Translations.{TellsSingle, TellsText, TellsTexts, is_empty};
+ghost use Rattle.catalogue.specs.Translations.{arguments_in, is_head, is_translated};
+
+use crate::arguments::{told_of_lacking, told_of_others};
 use crate::declarations::Heading;
 use crate::examples::faults_of;
-use crate::files::{File, Line};
+use crate::files::File;
 use crate::keys::{add, no_keys};
 use crate::plural_forms::{PluralForms, told_of_rule};
-use crate::reports::told_at;
-use interpolator::{Argument, Error, Escape, Kind, PlaceError, Position, Template, Trait};
+use crate::po_reports::{told_in, told_of_error};
+use interpolator::{Argument, Error, Escape, PlaceError, Position, Template};
 use interpolator_escapes::check_format;
-use po::{Entry, Placed, place_of, text_of};
+use po::{Entry, Placed, Token, place_of, text_of};
 use std::alloc::Global;
 use std::collections::HashMap;
 
-/// The line of a file at a byte, and which byte of the line that is.
-fn line_at(file: &File, place: usize) -> (Line<'_, '_>, usize) {
-    let text = file.text.as_str();
-    let front = text.get(..place).unwrap_or(text);
-    let start = match front.rsplit_once('\n') {
-        Some((before, _)) => before.len().saturating_add(1),
-        None => 0,
-    };
-    let rest = text.get(start..).unwrap_or("");
-    let line = Line {
-        file: file.name.as_str(),
-        number: Position::of(text, place).line,
-        text: rest.lines().next().unwrap_or(""),
-        rest: &[],
-    };
-    (line, place.saturating_sub(start))
-}
-
-/// Reports something at a byte of a file, with its line and a mark.
-pub fn told_at_byte(alloc: Global, file: &File, place: usize, what: &str) -> Result<String, Error> {
-    let (line, place) = line_at(file, place);
-    told_at(alloc, &line, place, what)
-}
-
-/// Reports something at a byte of the text that strings of a file make.
-pub fn told_in(
+/// Reports some faults of the format that strings make.
+fn told_of_faults(
     alloc: Global,
     file: &File,
     strings: &[Placed],
-    byte: usize,
-    what: &str,
-) -> Result<String, Error> {
-    let place = place_of(file.text.as_str(), strings, byte);
-    told_at_byte(alloc, file, place, what)
+    errors: &[Error],
+) -> Result<String, Error>
+    ensures told { IfOk result (λ told.
+        Each (TellsFault file.now) (map answer_of errors.now) (string_bytes told)) }
+    ensures refused { IfErr result (λ error. answer_of error ≡ no_memory) }
+{
+    let mut told = String::new(alloc);
+    for error in errors {
+        let more = told_of_error(alloc, file, strings, error)?;
+        told.push_str(more.as_str())?;
+    }
+    Ok(told)
 }
 
-/// Reports a fault of the format that strings make.
-pub fn told_of_error(
+/// Reports the first value of the format that strings make in no place of an escape, if one is
+/// asked for.
+fn told_of_places(
     alloc: Global,
     file: &File,
+    escape: Option<Escape>,
     strings: &[Placed],
-    error: &Error,
-) -> Result<String, Error> {
-    let what = format!(in alloc; "{error}")?;
-    told_in(
-        alloc,
-        file,
-        strings,
-        error.place().unwrap_or(0),
-        what.as_str(),
-    )
+    format: &str,
+) -> Result<String, Error>
+    ensures told { IfOk result (λ told.
+        TellsPlaces file.now escape format.now (string_bytes told)) }
+    ensures refused { IfErr result (λ error. answer_of error ≡ no_memory) }
+{
+    let Some(escape) = escape else {
+        return Ok(String::new(alloc));
+    };
+    match check_format(alloc, escape, format) {
+        Ok(_) => Ok(String::new(alloc)),
+        Err(PlaceError::Misplaced(misplaced)) => {
+            let what = format!(in alloc; "{}", misplaced.why)?;
+            let told = told_in(alloc, file, strings, misplaced.place, what.as_str())?;
+            Ok(told)
+        }
+        Err(PlaceError::NoMemory) => Err(Error::NoMemory),
+    }
 }
 
 /// Reports what is wrong with the format that strings make by itself, and the first value that is
@@ -73,124 +78,58 @@ fn told_of_format(
     escape: Option<Escape>,
     strings: &[Placed],
     template: &Template,
-) -> Result<String, Error> {
-    let mut told = String::new(alloc);
-    for error in &faults_of(alloc, template, &Heading::Plain)? {
-        let more = told_of_error(alloc, file, strings, error)?;
-        told.push_str(more.as_str())?;
-    }
-    let Some(escape) = escape else {
-        return Ok(told);
-    };
-    match check_format(alloc, escape, template.text()) {
-        Ok(_) => Ok(told),
-        Err(PlaceError::Misplaced(misplaced)) => {
-            let what = format!(in alloc; "{}", misplaced.why)?;
-            let more = told_in(alloc, file, strings, misplaced.place, what.as_str())?;
-            told.push_str(more.as_str())?;
-            Ok(told)
-        }
-        Err(PlaceError::NoMemory) => Err(Error::NoMemory),
-    }
-}
-
-/// Whether two arguments write the same under the same trait, or are both lists. The items of a
-/// list may always be displayed.
-fn is_same(one: &Argument<'_>, other: &Argument<'_>) -> bool {
-    match (&one.kind, &other.kind) {
-        (Kind::Value(a), Kind::Value(b)) => one.name == other.name && a == b,
-        (Kind::List { .. }, Kind::List { .. }) => one.name == other.name,
-        _ => false,
-    }
-}
-
-/// Whether an argument displays an item of a list.
-fn is_plain_item(one: &Argument<'_>) -> bool {
-    one.name.is_empty() && one.kind == Kind::Value(Trait::Display)
-}
-
-/// Whether one of some arguments is the same as this one.
-fn has_same(arguments: &[Argument<'_>], one: &Argument<'_>) -> bool {
-    arguments.iter().any(|other| is_same(one, other))
-}
-
-/// Whether one of some arguments has a name.
-fn has_name(arguments: &[Argument<'_>], name: &str) -> bool {
-    arguments.iter().any(|other| other.name == name)
-}
-
-/// Reports the arguments of a translation that neither text of its message has.
-fn told_of_others(
-    alloc: Global,
-    file: &File,
-    strings: &[Placed],
-    found: &[Argument<'_>],
-    id: &[Argument<'_>],
-    plural: &[Argument<'_>],
-) -> Result<String, Error> {
-    let mut told = String::new(alloc);
-    for one in found {
-        if is_plain_item(one) || has_same(id, one) || has_same(plural, one) {
-            continue;
-        }
-        let name = one.name;
-        let what = if has_name(id, name) || has_name(plural, name) {
-            format!(in alloc; "the message has `{{{name}}}` otherwise")?
-        } else {
-            format!(in alloc; "the message has no `{{{name}}}`")?
-        };
-        let more = told_in(alloc, file, strings, one.name_place, what.as_str())?;
-        told.push_str(more.as_str())?;
-    }
-    Ok(told)
-}
-
-/// Reports the names of a message that its translation lacks.
-fn told_of_lacking(
-    alloc: Global,
-    file: &File,
-    strings: &[Placed],
-    wanted: &[Argument<'_>],
-) -> Result<String, Error> {
-    let template = template_of(alloc, strings)?;
-    let arguments = template.arguments(alloc)?;
-    let found = arguments.as_slice();
-    let mut told = String::new(alloc);
-    for one in wanted {
-        let name = one.name;
-        if !has_name(found, name) {
-            let what = format!(in alloc; "the translation lacks `{{{name}}}`")?;
-            let more = told_in(alloc, file, strings, 0, what.as_str())?;
-            told.push_str(more.as_str())?;
-        }
-    }
+) -> Result<String, Error>
+    ensures told { IfOk result (λ told.
+        TellsFormat file.now escape template.now (string_bytes told)) }
+    ensures refused { IfErr result (λ error. answer_of error ≡ no_memory) }
+{
+    let errors = faults_of(alloc, template, &Heading::Plain)?;
+    let mut told = told_of_faults(alloc, file, strings, errors.as_slice())?;
+    let more = told_of_places(alloc, file, escape, strings, template.text())?;
+    told.push_str(more.as_str())?;
     Ok(told)
 }
 
 /// The format that strings make.
-pub fn template_of(alloc: Global, strings: &[Placed]) -> Result<Template, Error> {
+pub fn template_of(alloc: Global, strings: &[Placed]) -> Result<Template, Error>
+    ensures format { IfOk result (λ template. template ≡ text_of strings.now) }
+    ensures refused { IfErr result (λ error. answer_of error ≡ no_memory) }
+{
     let text = text_of(alloc, strings)?;
     Template::parse(alloc, text.as_str())
 }
 
-/// Whether the text that strings make is empty.
-pub fn is_empty(strings: &[Placed]) -> bool {
-    strings.iter().all(|one| match &one.token {
-        po::Token::Text(text) => text.is_empty(),
+/// Whether the text of a token is empty.
+fn is_empty_token(token: &Token) -> bool
+    ensures { result ≡ (length (token_text token.now) == 0) }
+{
+    match token {
+        Token::Text(text) => text.is_empty(),
         _ => true,
-    })
+    }
+}
+
+/// Whether the text that strings make is empty.
+pub fn is_empty(strings: &[Placed]) -> bool
+    ensures { result ≡ is_empty strings.now }
+{
+    strings.iter().all(|one| is_empty_token(&one.token))
 }
 
 /// Whether a message has a translation that counts.
-pub fn is_translated(entry: &Entry<'_>) -> bool {
+pub fn is_translated(entry: &Entry<'_>) -> bool
+    ensures { result ≡ is_translated (as_entry entry.now) }
+{
     match entry.texts.first() {
-        Some(first) => !entry.is_fuzzy && !is_empty(first),
+        Some(first) => !is_empty(first) && !entry.is_fuzzy,
         None => false,
     }
 }
 
 /// Whether a message is the head of its file.
-pub fn is_head(entry: &Entry<'_>) -> bool {
+pub fn is_head(entry: &Entry<'_>) -> bool
+    ensures { result ≡ is_head (as_entry entry.now) }
+{
     entry.context.is_empty() && is_empty(entry.id)
 }
 
@@ -203,7 +142,11 @@ fn told_of_text(
     strings: &[Placed],
     id: &[Argument<'_>],
     plural: &[Argument<'_>],
-) -> Result<String, Error> {
+) -> Result<String, Error>
+    ensures told { IfOk result (λ told. TellsText file.now escape (map argument_of id.now)
+        (map argument_of plural.now) strings.now (string_bytes told)) }
+    ensures refused { IfErr result (λ error. answer_of error ≡ no_memory) }
+{
     let template = template_of(alloc, strings)?;
     let found = template.arguments(alloc)?;
     let mut told = told_of_format(alloc, file, escape, strings, &template)?;
@@ -212,40 +155,111 @@ fn told_of_text(
     Ok(told)
 }
 
+/// Reports what is wrong with each of some translations.
+fn told_of_each(
+    alloc: Global,
+    file: &File,
+    escape: Option<Escape>,
+    texts: &[&[Placed]],
+    id: &[Argument<'_>],
+    plural: &[Argument<'_>],
+) -> Result<String, Error>
+    ensures told { IfOk result (λ told. Each
+        (TellsText file.now escape (map argument_of id.now) (map argument_of plural.now))
+        (lists_of texts.now) (string_bytes told)) }
+    ensures refused { IfErr result (λ error. answer_of error ≡ no_memory) }
+{
+    let mut told = String::new(alloc);
+    for text in texts {
+        let more = told_of_text(alloc, file, escape, text, id, plural)?;
+        told.push_str(more.as_str())?;
+    }
+    Ok(told)
+}
+
+/// Reports each name of a message, if it has no plural, that its one translation lacks.
+fn told_of_single(
+    alloc: Global,
+    file: &File,
+    entry: &Entry<'_>,
+    id: &[Argument<'_>],
+) -> Result<String, Error>
+    ensures told { IfOk result (λ told. map argument_of id.now ≡ arguments_in entry.now.id.now
+        → TellsSingle file.now (as_entry entry.now) (lists_of entry.now.texts.items)
+        (string_bytes told)) }
+    ensures refused { IfErr result (λ error. answer_of error ≡ no_memory) }
+{
+    match entry.texts.as_slice() {
+        [text] if entry.plural.is_empty() => {
+            let told = told_of_lacking(alloc, file, text, id)?;
+            Ok(told)
+        }
+        _ => Ok(String::new(alloc)),
+    }
+}
+
+/// Reports what is wrong with the translations of a message whose formats these are.
+fn told_of_texts(
+    alloc: Global,
+    file: &File,
+    escape: Option<Escape>,
+    entry: &Entry<'_>,
+    id: &Template,
+    plural: &Template,
+) -> Result<String, Error>
+    ensures told { IfOk result (λ told. id.now ≡ text_of entry.now.id.now
+        → plural.now ≡ text_of entry.now.plural.now
+        → TellsTexts file.now escape (as_entry entry.now) (string_bytes told)) }
+    ensures refused { IfErr result (λ error. answer_of error ≡ no_memory) }
+{
+    let one = id.arguments(alloc)?;
+    let other = plural.arguments(alloc)?;
+    let texts = entry.texts.as_slice();
+    let mut told = told_of_each(alloc, file, escape, texts, one.as_slice(), other.as_slice())?;
+    let more = told_of_single(alloc, file, entry, one.as_slice())?;
+    told.push_str(more.as_str())?;
+    Ok(told)
+}
+
+/// Reports the same, if the translations count.
+fn told_if_translated(
+    alloc: Global,
+    file: &File,
+    escape: Option<Escape>,
+    entry: &Entry<'_>,
+    id: &Template,
+    plural: &Template,
+) -> Result<String, Error>
+    ensures told { IfOk result (λ told. id.now ≡ text_of entry.now.id.now
+        → plural.now ≡ text_of entry.now.plural.now → When (is_translated (as_entry entry.now))
+        (TellsTexts file.now escape (as_entry entry.now)) (string_bytes told)) }
+    ensures refused { IfErr result (λ error. answer_of error ≡ no_memory) }
+{
+    if is_translated(entry) {
+        let told = told_of_texts(alloc, file, escape, entry, id, plural)?;
+        return Ok(told);
+    }
+    Ok(String::new(alloc))
+}
+
 /// Reports what is wrong with the formats of a message and its translation.
 fn told_of_formats(
     alloc: Global,
     file: &File,
     escape: Option<Escape>,
     entry: &Entry<'_>,
-) -> Result<String, Error> {
+) -> Result<String, Error>
+    ensures told { IfOk result (λ told.
+        TellsFormats file.now escape (as_entry entry.now) (string_bytes told)) }
+    ensures refused { IfErr result (λ error. answer_of error ≡ no_memory) }
+{
     let id = template_of(alloc, entry.id)?;
     let plural = template_of(alloc, entry.plural)?;
     let mut told = told_of_format(alloc, file, escape, entry.id, &id)?;
     let more = told_of_format(alloc, file, escape, entry.plural, &plural)?;
     told.push_str(more.as_str())?;
-    if !is_translated(entry) {
-        return Ok(told);
-    }
-    let one = id.arguments(alloc)?;
-    let other = plural.arguments(alloc)?;
-    for strings in &entry.texts {
-        let more = told_of_text(
-            alloc,
-            file,
-            escape,
-            strings,
-            one.as_slice(),
-            other.as_slice(),
-        )?;
-        told.push_str(more.as_str())?;
-    }
-    if let [text] = entry.texts.as_slice() {
-        if entry.plural.is_empty() {
-            let more = told_of_lacking(alloc, file, text, one.as_slice())?;
-            told.push_str(more.as_str())?;
-        }
-    }
+    let last = told_if_translated(alloc, file, escape, entry, &id, &plural)?;
+    told.push_str(last.as_str())?;
     Ok(told)
 }
 

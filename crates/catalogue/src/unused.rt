@@ -164,10 +164,10 @@ fn leave_declared(left: &mut Vec<&str>, heading: &Heading<'_>)
 }
 
 /// Whether a text is this name.
-fn is_name(text: &String, name: &str) -> bool
-    ensures { result ≡ bytes_eq (chars (string_bytes text.now)) (chars name.now) }
+pub fn is_name(text: &str, name: &str) -> bool
+    ensures { result ≡ bytes_eq (chars text.now) (chars name.now) }
 {
-    text.as_str() == name
+    text == name
 }
 
 /// Whether a name is one of these.
@@ -176,7 +176,7 @@ fn is_among_names(name: &str, names: &[String]) -> bool
         ≡ list_any (λ one. bytes_eq one (chars name.now)) (name_texts names.now) }
 {
     for one in names {
-        if is_name(one, name) {
+        if is_name(one.as_str(), name) {
             return true;
         }
     }

@@ -3,8 +3,4 @@ use Rattle.catalogue.proofs.UnusedLemmas.{same_chars}
 use Rattle.catalogue.proofs.unused.is_name.Goals as goal
 
 pub returns : goal.returns
-returns c = grind (
-  arith,
-  c.as_str.ensures.value,
-  same_chars c.as_str.result.now c.args.name.now c.as_str.utf8 c.utf8.name,
-)
+returns c = grind (arith, same_chars c.args.text.now c.args.name.now c.utf8.text c.utf8.name)

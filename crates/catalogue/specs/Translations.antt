@@ -1,0 +1,139 @@
+-- What is reported of the formats of a PO file's messages and translations. Texts are bytes, and
+-- names of arguments are characters.
+use Rattle.std.specs.Prelude.{◌≡◌, ◌⊎◌, ⊤, ℕ, Bool, false, not, ◌&&◌, ◌||◌, ◌==◌, List, [], ◌∷◌}
+use Rattle.std.specs.Prelude.{◌++◌, codes, encode_utf8_all, if◌then◌else◌, length, map}
+use Rattle.std.specs.Prelude.{Option, None, Some}
+use Rattle.std.specs.List.{list_all, list_any}
+use Rattle.std.specs.Str.{bytes_eq, chars}
+use Rattle.interpolator.specs.At.{outermost}
+use Rattle.interpolator.specs.Faults.{Answer, fault}
+use Rattle.interpolator.specs.FaultTexts.{answer_text}
+use Rattle.interpolator.specs.Template.AllArguments.{arguments_of}
+use Rattle.interpolator.specs.declared.Trait.TheVariants.{Display}
+use Rattle.interpolator_escapes.specs.Placing.{FailsFor, StandsFor}
+use Rattle.interpolator_escapes.specs.PlaceTexts.{why_text}
+use Rattle.interpolator_escapes.specs.declared.escape.Escape.{Escape}
+use Rattle.interpolator_escapes.specs.declared.misplaced.Misplaced.{Misplaced}
+use Rattle.interpolator_syntax.specs.Arguments.{Argument}
+use Rattle.interpolator_syntax.specs.SpecTexts.{Kind, of_list, of_value}
+use Rattle.po.specs.Entries.{Entry}
+use Rattle.po.specs.Sections.{text_of, token_text}
+use Rattle.po.specs.declared.token.Placed.{Placed}
+use Rattle.catalogue.specs.Declarations.{nothing}
+use Rattle.catalogue.specs.Examples.{faults_of}
+use Rattle.catalogue.specs.Reported.{Each, IsToldAt, Nothing, Then, Unless, When}
+use Rattle.catalogue.specs.declared.files.File.{File}
+
+-- the arguments of the format that strings make
+abbrev pub arguments_in : List Placed → List Argument
+arguments_in strings = arguments_of (outermost (chars (text_of strings)))
+
+-- two arguments are the same: they have one name, and the same trait or both a list
+abbrev pub IsSameKind : Kind → Kind → Type 0
+IsSameKind (of_value one) (of_value other) = one ≡ other
+IsSameKind (of_list one) (of_list other) = ⊤
+IsSameKind _ _ = ⊥
+
+abbrev pub IsSame : Argument → Argument → Type 0
+IsSame one other = (one.name ≡ other.name) × IsSameKind one.kind other.kind
+
+-- one of some arguments is the same as this one
+abbrev pub HasSame : List Argument → Argument → Type 0
+HasSame [] one = ⊥
+HasSame (other ∷ more) one = IsSame one other ⊎ HasSame more one
+
+-- an argument displays an item of a list, which has no name and may always be displayed
+abbrev pub no_name : List ℕ
+no_name = chars []
+
+abbrev pub IsPlainItem : Argument → Type 0
+IsPlainItem one = (one.name ≡ no_name) × (one.kind ≡ of_value Display)
+
+-- an argument of a translation is known: a text of its message has the same, or it is such an item
+abbrev pub IsKnown : (id plural : List Argument) → Argument → Type 0
+IsKnown id plural one = IsPlainItem one ⊎ (HasSame id one ⊎ HasSame plural one)
+
+-- one of some arguments has a name
+abbrev pub has_name : List Argument → List ℕ → Bool
+has_name arguments name = list_any (λ one. bytes_eq one.name name) arguments
+
+-- what is reported of an argument that is not known, and of a name that a translation lacks
+abbrev pub what_is_other : (is_there : Bool) → (name : List ℕ) → List ℕ
+what_is_other is_there name =
+    if is_there
+    then codes "the message has `{" ++ (encode_utf8_all name ++ codes "}` otherwise")
+    else codes "the message has no `{" ++ (encode_utf8_all name ++ codes "}`")
+
+abbrev pub what_is_lacking : (name : List ℕ) → List ℕ
+what_is_lacking name = codes "the translation lacks `{" ++ (encode_utf8_all name ++ codes "}`")
+
+module _ (file : File) where
+  -- what is reported of an argument of a translation: nothing, if it is known
+  abbrev pub TellsOther : (id plural : List Argument) → Argument → List ℕ → Type 0
+  TellsOther id plural one = Unless (IsKnown id plural one) (IsToldAt file
+      (what_is_other (has_name id one.name || has_name plural one.name) one.name))
+
+  -- what is reported of an argument of a message: that the translation, which has these, lacks it
+  abbrev pub TellsLacking : (found : List Argument) → Argument → List ℕ → Type 0
+  TellsLacking found one =
+      When (not (has_name found one.name)) (IsToldAt file (what_is_lacking one.name))
+
+  -- what is reported of a fault of a format
+  abbrev pub TellsFault : Answer → List ℕ → Type 0
+  TellsFault why = IsToldAt file (answer_text why)
+
+  -- what is reported of the first value of a format in no place of an escape, if one is asked for
+  abbrev pub TellsPlaces : Option Escape → (format : List ℕ) → List ℕ → Type 0
+  TellsPlaces None format told = Nothing told
+  TellsPlaces (Some escape) format told =
+      (StandsFor escape (outermost (chars format)) × Nothing told)
+      ⊎ ((why : Misplaced) × FailsFor escape (outermost (chars format)) why
+      × IsToldAt file (why_text why.why) told)
+
+  -- what is reported of a format by itself: each of its faults, and that value
+  abbrev pub TellsFormat : Option Escape → (format : List ℕ) → List ℕ → Type 0
+  TellsFormat escape format =
+      Then (Each TellsFault (map fault (faults_of nothing format))) (TellsPlaces escape format)
+
+  -- what is reported of a translation of a message with these arguments
+  abbrev pub TellsText : Option Escape → (id plural : List Argument) → List Placed → List ℕ
+      → Type 0
+  TellsText escape id plural strings = Then (TellsFormat escape (text_of strings))
+      (Each (TellsOther id plural) (arguments_in strings))
+
+-- strings make an empty text
+abbrev pub is_empty : List Placed → Bool
+is_empty strings = list_all (λ one. length (token_text one.token) == 0) strings
+
+-- a message has a translation that counts: it is not fuzzy, and its first form is not empty
+abbrev pub has_text : List (List Placed) → Bool
+has_text [] = false
+has_text (first ∷ more) = not (is_empty first)
+
+abbrev pub is_translated : Entry → Bool
+is_translated entry = has_text entry.texts && not entry.fuzzy
+
+-- a message is the head of its file
+abbrev pub is_head : Entry → Bool
+is_head entry = length entry.context == 0 && is_empty entry.id
+
+module _ (file : File) where
+  -- what is reported of the one translation of a message without a plural: each name that it lacks
+  abbrev pub TellsSingle : Entry → List (List Placed) → List ℕ → Type 0
+  TellsSingle entry (text ∷ []) = When (length entry.plural == 0)
+      (Each (TellsLacking file (arguments_in text)) (arguments_in entry.id))
+  TellsSingle entry texts = Nothing
+
+  -- what is reported of the translations of a message
+  abbrev pub TellsTexts : Option Escape → Entry → List ℕ → Type 0
+  TellsTexts escape entry = Then
+      (Each (TellsText file escape (arguments_in entry.id) (arguments_in entry.plural)) entry.texts)
+      (TellsSingle entry entry.texts)
+
+  -- what is reported of a message: what is wrong with its formats, and with its translations, if
+  -- they count
+  abbrev pub TellsFormats : Option Escape → Entry → List ℕ → Type 0
+  TellsFormats escape entry = Then
+      (Then (TellsFormat file escape (text_of entry.id))
+      (TellsFormat file escape (text_of entry.plural)))
+      (When (is_translated entry) (TellsTexts escape entry))

@@ -1,0 +1,75 @@
+//! What is reported at a byte of a PO file.
+
+ghost use Rattle.std.specs.Prelude.{◌≡◌, IfErr, IfOk, string_bytes};
+ghost use Rattle.interpolator.specs.Faults.{answer_of, no_memory};
+ghost use Rattle.interpolator.specs.Positions.{line_at};
+ghost use Rattle.catalogue.specs.Reported.{IsToldAt};
+ghost use Rattle.catalogue.specs.Translations.{TellsFault};
+
+use crate::files::{File, Line};
+use crate::reports::told_at;
+use interpolator::{Error, Position};
+use po::{Placed, place_of};
+use std::alloc::Global;
+
+/// The line of a file at a byte, and which byte of the line that is.
+fn line_at(file: &File, place: usize) -> (Line<'_, '_>, usize)
+    ensures named { result.0.file.now ≡ string_bytes file.now.name }
+    ensures numbered { result.0.number ≡ line_at (string_bytes file.now.text) place }
+{
+    let text = file.text.as_str();
+    let front = text.get(..place).unwrap_or(text);
+    let start = match front.rsplit_once('\n') {
+        Some((before, _)) => before.len().saturating_add(1),
+        None => 0,
+    };
+    let rest = text.get(start..).unwrap_or("");
+    let line = Line {
+        file: file.name.as_str(),
+        number: Position::of(text, place).line,
+        text: rest.lines().next().unwrap_or(""),
+        rest: &[],
+    };
+    (line, place.saturating_sub(start))
+}
+
+/// Reports something at a byte of a file, with its line and a mark.
+pub fn told_at_byte(alloc: Global, file: &File, place: usize, what: &str) -> Result<String, Error>
+    ensures told { IfOk result (λ told. IsToldAt file.now what.now (string_bytes told)) }
+    ensures refused { IfErr result (λ error. answer_of error ≡ no_memory) }
+{
+    let (line, place) = line_at(file, place);
+    let told = told_at(alloc, &line, place, what)?;
+    Ok(told)
+}
+
+/// Reports something at a byte of the text that strings of a file make.
+pub fn told_in(
+    alloc: Global,
+    file: &File,
+    strings: &[Placed],
+    byte: usize,
+    what: &str,
+) -> Result<String, Error>
+    ensures told { IfOk result (λ told. IsToldAt file.now what.now (string_bytes told)) }
+    ensures refused { IfErr result (λ error. answer_of error ≡ no_memory) }
+{
+    let place = place_of(file.text.as_str(), strings, byte);
+    told_at_byte(alloc, file, place, what)
+}
+
+/// Reports a fault of the format that strings make.
+pub fn told_of_error(
+    alloc: Global,
+    file: &File,
+    strings: &[Placed],
+    error: &Error,
+) -> Result<String, Error>
+    ensures told { IfOk result (λ told.
+        TellsFault file.now (answer_of error.now) (string_bytes told)) }
+    ensures refused { IfErr result (λ error. answer_of error ≡ no_memory) }
+{
+    let what = format!(in alloc; "{error}")?;
+    let byte = error.place().unwrap_or(0);
+    told_in(alloc, file, strings, byte, what.as_str())
+}
