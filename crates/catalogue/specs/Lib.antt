@@ -23,3 +23,4 @@ pub mod Nearest
 pub mod Firsts
 pub mod Reported
 pub mod Translations
+pub mod PluralForms

@@ -1,5 +1,10 @@
 //! The header of a PO file: its Plural-Forms, and its character set.
 
+ghost use Rattle.std.specs.Prelude.{◌≡◌, map};
+ghost use Rattle.std.specs.Option.{option_map};
+ghost use Rattle.po.specs.Entries.{as_entry};
+ghost use Rattle.catalogue.specs.PluralForms.{header_in, header_of};
+
 use crate::files::File;
 use crate::po_reports::told_in;
 use crate::rules::problem_text;
@@ -20,13 +25,23 @@ pub struct PluralForms<'h> {
     header: &'h [Placed],
 }
 
+/// The strings of a header, if a message is one.
+fn header_in<'t>(entry: &Entry<'t>) -> Option<&'t [Placed]>
+    ensures { option_map (λ x. x.now) result ≡ header_in (as_entry entry.now) }
+{
+    if is_head(entry) {
+        return entry.texts.first().copied();
+    }
+    None
+}
+
 /// The strings of the header of a file: the translation of the empty message.
-pub fn header_of<'t>(entries: &[Entry<'t>]) -> &'t [Placed] {
+pub fn header_of<'t>(entries: &[Entry<'t>]) -> &'t [Placed]
+    ensures { result.now ≡ header_of (map as_entry entries.now) }
+{
     for entry in entries {
-        if let Some(text) = entry.texts.first() {
-            if is_head(entry) {
-                return *text;
-            }
+        if let Some(text) = header_in(entry) {
+            return text;
         }
     }
     &[]

@@ -1,5 +1,10 @@
 //! The message under a text of a PO file.
 
+ghost use Rattle.std.specs.Prelude.{◌≡◌, IfOk, slice_get};
+ghost use Rattle.std.specs.Option.{option_map};
+ghost use Rattle.po.specs.Entries.{as_entry, lists_of};
+ghost use Rattle.catalogue.specs.PluralForms.{form_of, index_of, own_text};
+
 use crate::entries::{Object, entries_of, pairs_of};
 use crate::files::File;
 use crate::messages::{Answer, made};
@@ -11,7 +16,7 @@ use crate::translations::{is_translated, template_of, told_of_entries};
 use interpolator::{Error, Escape};
 use plurals::{ParseError, Values, parse};
 use po::{Entry, Placed, ReadError, text_of, tokens_of};
-use std::alloc::Global;
+use std::alloc::{AllocError, Global};
 
 /// The message that is looked up.
 #[derive(Clone, Copy)]
@@ -54,29 +59,59 @@ fn found_in<'e, 't>(
     Ok(None)
 }
 
+/// The text of a message for a number, without its translation.
+fn own_text<'t>(entry: &Entry<'t>, number: u128) -> &'t [Placed]
+    ensures { result.now ≡ own_text (as_entry entry.now) number }
+{
+    if entry.plural.is_empty() || number == 1 {
+        return entry.id;
+    }
+    entry.plural
+}
+
+/// Which form a rule chooses of a message for a number.
+fn index_of(alloc: Global, rule: &str, entry: &Entry<'_>, number: u128) -> Result<u128, AllocError>
+    ensures { IfOk result (λ index. index ≡ index_of rule.now (as_entry entry.now) number) }
+{
+    if entry.plural.is_empty() {
+        return Ok(0);
+    }
+    match parse(alloc, rule) {
+        Ok(read) => Ok(read.value(&number)),
+        Err(ParseError::Broken(_)) => Ok(0),
+        Err(ParseError::NoMemory) => Err(AllocError),
+    }
+}
+
+/// The form of this index, if there is one.
+fn form_at<'t>(texts: &[&'t [Placed]], index: u128) -> Option<&'t [Placed]>
+    ensures { option_map (λ x. x.now) result ≡ slice_get (lists_of texts.now) index }
+{
+    match usize::try_from(index) {
+        Ok(index) => texts.get(index).copied(),
+        Err(_) => None,
+    }
+}
+
 /// The strings of the form that a rule chooses of a message for a number, or of its own text, if it
 /// has no translation that counts.
 fn form_of<'t>(
     alloc: Global,
-    forms: &PluralForms<'_>,
+    rule: &str,
     entry: &Entry<'t>,
     number: u128,
-) -> Result<&'t [Placed], Error> {
-    let own = if entry.plural.is_empty() || number == 1 {
-        entry.id
-    } else {
-        entry.plural
-    };
+) -> Result<&'t [Placed], AllocError>
+    ensures { IfOk result (λ form. form.now ≡ form_of rule.now (as_entry entry.now) number) }
+{
+    let own = own_text(entry, number);
     if !is_translated(entry) {
         return Ok(own);
     }
-    let index = match parse(alloc, forms.rule) {
-        Ok(read) if !entry.plural.is_empty() => read.value(&number),
-        Err(ParseError::NoMemory) => return Err(Error::NoMemory),
-        _ => 0,
-    };
-    let index = usize::try_from(index).unwrap_or(usize::MAX);
-    Ok(entry.texts.get(index).copied().unwrap_or(own))
+    let index = index_of(alloc, rule, entry, number)?;
+    match form_at(entry.texts.as_slice(), index) {
+        Some(form) => Ok(form),
+        None => Ok(own),
+    }
 }
 
 /// The text of a format that strings make, with the values of objects; or its fault.
@@ -123,7 +158,7 @@ fn message(
             Ok(Answer::Faults(told))
         }
         number => {
-            let strings = form_of(alloc, forms, entry, number.unwrap_or(1))?;
+            let strings = form_of(alloc, forms.rule, entry, number.unwrap_or(1))?;
             said(alloc, file, escape, strings, objects)
         }
     }
