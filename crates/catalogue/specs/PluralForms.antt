@@ -1,5 +1,6 @@
 -- The header of a PO file, and which form of a message a number chooses. Texts are bytes.
-use Rattle.std.specs.Prelude.{ℕ, ◌==◌, ◌||◌, List, [], ◌∷◌, if◌then◌else◌, length, slice_get}
+use Rattle.std.specs.Prelude.{◌≡◌, ◌<◌, ◌≤◌, ℕ, ◌==◌, ◌||◌, List, [], ◌∷◌, if◌then◌else◌}
+use Rattle.std.specs.Prelude.{length, slice_get}
 use Rattle.std.specs.Prelude.{Option, None, Some, Result, Ok, Err}
 use Rattle.std.specs.Option.{unwrap_or}
 use Rattle.plurals.specs.Readings.{tree_at}
@@ -44,3 +45,14 @@ form_of rule entry number =
     if is_translated entry
     then unwrap_or (slice_get entry.texts (index_of rule entry number)) (own_text entry number)
     else own_text entry number
+
+-- a rule gives forms that there are for all numbers below this one
+abbrev pub AreBelow : (count limit : ℕ) → Tree → Type 0
+AreBelow count limit tree = (n : ℕ) → n < limit → value_for n (Ok tree) < count
+
+-- the first number for which it gives another, and what it gives
+pub record IsFirstBeyond (count : ℕ) (tree : Tree) (found : ℕ × ℕ) : Type 0 where
+  pub small : found.0 ≤ 1000
+  pub first : AreBelow count found.0 tree
+  pub value : found.1 ≡ value_for found.0 (Ok tree)
+  pub beyond : count ≤ found.1

@@ -1,8 +1,9 @@
 -- What is reported of the formats of a PO file's messages and translations. Texts are bytes, and
 -- names of arguments are characters.
-use Rattle.std.specs.Prelude.{◌≡◌, ◌⊎◌, ⊤, ℕ, Bool, false, not, ◌&&◌, ◌||◌, ◌==◌, List, [], ◌∷◌}
-use Rattle.std.specs.Prelude.{◌++◌, codes, encode_utf8_all, if◌then◌else◌, length, map}
-use Rattle.std.specs.Prelude.{Option, None, Some}
+use Rattle.std.specs.Prelude.{◌≡◌, ◌⊎◌, ⊤, ℕ, Bool, true, false, not, ◌&&◌, ◌||◌, ◌==◌}
+use Rattle.std.specs.Prelude.{List, [], ◌∷◌, ◌++◌, codes, encode_utf8_all, if◌then◌else◌, length}
+use Rattle.std.specs.Prelude.{map, Option, None, Some}
+use Rattle.std.specs.Fmt.{decimal}
 use Rattle.std.specs.List.{list_all, list_any}
 use Rattle.std.specs.Str.{bytes_eq, chars}
 use Rattle.interpolator.specs.At.{outermost}
@@ -137,3 +138,28 @@ module _ (file : File) where
       (Then (TellsFormat file escape (text_of entry.id))
       (TellsFormat file escape (text_of entry.plural)))
       (When (is_translated entry) (TellsTexts escape entry))
+
+-- a message with a plural has a translation that counts, of another number of forms than the file
+-- tells
+abbrev pub has_other_count : (wanted : ℕ) → Entry → Bool
+has_other_count wanted entry = is_translated entry
+    && (not (length entry.plural == 0) && not (length entry.texts == wanted))
+
+-- what is reported of that, and of a message that stands on a line before
+abbrev pub what_is_count : (count wanted : ℕ) → List ℕ
+what_is_count count wanted = decimal count
+    ++ (codes " of " ++ (decimal wanted ++ codes " forms that Plural-Forms tells"))
+
+abbrev pub what_is_twice : (line : ℕ) → List ℕ
+what_is_twice line = codes "line " ++ (decimal line ++ codes " has this message too")
+
+module _ (file : File) where
+  -- what is reported of the number of forms of a message
+  abbrev pub TellsCount : (wanted : ℕ) → Entry → List ℕ → Type 0
+  TellsCount wanted entry = When (has_other_count wanted entry)
+      (IsToldAt file (what_is_count (length entry.texts) wanted))
+
+  -- what is reported of a message that stands twice
+  abbrev pub TellsTwice : (is_twice : Bool) → List ℕ → Type 0
+  TellsTwice true told = (line : ℕ) × IsToldAt file (what_is_twice line) told
+  TellsTwice false told = Nothing told

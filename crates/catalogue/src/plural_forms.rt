@@ -1,9 +1,10 @@
 //! The header of a PO file: its Plural-Forms, and its character set.
 
-ghost use Rattle.std.specs.Prelude.{◌≡◌, map};
+ghost use Rattle.std.specs.Prelude.{◌≡◌, MatchOption, map};
 ghost use Rattle.std.specs.Option.{option_map};
 ghost use Rattle.po.specs.Entries.{as_entry};
-ghost use Rattle.catalogue.specs.PluralForms.{header_in, header_of};
+ghost use Rattle.plurals.specs.Trees.{tree_of};
+ghost use Rattle.catalogue.specs.PluralForms.{AreBelow, IsFirstBeyond, header_in, header_of};
 
 use crate::files::File;
 use crate::po_reports::told_in;
@@ -84,13 +85,15 @@ fn count_in(text: &str) -> Option<usize> {
 
 /// The first number up to 1000 for which a rule chooses no form that there is, with what it
 /// chooses.
-fn beyond(read: &plurals::Expression<'_>, count: usize) -> Option<(u128, u128)> {
+fn beyond(read: &plurals::Expression<'_>, count: usize) -> Option<(u128, u128)>
+    ensures { MatchOption result (AreBelow count 1001 (tree_of read.now))
+        (λ found. IsFirstBeyond count (tree_of read.now) found) }
+{
     for index in 0..1001usize {
         let n = index as u128;
         let value = read.value(&n);
-        match usize::try_from(value) {
-            Ok(form) if form < count => {}
-            _ => return Some((n, value)),
+        if count as u128 <= value {
+            return Some((n, value));
         }
     }
     None

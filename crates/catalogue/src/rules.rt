@@ -1,6 +1,6 @@
 //! The rule of a file, which chooses the form of a message by numbers and texts.
 
-ghost use Rattle.std.specs.Prelude.{◌≡◌, ℕ, List, IfOk};
+ghost use Rattle.std.specs.Prelude.{◌≡◌, IfOk};
 ghost use Rattle.std.specs.Option.{option_map};
 ghost use Rattle.catalogue.specs.Rules.{as_wrong, counted, declared_for, number_of};
 ghost use Rattle.catalogue.specs.Rules.{number_under, numbers_of, problem_text, rule_in, text_of};

@@ -1,12 +1,13 @@
 //! What is wrong with the messages of a PO file, as `msgfmt -c` tells it of `%s`.
 
-ghost use Rattle.std.specs.Prelude.{◌≡◌, ◌==◌, IfErr, IfOk, length, map, string_bytes};
-ghost use Rattle.std.specs.Str.{chars};
+ghost use Rattle.std.specs.Prelude.{◌≡◌, ◌==◌, IfErr, IfOk, is_some, length, map};
+ghost use Rattle.std.specs.Prelude.{string_bytes};
 ghost use Rattle.interpolator.specs.Faults.{answer_of, no_memory};
 ghost use Rattle.interpolator_syntax.specs.Arguments.{argument_of};
 ghost use Rattle.po.specs.Entries.{as_entry, lists_of};
 ghost use Rattle.po.specs.Sections.{text_of, token_text};
 ghost use Rattle.catalogue.specs.Reported.{Each, When};
+ghost use Rattle.catalogue.specs.Translations.{TellsCount, TellsTwice, has_other_count};
 ghost use Rattle.catalogue.specs.Translations.{TellsFault, TellsFormat, TellsFormats, TellsPlaces};
 ghost use Rattle.catalogue.specs.Translations.{TellsSingle, TellsText, TellsTexts, is_empty};
 ghost use Rattle.catalogue.specs.Translations.{arguments_in, is_head, is_translated};
@@ -263,29 +264,51 @@ fn told_of_formats(
     Ok(told)
 }
 
-/// Reports that a message stands twice, or that its translation has fewer or more forms than the
-/// file tells.
-fn told_of_place(
+/// Whether a translation that counts, of a message with a plural, has another number of forms.
+fn has_other_count(wanted: usize, entry: &Entry<'_>) -> bool
+    ensures { result ≡ has_other_count wanted (as_entry entry.now) }
+{
+    is_translated(entry) && !entry.plural.is_empty() && entry.texts.len() != wanted
+}
+
+/// Reports that a translation has fewer or more forms than the file tells.
+fn told_of_count(
     alloc: Global,
     file: &File,
-    forms: &PluralForms<'_>,
+    wanted: usize,
+    entry: &Entry<'_>,
+) -> Result<String, Error>
+    ensures told { IfOk result (λ told.
+        TellsCount file.now wanted (as_entry entry.now) (string_bytes told)) }
+    ensures refused { IfErr result (λ error. answer_of error ≡ no_memory) }
+{
+    if has_other_count(wanted, entry) {
+        let count = entry.texts.len();
+        let what = format!(in alloc; "{count} of {wanted} forms that Plural-Forms tells")?;
+        let told = told_in(alloc, file, entry.id, 0, what.as_str())?;
+        return Ok(told);
+    }
+    Ok(String::new(alloc))
+}
+
+/// Reports that a message stands twice, if it stands before.
+fn told_of_twice(
+    alloc: Global,
+    file: &File,
     entry: &Entry<'_>,
     before: Option<&Entry<'_>>,
-) -> Result<String, Error> {
+) -> Result<String, Error>
+    ensures told { IfOk result (λ told.
+        TellsTwice file.now (is_some before.entry) (string_bytes told)) }
+    ensures refused { IfErr result (λ error. answer_of error ≡ no_memory) }
+{
+    let Some(before) = before else {
+        return Ok(String::new(alloc));
+    };
     let text = file.text.as_str();
-    let mut told = String::new(alloc);
-    if let Some(before) = before {
-        let line = Position::of(text, place_of(text, before.id, 0)).line;
-        let what = format!(in alloc; "line {line} has this message too")?;
-        told = told_in(alloc, file, entry.id, 0, what.as_str())?;
-    }
-    let count = entry.texts.len();
-    if is_translated(entry) && !entry.plural.is_empty() && count != forms.count {
-        let wanted = forms.count;
-        let what = format!(in alloc; "{count} of {wanted} forms that Plural-Forms tells")?;
-        let more = told_in(alloc, file, entry.id, 0, what.as_str())?;
-        told.push_str(more.as_str())?;
-    }
+    let line = Position::of(text, place_of(text, before.id, 0)).line;
+    let what = format!(in alloc; "line {line} has this message too")?;
+    let told = told_in(alloc, file, entry.id, 0, what.as_str())?;
     Ok(told)
 }
 
@@ -333,7 +356,9 @@ pub fn told_of_entries(
             _ => None,
         };
         index = index.saturating_add(1);
-        let more = told_of_place(alloc, file, forms, entry, before)?;
+        let more = told_of_twice(alloc, file, entry, before)?;
+        told.push_str(more.as_str())?;
+        let more = told_of_count(alloc, file, forms.count, entry)?;
         told.push_str(more.as_str())?;
         if !entry.is_fuzzy && !is_head(entry) {
             let more = told_of_formats(alloc, file, escape, entry)?;
