@@ -3,9 +3,9 @@ pub mod FieldNameLemmas
 pub mod MeaningLemmas
 pub mod RowLemmas
 -- of this crate alone
+mod GuessLemmas
 mod LoanLemmas
 mod NameLemmas
 mod PairLemmas
-mod PlaceLemmas
 mod SlotLemmas
 mod SlotNameLemmas

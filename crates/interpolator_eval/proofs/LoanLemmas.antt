@@ -1,19 +1,22 @@
 -- What an insertion into a map of names leaves, and what a loan of a value does.
-use Rattle.std.proofs.Common.{◌≡◌, ◌≢◌, ◌∙◌, ◌≤◌, ◌<◌, refl, ap, sym, ℕ, suc, zero, ◌+◌, List, ◌∷◌, []}
-use Rattle.std.proofs.Common.{Option, None, Some, Bool, true, false, cond, not, arith, length, set}
+use Rattle.std.proofs.Common.{◌≡◌, ◌≢◌, ◌∙◌, ◌≤◌, ◌<◌, refl, sym, ℕ, ◌+◌, List, ◌∷◌, []}
+use Rattle.std.proofs.Common.{Option, None, Some, Bool, true, false, arith, length, set, ◌⊎◌, inl, inr}
+use Rattle.std.proofs.Common.{◌%◌, ◌^◌, nat_le, nat_eq, slice_index, slice_set}
 use Rattle.std.proofs.Common.{String, Global, Bor, MutBor, option_copied, is_some, OnSome, bytes_eq}
 use Rattle.std.proofs.Common.{encode_utf8_all, string_bytes, string_eq, if◌then◌else◌, get_or, ◌++◌, ◌&&◌, ◌==◌}
-use Rattle.std.specs.List.{find, position_or_len}
 use Rattle.std.specs.Option.{option_copied_mut, option_map, option_or}
 use Rattle.std.specs.HashMap.{get_by_text, hash_map_len, WritesThrough, Updates, UpdatesBy}
 use Rattle.std.proofs.lemmas.Bool.{false_from_ne_true}
-use Rattle.std.proofs.lemmas.List.{length-set, length-append}
-use Rattle.std.proofs.lemmas.List.Folds.{find-append, find-set, find_past}
+use Rattle.std.proofs.lemmas.List.{length-set, length-append, get_or-set_same, get_or-set_other}
 use Rattle.std.proofs.lemmas.Map.Text.{hash_map_updates_text}
 use Rattle.std.proofs.lemmas.Slice.Eq.{bytes_eq-Decides}
 use Rattle.std.proofs.lemmas.Str.{encodes_same}
 use Rattle.interpolator_eval.specs.NameMaps.{under, under_bytes, HasPut, HasNew, HasAdded}
-use Rattle.interpolator_eval.specs.NameNumbers.{is_of, first_of, name_number}
+use Rattle.interpolator_eval.specs.NameNumbers.{is_of, value_of, name_number, guess_index, guess_for}
+use Rattle.interpolator_eval.specs.NameNumbers.{guessed, guessed_place, remade}
+use Rattle.interpolator_eval.proofs.GuessLemmas.{chosen_is, chosen_passes, other_more}
+use Rattle.interpolator_eval.proofs.GuessLemmas.{other_at_end, own_at_end, own_searched, other_over}
+use Rattle.interpolator_eval.proofs.GuessLemmas.{own_over}
 use Rattle.interpolator_eval.specs.declared.numbered.Numbered.{Numbered}
 use Rattle.interpolator_eval.specs.declared.context_map.NameMap.{NameMap}
 
@@ -29,9 +32,9 @@ or_none : {X : Type 0} (a b : Option X) → option_or a b ≡ None → a ≡ Non
 or_none None b is = refl
 or_none (Some x) b is = is
 
-or_nothing : {X : Type 0} (a : Option X) → option_or a None ≡ a
-or_nothing None = refl
-or_nothing (Some x) = refl
+no_value : {X Y : Type 0} (f : X → Y) (o : Option X) → option_map f o ≡ None → o ≡ None
+no_value f None is = refl
+no_value f (Some x) is = grind (arith, is)
 
 and_right : (a b : Bool) → a && b ≡ true → b ≡ true
 and_right true b is = is
@@ -41,45 +44,51 @@ and_false : (a : Bool) → a && false ≡ false
 and_false true = refl
 and_false false = refl
 
-module _ {X : Type 0} (test : X → Bool) where
-  -- what is at the first place that passes is found, and passes
-  pub found_at : (xs : List X) (place : ℕ) (x : X) → place ≡ position_or_len test xs
-      → place < length xs → x ≡ get_or xs place x → find test xs ≡ Some x
-  found_at [] place x at within is = absurd (omega arith)
-  found_at (y ∷ ys) zero x at within is = by (test y) at
-    where
-      by : (b : Bool) → 0 ≡ cond (not b) (1 + position_or_len test ys) 0
-          → cond b (Some y) (find test ys) ≡ Some x
-      by true k = ap Some (sym is)
-      by false k = absurd (omega (arith, k))
-  found_at (y ∷ ys) (suc place) x at within is =
-      by (test y) at (λ k. found_at ys place x k (omega (arith, within)) is)
-    where
-      by : (b : Bool) → suc place ≡ cond (not b) (1 + position_or_len test ys) 0
-          → (place ≡ position_or_len test ys → find test ys ≡ Some x)
-          → cond b (Some y) (find test ys) ≡ Some x
-      by true k rest = absurd (omega (arith, k))
-      by false k rest = rest (omega (arith, k))
+module _ (guesses : List ℕ) (index place : ℕ) (small : place < 256)
+    (within : index < length guesses) where
+  set_guess : slice_index (slice_set guesses index (place % 2 ^ 8)) index ≡ place
+  set_guess = get_or-set_same guesses index (place % 2 ^ 8) 0 within ∙ omega (arith, small)
 
-  pub passes_at : (xs : List X) (x : X) → find test xs ≡ Some x → test x ≡ true
-  passes_at [] x is = grind (arith, is)
-  passes_at (y ∷ ys) x is = by (test y) refl (passes_at ys x) is
+  -- any guess then is as it was, or that of the place, which was past it
+  other_guess : (other : ℕ)
+      → (slice_index (remade guesses index place) other ≡ slice_index guesses other)
+      ⊎ ((slice_index (remade guesses index place) other ≡ place)
+      × (place ≤ slice_index guesses other))
+  other_guess other = by (nat_le place (slice_index guesses index)) refl
     where
-      by : (b : Bool) → test y ≡ b → (find test ys ≡ Some x → test x ≡ true)
-          → cond b (Some y) (find test ys) ≡ Some x → test x ≡ true
-      by true k rest found = grind (arith, k, found)
-      by false k rest found = rest found
+      at : (b : Bool) → nat_eq other index ≡ b → place ≤ slice_index guesses index
+          → (slice_index (slice_set guesses index (place % 2 ^ 8)) other ≡ slice_index guesses other)
+          ⊎ ((slice_index (slice_set guesses index (place % 2 ^ 8)) other ≡ place)
+          × (place ≤ slice_index guesses other))
+      at true e past =
+          let same : other ≡ index = grind (arith, e) in
+          inr (rw same set_guess, rw same past)
+      at false e past =
+          inl (get_or-set_other guesses index other (place % 2 ^ 8) 0 (λ same. grind (arith, e, same)))
 
-  -- past the last place nothing passes
-  pub missing : (xs : List X) → length xs ≤ position_or_len test xs → find test xs ≡ None
-  missing [] past = refl
-  missing (y ∷ ys) past = by (test y) past (missing ys)
+      by : (b : Bool) → nat_le place (slice_index guesses index) ≡ b
+          → (slice_index (if b then slice_set guesses index (place % 2 ^ 8) else guesses) other
+          ≡ slice_index guesses other)
+          ⊎ ((slice_index (if b then slice_set guesses index (place % 2 ^ 8) else guesses) other
+          ≡ place)
+          × (place ≤ slice_index guesses other))
+      by true k = at (nat_eq other index) refl (grind (arith, k))
+      by false k = inl refl
+
+  -- its own is that of the place, or of an earlier one
+  own_guess : (slice_index (remade guesses index place) index ≡ place)
+      ⊎ ((slice_index (remade guesses index place) index ≡ slice_index guesses index)
+      × (slice_index guesses index < place))
+  own_guess = by (nat_le place (slice_index guesses index)) refl
     where
-      by : (b : Bool) → length (y ∷ ys) ≤ cond (not b) (1 + position_or_len test ys) 0
-          → (length ys ≤ position_or_len test ys → find test ys ≡ None)
-          → cond b (Some y) (find test ys) ≡ None
-      by true k rest = absurd (omega (arith, k))
-      by false k rest = rest (omega (arith, k))
+      by : (b : Bool) → nat_le place (slice_index guesses index) ≡ b
+          → (slice_index (if b then slice_set guesses index (place % 2 ^ 8) else guesses) index
+          ≡ place)
+          ⊎ ((slice_index (if b then slice_set guesses index (place % 2 ^ 8) else guesses) index
+          ≡ slice_index guesses index)
+          × (slice_index guesses index < place))
+      by true k = inl set_guess
+      by false k = inr (refl, grind (arith, k))
 
 module _ {T : Type 0} where
   -- an entry of one name is of no other
@@ -94,80 +103,55 @@ module _ {T : Type 0} where
       rw (← eq) (other_bytes other name (λ e. differs (sym e))) in
       rw no (and_false (entry.number == name_number (encode_utf8_all other)))
 
-  -- the entry of a name, with another value
-  module _ (few : List (Numbered T)) (bytes : List ℕ) (place : ℕ) (entry : Numbered T)
-      (at : place ≡ position_or_len (is_of bytes) few) (within : place < length few)
-      (is : entry ≡ get_or few place entry) where
-    -- what the entry stands for is under the name
-    pub first_is : first_of few bytes ≡ Some entry.value
-    first_is = ap (option_map (λ e. e.value)) (found_at (is_of bytes) few place entry at within is)
-
-    is_of_entry : is_of bytes entry ≡ true
-    is_of_entry = passes_at (is_of bytes) few entry
-        (found_at (is_of bytes) few place entry at within is)
-
-    pub first_set : (value : T)
-        → first_of (set few place (record { number = entry.number; name = entry.name; value = value })) bytes
-        ≡ Some value
-    first_set value =
-        let new : Numbered T = record { number = entry.number; name = entry.name; value = value } in
-        ap (option_map (λ e. e.value))
-        (find-set (is_of bytes) few place new at within is_of_entry)
-
-    pub others_set : (value : T) (other : List ℕ) → is_of other entry ≡ false
-        → first_of (set few place (record { number = entry.number; name = entry.name; value = value })) other
-        ≡ first_of few other
-    others_set value other fails =
-        let new : Numbered T = record { number = entry.number; name = entry.name; value = value } in
-        ap (option_map (λ e. e.value))
-        (find_past (is_of other) few place new entry (ap (is_of other) (sym is) ∙ fails) fails)
-
-  -- without an entry of the name the rest is searched
-  pub first_missing : (few : List (Numbered T)) (bytes : List ℕ)
-      → length few ≤ position_or_len (is_of bytes) few → first_of few bytes ≡ None
-  first_missing few bytes past = ap (option_map (λ e. e.value)) (missing (is_of bytes) few past)
-
   -- what was written through a loan of the value of an entry
   pub lent_few :
       (old new : NameMap T) (name bytes : List ℕ)
       (place : ℕ) (entry : Numbered T) (last : T)
       → bytes ≡ encode_utf8_all name
-      → place ≡ position_or_len (is_of bytes) old.few.items → place < length old.few.items
+      → place ≡ guessed_place (is_of bytes) old.few.items (guess_for old.guesses bytes)
+      → place < length old.few.items
       → entry ≡ get_or old.few.items place entry
       → new.few.items ≡ set old.few.items place
       (record { number = entry.number; name = entry.name; value = last })
-      → new.rest ≡ old.rest
+      → new.guesses ≡ old.guesses → new.rest ≡ old.rest
       → HasPut old name last new
-  lent_few old new name bytes place entry last spelt at within is few rest =
-      let is_here = is_of_entry old.few.items bytes place entry at within is in
+  lent_few old new name bytes place entry last spelt at within is few guesses rest =
+      let entries = old.few.items in
+      let guess = guess_for old.guesses bytes in
+      let written : Numbered T = record { number = entry.number; name = entry.name; value = last } in
+      let found = chosen_is (is_of bytes) entries guess place entry at within is in
+      let own = chosen_passes (is_of bytes) entries guess entry found in
       record {
-        here = rw (← spelt, few, first_set old.few.items bytes place entry at within is last) refl;
+        here = rw (
+          ← spelt,
+          few,
+          guesses,
+          own_over (is_of bytes) entries place guess entry written at within is own,
+        ) refl;
         others = λ other differs.
-            let fails = other_entry entry name other differs (rw (← spelt) is_here) in
+            let fails = other_entry entry name other differs (rw (← spelt) own) in
             rw (
               few,
+              guesses,
               rest,
-              others_set old.few.items bytes place entry at within is last
-                  (encode_utf8_all other) fails,
+              other_over (is_of (encode_utf8_all other)) entries place
+                  (guess_for old.guesses (encode_utf8_all other)) entry written is fails fails,
             ) refl;
-        count = rw (← spelt, first_is old.few.items bytes place entry at within is, few, rest)
-            (omega (
-              arith,
-              length-set old.few.items place
-                  (record { number = entry.number; name = entry.name; value = last }),
-            ));
+        count = rw (← spelt, found, few, rest)
+            (omega (arith, length-set entries place written));
       }
 
   -- a change at the bytes of one name among the rest leaves the others
   others_kept :
       (old new : NameMap T) (name bytes : List ℕ) (value : Option T) → bytes ≡ encode_utf8_all name
       → UpdatesBy string_eq (λ key. bytes_eq bytes (string_bytes key)) old.rest new.rest value
-      → new.few.items ≡ old.few.items
+      → new.few.items ≡ old.few.items → new.guesses ≡ old.guesses
       → (other : List ℕ) → other ≢ name → under new other ≡ under old other
-  others_kept old new name bytes value spelt updates few other differs =
+  others_kept old new name bytes value spelt updates few guesses other differs =
       rw (
         hash_map_updates_text bytes old.rest new.rest value updates (encode_utf8_all other),
         few,
+        guesses,
         spelt,
         other_bytes name other differs,
       ) refl
@@ -176,35 +160,20 @@ module _ {T : Type 0} where
   pub lent_in :
       (old new : NameMap T) (lent : Option (MutBor T)) (name bytes : List ℕ) (last : T)
       → bytes ≡ encode_utf8_all name
-      → first_of old.few.items bytes ≡ None
-      → new.few.items ≡ old.few.items
+      → value_of old.few.items old.guesses bytes ≡ None
+      → new.few.items ≡ old.few.items → new.guesses ≡ old.guesses
       → option_copied_mut lent ≡ under old name
       → WritesThrough string_eq (λ key. bytes_eq bytes (string_bytes key)) old.rest last new.rest
       → OnSome lent (HasPut old name last new)
-  lent_in old new None name bytes last spelt none few value writes = tt
-  lent_in old new (Some lent) name bytes last spelt none few value writes =
+  lent_in old new None name bytes last spelt none few guesses value writes = tt
+  lent_in old new (Some lent) name bytes last spelt none few guesses value writes =
       let rest : option_copied_mut (Some lent) ≡ get_by_text old.rest bytes =
       rw spelt (value ∙ rw (← spelt, none) refl) in
       let updates = writes.3 (rw (← rest) refl) in record {
-        here = rw (← spelt, few, none) updates.1;
-        others = others_kept old new name bytes (Some last) spelt updates few;
+        here = rw (← spelt, few, guesses, none) updates.1;
+        others = others_kept old new name bytes (Some last) spelt updates few guesses;
         count = rw (← value, few) (grind (arith, writes.2));
       }
-
-  -- what an entry behind others is found under
-  first_append : (few : List (Numbered T)) (entry : Numbered T) (bytes : List ℕ)
-      → first_of (few ++ entry ∷ []) bytes
-      ≡ option_or (first_of few bytes) (cond (is_of bytes entry) (Some entry.value) None)
-  first_append few entry bytes =
-      ap (option_map (λ e. e.value)) (find-append (is_of bytes) few (entry ∷ []))
-      ∙ by (find (is_of bytes) few) (is_of bytes entry)
-    where
-      by : (a : Option (Numbered T)) (b : Bool)
-          → option_map (λ e. e.value) (option_or a (cond b (Some entry) None))
-          ≡ option_or (option_map (λ e. e.value) a) (cond b (Some entry.value) None)
-      by None true = refl
-      by None false = refl
-      by (Some x) b = refl
 
   -- an entry is that of its own name
   own_entry : (entry : Numbered T) → entry.number ≡ name_number (string_bytes entry.name)
@@ -216,32 +185,68 @@ module _ {T : Type 0} where
   no_entry entry other differs =
       rw differs (and_false (entry.number == name_number other))
 
+  -- what a new entry's name finds, and what another's does
+  module _ (entries : List (Numbered T)) (guesses : List ℕ) (entry : Numbered T)
+      (small : length entries < 256) where
+    own_value : (name : List ℕ) (index : ℕ) → index < length guesses
+        → is_of name entry ≡ true
+        → guessed (is_of name) entries (slice_index guesses index) ≡ None
+        → guessed (is_of name) (entries ++ entry ∷ [])
+        (slice_index (remade guesses index (length entries)) index) ≡ Some entry
+    own_value name index within is none =
+        elim (own_guess guesses index (length entries) small within) [
+          | inl e ↦ rw e (own_at_end (is_of name) entries entry is)
+          | inr w ↦ rw w.0 (own_searched (is_of name) entries entry (slice_index guesses index) is w.1
+              none)
+        ]
+
+    other_value : (name : List ℕ) (index other : ℕ) → index < length guesses
+        → is_of name entry ≡ false
+        → guessed (is_of name) (entries ++ entry ∷ [])
+        (slice_index (remade guesses index (length entries)) other)
+        ≡ guessed (is_of name) entries (slice_index guesses other)
+    other_value name index other within fails =
+        elim (other_guess guesses index (length entries) small within other) [
+          | inl e ↦ rw e (other_more (is_of name) entries entry (slice_index guesses other) fails)
+          | inr w ↦ rw w.0 (other_at_end (is_of name) entries entry (slice_index guesses other) fails
+              w.1)
+        ]
+
   -- a new entry behind the others
   pub few_in :
       (IsDefault : T → Type 0) (old new : NameMap T) (entry : Numbered T)
       → entry.number ≡ name_number (string_bytes entry.name) → IsDefault entry.value
       → under_bytes old (string_bytes entry.name) ≡ None
+      → length old.few.items < 256
+      → guess_index (name_number (string_bytes entry.name)) < length old.guesses
       → new.few.items ≡ old.few.items ++ entry ∷ [] → new.rest ≡ old.rest
+      → new.guesses ≡ remade old.guesses (guess_index (name_number (string_bytes entry.name)))
+      (length old.few.items)
       → HasNew IsDefault old (string_bytes entry.name) new
-  few_in IsDefault old new entry number fresh absent few rest = record {
-    value = entry.value;
-    fresh = fresh;
-    here = rw (
-      few,
-      first_append old.few.items entry (string_bytes entry.name),
-      or_none (first_of old.few.items (string_bytes entry.name))
-          (get_by_text old.rest (string_bytes entry.name)) absent,
-      own_entry entry number,
-    ) refl;
-    others = λ other differs. rw (
-      few,
-      rest,
-      first_append old.few.items entry other,
-      no_entry entry other differs,
-      or_nothing (first_of old.few.items other),
-    ) refl;
-    count = rw (few, rest) (omega (arith, length-append old.few.items (entry ∷ [])));
-  }
+  few_in IsDefault old new entry number fresh absent small within few rest guesses =
+      let entries = old.few.items in
+      let bytes = string_bytes entry.name in
+      let index = guess_index (name_number bytes) in
+      let none = no_value (λ e. e.value) (guessed (is_of bytes) entries (guess_for old.guesses bytes))
+      (or_none (value_of entries old.guesses bytes) (get_by_text old.rest bytes) absent) in
+      record {
+        value = entry.value;
+        fresh = fresh;
+        here = rw (
+          few,
+          guesses,
+          own_value entries old.guesses entry small bytes index within
+              (own_entry entry number) none,
+        ) refl;
+        others = λ other differs. rw (
+          few,
+          rest,
+          guesses,
+          other_value entries old.guesses entry small
+              other index (guess_index (name_number other)) within (no_entry entry other differs),
+        ) refl;
+        count = rw (few, rest) (omega (arith, length-append entries (entry ∷ [])));
+      }
 
   -- a new name among the rest
   pub rest_in :
@@ -251,17 +256,19 @@ module _ {T : Type 0} where
       → Updates string_eq old.rest new.rest key (Some value)
       → replaced ≡ get_by_text old.rest (string_bytes key)
       → hash_map_len new.rest ≡ hash_map_len old.rest + (if is_some replaced then 0 else 1)
-      → new.few.items ≡ old.few.items
+      → new.few.items ≡ old.few.items → new.guesses ≡ old.guesses
       → HasNew IsDefault old (string_bytes key) new
-  rest_in IsDefault old new key value replaced fresh absent updates was count few =
+  rest_in IsDefault old new key value replaced fresh absent updates was count few guesses =
       let bytes = string_bytes key in
-      let first = or_none (first_of old.few.items bytes) (get_by_text old.rest bytes) absent in
+      let first = or_none (value_of old.few.items old.guesses bytes) (get_by_text old.rest bytes)
+      absent in
       let rest : get_by_text old.rest bytes ≡ None = rw first at absent in record {
         value = value;
         fresh = fresh;
-        here = rw (few, first) updates.1;
+        here = rw (few, guesses, first) updates.1;
         others = λ other differs. rw (
           few,
+          guesses,
           hash_map_updates_text bytes old.rest new.rest (Some value) updates other,
           flipped other bytes differs,
         ) refl;

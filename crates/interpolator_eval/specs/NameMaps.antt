@@ -6,7 +6,7 @@ use Rattle.std.specs.Str.{bytes_eq, encode_utf8_all}
 use Rattle.std.specs.HashMap.{hash_map_len, get_by_text}
 use Rattle.std.specs.Borrow.{LendsSo, LendsSoOk, Fml, RattleType, MutBor}
 use Rattle.interpolator_eval.specs.Slots.{Slots, slots_of}
-use Rattle.interpolator_eval.specs.NameNumbers.{first_of}
+use Rattle.interpolator_eval.specs.NameNumbers.{value_of}
 use Rattle.interpolator_eval.specs.declared.slots.Formattable.{Formattable}
 use Rattle.interpolator_eval.specs.declared.context_map.NameMap.{NameMap}
 use Rattle.interpolator_eval.specs.contracts.context_map.NameMap.{the_row}
@@ -15,7 +15,7 @@ module _ {T : Type 0} where
   -- the value under the bytes of a name, among the few names or among the rest
   abbrev pub under_bytes : NameMap T → List ℕ → Option T
   under_bytes map name =
-      option_or (first_of map.few.items name) (get_by_text map.rest name)
+      option_or (value_of map.few.items map.guesses name) (get_by_text map.rest name)
 
   -- the value under the name
   abbrev pub under : NameMap T → List ℕ → Option T

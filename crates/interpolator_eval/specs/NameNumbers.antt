@@ -1,17 +1,22 @@
 -- A number for each name, and which of some entries, each with its number, is that of a name.
-use Rattle.std.specs.Prelude.{ℕ, List, Option, Bool, ◌+◌, ◌*◌, ◌-◌, ◌%◌, ◌^◌, ◌≤◌, ◌==◌, ◌&&◌, ◌≡◌}
-use Rattle.std.specs.Prelude.{take, drop, length, if◌then◌else◌, nat_le, string_bytes}
+use Rattle.std.specs.Prelude.{ℕ, List, Option, Some, None, Bool, false, cond, slice_get}
+use Rattle.std.specs.Prelude.{◌+◌, ◌*◌, ◌-◌, ◌%◌, ◌/◌, ◌^◌, ◌≤◌, ◌==◌, ◌&&◌, ◌≡◌, nat_le}
+use Rattle.std.specs.Prelude.{take, drop, length, if◌then◌else◌, string_bytes, slice_index, slice_set}
 use Rattle.std.specs.List.{find, position_or_len}
 use Rattle.std.specs.Option.{option_map}
 use Rattle.std.specs.Str.{bytes_eq}
 use Rattle.interpolator_eval.specs.Names.{word}
 use Rattle.interpolator_eval.specs.declared.numbered.Numbered.{Numbered}
 
+-- what the ends of names are multiplied by
+abbrev pub odd : ℕ
+odd = 11400714819323198485
+
 -- the number of a name by its first and its last `n` bytes
-abbrev pub ends_number : ℕ → List ℕ → ℕ
+unfoldable pub ends_number : ℕ → List ℕ → ℕ
 ends_number n name =
-    ((word n (take n name) + (word n (drop (length name - n) name) * 11400714819323198485) % 2 ^ 64)
-    % 2 ^ 64 + length name) % 2 ^ 64
+    (((word n (take n name) * odd) % 2 ^ 64 + word n (drop (length name - n) name)) % 2 ^ 64
+    + length name) % 2 ^ 64 * odd % 2 ^ 64
 
 -- the number of a name: names of the same bytes have the same one
 abbrev pub name_number : List ℕ → ℕ
@@ -22,16 +27,46 @@ name_number name =
     else if nat_le (length name) 8 then ends_number 4 name
     else ends_number 8 name
 
+-- which of 128 guesses is that of a number
+abbrev pub guess_index : ℕ → ℕ
+guess_index number = number / 2 ^ 57
+
+-- where the entry of a name may be
+abbrev pub guess_for : List ℕ → List ℕ → ℕ
+guess_for guesses name = slice_index guesses (guess_index (name_number name))
+
+-- the guesses once an entry is put at a place: that of an index is of it, unless of an earlier one
+abbrev pub remade : List ℕ → ℕ → ℕ → List ℕ
+remade guesses index place =
+    if nat_le place (slice_index guesses index) then slice_set guesses index (place % 2 ^ 8)
+    else guesses
+
+module _ {X : Type 0} where
+  -- whether there is an entry, and it passes
+  abbrev pub passes : (X → Bool) → Option X → Bool
+  passes test None = false
+  passes test (Some x) = test x
+
+  -- the entry at the guessed place, if it passes, else the first that does
+  abbrev pub guessed : (X → Bool) → List X → ℕ → Option X
+  guessed test xs guess = cond (passes test (slice_get xs guess)) (slice_get xs guess) (find test xs)
+
+  -- the place of that entry, or the count of all
+  abbrev pub guessed_place : (X → Bool) → List X → ℕ → ℕ
+  guessed_place test xs guess =
+      cond (passes test (slice_get xs guess)) guess (position_or_len test xs)
+
+  -- none of the entries before a place passes
+  abbrev pub HasPassed : (X → Bool) → List X → ℕ → Type 0
+  HasPassed test xs place = (place ≤ length xs)
+      × (position_or_len test xs ≡ place + position_or_len test (drop place xs))
+
 module _ {T : Type 0} where
   -- whether an entry is that of a name, and has its number
   abbrev pub is_of : List ℕ → Numbered T → Bool
   is_of name entry = (entry.number == name_number name) && bytes_eq name (string_bytes entry.name)
 
-  -- none of the entries before a place passes
-  abbrev pub HasPassed : (Numbered T → Bool) → List (Numbered T) → ℕ → Type 0
-  HasPassed test entries place = (place ≤ length entries)
-      × (position_or_len test entries ≡ place + position_or_len test (drop place entries))
-
-  -- what the first entry of a name stands for
-  abbrev pub first_of : List (Numbered T) → List ℕ → Option T
-  first_of entries name = option_map (λ entry. entry.value) (find (is_of name) entries)
+  -- what the entry of a name stands for
+  abbrev pub value_of : List (Numbered T) → List ℕ → List ℕ → Option T
+  value_of entries guesses name =
+      option_map (λ entry. entry.value) (guessed (is_of name) entries (guess_for guesses name))

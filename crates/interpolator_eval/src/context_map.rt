@@ -1,5 +1,6 @@
 //! A map from names, filled name by name.
-ghost use Rattle.std.specs.Prelude.{◌≡◌, ◌↔◌, ℕ, List, None, Some, Option, IsTrue};
+ghost use Rattle.std.specs.Prelude.{◌≡◌, ◌↔◌, ℕ, List, None, Some, IsTrue};
+ghost use Rattle.std.specs.Prelude.{◌<◌, length};
 ghost use Rattle.std.specs.Prelude.{IfOk, IfErr, OnOk, OnErr};
 ghost use Rattle.std.specs.Option.{option_copied, option_copied_mut};
 ghost use Rattle.std.specs.Str.{chars};
@@ -8,9 +9,10 @@ ghost use Rattle.std.specs.Borrow.{sem};
 ghost use Rattle.interpolator_eval.specs.NameMaps.{under, under_bytes, name_count, stored_slots};
 ghost use Rattle.interpolator_eval.specs.NameMaps.{HasPut, IsSame, HasAdded, HasNew, IsEntry};
 ghost use Rattle.interpolator_eval.specs.NameMaps.{LendsUnder, LendsEntry};
+ghost use Rattle.interpolator_eval.specs.NameNumbers.{remade};
 
 use crate::context::{Context, copied};
-use crate::numbered::{Numbered, number_of, place_of};
+use crate::numbered::{GUESSES, Numbered, index_of_guess, number_of, place_of};
 use crate::slots::Formattable;
 use interpolator_render::Value;
 use interpolator_syntax::Error;
@@ -39,6 +41,8 @@ const FEW: usize = 32;
 #[derive(Drop)]
 pub struct NameMap<T> {
     few: Vec<Numbered<T>>,
+    // where the name of a number may be among the few
+    guesses: [u8; GUESSES],
     rest: HashMap<String, T>,
     alloc: Global,
     of: PhantomData<T>,
@@ -52,6 +56,7 @@ impl<T> NameMap<T> {
     {
         NameMap {
             few: Vec::new(alloc),
+            guesses: [u8::MAX; GUESSES],
             rest: HashMap::new(alloc),
             alloc,
             of: PhantomData,
@@ -77,7 +82,7 @@ impl<T> NameMap<T> {
     fn find(&self, name: &str) -> Option<&T>
         ensures { option_copied result ≡ under self.now (chars name.now) }
     {
-        let place = place_of(&self.few, name);
+        let place = place_of(&self.few, &self.guesses, name);
         if place < self.few.len() {
             return Some(&self.few[place].value);
         }
@@ -89,7 +94,7 @@ impl<T> NameMap<T> {
         ensures* writes_back { sem 𝓛 (LendsUnder T.row self.entry (chars name.now) result) }
         ensures value { option_copied_mut result ≡ under self.old (chars name.now) }
     {
-        let place = place_of(&self.few, name);
+        let place = place_of(&self.few, &self.guesses, name);
         if place < self.few.len() {
             return Some(&mut self.few[place].value);
         }
@@ -98,18 +103,33 @@ impl<T> NameMap<T> {
 }
 
 impl<T: Default + Drop> NameMap<T> {
+    // Guesses that a name is at a place, unless an earlier name has this guess.
+    fn guess(&mut self, index: usize, place: usize)
+        requires index { index < 128 }
+        ensures entries { self.new.few ≡ self.old.few }
+        ensures rest { self.new.rest ≡ self.old.rest }
+        ensures guesses { self.new.guesses ≡ remade self.old.guesses index place }
+    {
+        if usize::from(self.guesses[index]) >= place {
+            self.guesses[index] = place as u8;
+        }
+    }
+
     // Puts an absent name in among the few, with a default value.
     fn add_few(&mut self, name: String) -> Result<(), AllocError>
+        requires room { length self.now.few.items < 32 }
         requires absent { under_bytes self.now (string_bytes name) ≡ None }
         ensures ok { OnOk result (HasNew T.is_default self.old (string_bytes name) self.new) }
         ensures err { OnErr result (IsSame self.old self.new) }
     {
         let number = number_of(name.as_bytes());
+        let place = self.few.len();
         self.few.push(Numbered {
             number,
             name,
             value: T::default(),
         })?;
+        self.guess(index_of_guess(number), place);
         Ok(())
     }
 

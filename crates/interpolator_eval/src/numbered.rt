@@ -1,11 +1,14 @@
-//! Names that own their texts, each beside a number, by which it is found among a few.
-ghost use Rattle.std.specs.Prelude.{◌≡◌, ◌≤◌, length, true};
+//! Names that own their texts, each beside a number, and a guess where each is among a few.
+ghost use Rattle.std.specs.Prelude.{◌≡◌, ◌≤◌, ◌<◌, length, slice_get, true};
 ghost use Rattle.std.specs.List.{position_or_len};
 ghost use Rattle.interpolator_eval.specs.Names.{is_word_size};
-ghost use Rattle.interpolator_eval.specs.NameNumbers.{ends_number, name_number, is_of, HasPassed};
-ghost use Rattle.std.specs.Str.{bytes_eq};
+ghost use Rattle.interpolator_eval.specs.NameNumbers.{ends_number, name_number, guess_index, is_of};
+ghost use Rattle.interpolator_eval.specs.NameNumbers.{guess_for, guessed_place, passes};
 
 use crate::names::{back_of, front_of, same_name};
+
+/// How many guesses there are: more than twice as many as names, so that most guesses are right.
+pub(crate) const GUESSES: usize = 128;
 
 /// A name with its number, and what it stands for.
 #[derive(Drop)]
@@ -19,6 +22,7 @@ pub(crate) struct Numbered<T> {
 const ODD: u64 = 0x9e37_79b9_7f4a_7c15;
 
 // The number of a name by its first and last `N` bytes.
+#[tactic(auto, unfolding(crate::specs::NameNumbers::ends_number))]
 #[inline(always)]
 fn by_ends<const N: usize>(name: &[u8]) -> u64
     requires size { is_word_size N ≡ true }
@@ -26,8 +30,10 @@ fn by_ends<const N: usize>(name: &[u8]) -> u64
     ensures { result ≡ ends_number N name.now }
 {
     front_of::<N>(name)
-        .wrapping_add(back_of::<N>(name).wrapping_mul(ODD))
+        .wrapping_mul(ODD)
+        .wrapping_add(back_of::<N>(name))
         .wrapping_add(name.len() as u64)
+        .wrapping_mul(ODD)
 }
 
 /// The number of a name. Few names have the same one, and it takes no loop.
@@ -49,12 +55,13 @@ pub(crate) fn number_of(name: &[u8]) -> u64
     }
 }
 
-// Whether two names are the same. It is a call, since it is asked for few names of another number.
-#[inline(never)]
-fn is_same(own: &str, name: &str) -> bool
-    ensures { result ≡ bytes_eq name.now own.now }
+/// Which of the guesses is that of a name of this number: its first bits, which hang on all others.
+#[inline(always)]
+pub(crate) fn index_of_guess(number: u64) -> usize
+    ensures index { result ≡ guess_index number }
+    ensures in_range { result < 128 }
 {
-    same_name(own, name)
+    (number >> 57) as usize
 }
 
 // Whether an entry is that of a name.
@@ -63,18 +70,16 @@ fn is_entry_of<T>(entry: &Numbered<T>, number: u64, name: &str) -> bool
     requires number { number ≡ name_number name.now }
     ensures { result ≡ is_of name.now entry.now }
 {
-    entry.number == number && is_same(&entry.name, name)
+    entry.number == number && same_name(&entry.name, name)
 }
 
-// Returns the place of the first entry of a name, or the count of entries; those before `from` are
-// of other names.
-#[inline(always)]
-fn place_after<T>(entries: &[Numbered<T>], from: usize, number: u64, name: &str) -> usize
+// Returns the place of the first entry of a name, or the count of entries. It is seldom asked.
+#[inline(never)]
+fn searched_place<T>(entries: &[Numbered<T>], number: u64, name: &str) -> usize
     requires number { number ≡ name_number name.now }
-    requires from { HasPassed (is_of name.now) entries.now from }
     ensures { result ≡ position_or_len (is_of name.now) entries.now }
 {
-    let mut place = from;
+    let mut place = 0;
     while place < entries.len() {
         if is_entry_of(&entries[place], number, name) {
             return place;
@@ -84,36 +89,28 @@ fn place_after<T>(entries: &[Numbered<T>], from: usize, number: u64, name: &str)
     place
 }
 
-// Returns the place of the first entry of a name, or the count of entries. Four entries at a time
-// take one test for the end.
+// Whether the entry at a place is that of a name.
 #[inline(always)]
-fn numbered_place<T>(entries: &[Numbered<T>], number: u64, name: &str) -> usize
+fn is_guessed<T>(entries: &[Numbered<T>], guess: usize, number: u64, name: &str) -> bool
     requires number { number ≡ name_number name.now }
-    ensures { result ≡ position_or_len (is_of name.now) entries.now }
+    ensures { result ≡ passes (is_of name.now) (slice_get entries.now guess) }
 {
-    let mut from = 0;
-    while entries.len() - from >= 4 {
-        if is_entry_of(&entries[from], number, name) {
-            return from;
-        }
-        if is_entry_of(&entries[from + 1], number, name) {
-            return from + 1;
-        }
-        if is_entry_of(&entries[from + 2], number, name) {
-            return from + 2;
-        }
-        if is_entry_of(&entries[from + 3], number, name) {
-            return from + 3;
-        }
-        from += 4;
+    if guess < entries.len() {
+        return is_entry_of(&entries[guess], number, name);
     }
-    place_after(entries, from, number, name)
+    false
 }
 
-/// Returns the place of the first entry of a name, or the count of entries.
+/// Returns the place of the entry of a name: the guessed one, or the first, or the count of entries.
 #[inline(always)]
-pub(crate) fn place_of<T>(entries: &[Numbered<T>], name: &str) -> usize
-    ensures { result ≡ position_or_len (is_of name.now) entries.now }
+pub(crate) fn place_of<T>(entries: &[Numbered<T>], guesses: &[u8; GUESSES], name: &str) -> usize
+    ensures { result
+        ≡ guessed_place (is_of name.now) entries.now (guess_for guesses.now name.now) }
 {
-    numbered_place(entries, number_of(name.as_bytes()), name)
+    let number = number_of(name.as_bytes());
+    let guess = usize::from(guesses[index_of_guess(number)]);
+    if is_guessed(entries, guess, number, name) {
+        return guess;
+    }
+    searched_place(entries, number, name)
 }

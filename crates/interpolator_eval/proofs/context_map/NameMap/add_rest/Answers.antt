@@ -7,7 +7,13 @@ pub returns-clause-ok : goal.returns-clause-ok
 returns-clause-ok g c =
     let map = c.args.self.now in
     let new : NameMap g.row.T.Denot =
-    record { few = map.few; rest = c.insert.new.self; alloc = map.alloc; of = map.of } in
+    record {
+      few = map.few;
+      guesses = map.guesses;
+      rest = c.insert.new.self;
+      alloc = map.alloc;
+      of = map.of;
+    } in
     rest_in g.T.Default.is_default map new c.args.name c.default.result c.in_ok-insert.field-0
     c.default.ensures c.requires.absent c.in_ok-insert.ensures.updates
-    c.in_ok-insert.ensures.old c.in_ok-insert.ensures.len refl
+    c.in_ok-insert.ensures.old c.in_ok-insert.ensures.len refl refl
