@@ -12,11 +12,15 @@ use Rattle.interpolator_eval.specs.declared.numbered.Numbered.{Numbered}
 abbrev pub odd : ℕ
 odd = 11400714819323198485
 
+-- two numbers and a count in one
+unfoldable pub mixed : (front back count : ℕ) → ℕ
+mixed front back count =
+    (((front * odd) % 2 ^ 64 + back) % 2 ^ 64 + count) % 2 ^ 64 * odd % 2 ^ 64
+
 -- the number of a name by its first and its last `n` bytes
 unfoldable pub ends_number : ℕ → List ℕ → ℕ
 ends_number n name =
-    (((word n (take n name) * odd) % 2 ^ 64 + word n (drop (length name - n) name)) % 2 ^ 64
-    + length name) % 2 ^ 64 * odd % 2 ^ 64
+    mixed (word n (take n name)) (word n (drop (length name - n) name)) (length name)
 
 -- the number of a name: names of the same bytes have the same one
 abbrev pub name_number : List ℕ → ℕ

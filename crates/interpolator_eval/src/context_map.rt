@@ -1,6 +1,6 @@
 //! A map from names, filled name by name.
 ghost use Rattle.std.specs.Prelude.{◌≡◌, ◌↔◌, ℕ, List, None, Some, IsTrue};
-ghost use Rattle.std.specs.Prelude.{◌<◌, length};
+ghost use Rattle.std.specs.Prelude.{◌<◌, ◌≤◌, ◌+◌, length, slice_get, true, false};
 ghost use Rattle.std.specs.Prelude.{IfOk, IfErr, OnOk, OnErr};
 ghost use Rattle.std.specs.Option.{option_copied, option_copied_mut};
 ghost use Rattle.std.specs.Str.{chars};
@@ -9,10 +9,16 @@ ghost use Rattle.std.specs.Borrow.{sem};
 ghost use Rattle.interpolator_eval.specs.NameMaps.{under, under_bytes, name_count, stored_slots};
 ghost use Rattle.interpolator_eval.specs.NameMaps.{HasPut, IsSame, HasAdded, HasNew, IsEntry};
 ghost use Rattle.interpolator_eval.specs.NameMaps.{LendsUnder, LendsEntry};
-ghost use Rattle.interpolator_eval.specs.NameNumbers.{remade};
+ghost use Rattle.interpolator_eval.specs.NameNumbers.{ends_number, guess_for, is_of, name_number};
+ghost use Rattle.interpolator_eval.specs.NameNumbers.{passes, remade};
+ghost use Rattle.interpolator_eval.specs.Names.{AreEnds, is_word_size};
 
 use crate::context::{Context, copied};
-use crate::numbered::{GUESSES, Numbered, index_of_guess, number_of, place_of};
+use crate::names::{SHORT, back_of, front_of};
+use crate::numbered::{
+    GUESSES, Numbered, index_of_guess, is_guessed_by, number_by, number_of, place_of,
+    searched_place,
+};
 use crate::slots::Formattable;
 use interpolator_render::Value;
 use interpolator_syntax::Error;
@@ -81,6 +87,69 @@ impl<T> NameMap<T> {
     #[inline(never)]
     fn find(&self, name: &str) -> Option<&T>
         ensures { option_copied result ≡ under self.now (chars name.now) }
+    {
+        let count = name.len();
+        if count == 0 || count > SHORT {
+            self.find_any(name)
+        } else if count <= 2 {
+            self.find_by_ends::<1>(name)
+        } else if count <= 4 {
+            self.find_by_ends::<2>(name)
+        } else if count <= 8 {
+            self.find_by_ends::<4>(name)
+        } else {
+            self.find_by_ends::<8>(name)
+        }
+    }
+
+    // Finds the value under a name of `N` to twice `N` bytes.
+    #[tactic(auto, unfolding(crate::specs::Names::AreEnds))]
+    #[inline(always)]
+    fn find_by_ends<const N: usize>(&self, name: &str) -> Option<&T>
+        requires size { is_word_size N ≡ true }
+        requires least { N ≤ length name.now }
+        requires most { length name.now ≤ N + N }
+        requires number { name_number name.now ≡ ends_number N name.now }
+        ensures { option_copied result ≡ under_bytes self.now name.now }
+    {
+        let bytes = name.as_bytes();
+        self.find_from::<N>(name, front_of::<N>(bytes), back_of::<N>(bytes))
+    }
+
+    // Finds the value under a name of these ends: at the guessed place, or by a search.
+    #[inline(always)]
+    fn find_from<const N: usize>(&self, name: &str, front: u64, back: u64) -> Option<&T>
+        requires ends { AreEnds N name.now front back }
+        requires number { name_number name.now ≡ ends_number N name.now }
+        ensures { option_copied result ≡ under_bytes self.now name.now }
+    {
+        let number = number_by::<N>(name.as_bytes(), front, back);
+        let guess = usize::from(self.guesses[index_of_guess(number)]);
+        if is_guessed_by::<T, N>(&self.few, guess, number, name.as_bytes(), front, back) {
+            return Some(&self.few[guess].value);
+        }
+        self.search(number, name)
+    }
+
+    // Finds the value under a name that is not where it is guessed.
+    #[inline(never)]
+    fn search(&self, number: u64, name: &str) -> Option<&T>
+        requires number { number ≡ name_number name.now }
+        requires elsewhere { passes (is_of name.now) (slice_get self.now.few.items
+            (guess_for self.now.guesses name.now)) ≡ false }
+        ensures { option_copied result ≡ under_bytes self.now name.now }
+    {
+        let place = searched_place(&self.few, number, name);
+        if place < self.few.len() {
+            return Some(&self.few[place].value);
+        }
+        self.rest.get(name)
+    }
+
+    // Finds the value under a name of any length.
+    #[inline(never)]
+    fn find_any(&self, name: &str) -> Option<&T>
+        ensures { option_copied result ≡ under_bytes self.now name.now }
     {
         let place = place_of(&self.few, &self.guesses, name);
         if place < self.few.len() {

@@ -1,11 +1,11 @@
 //! Names that own their texts, each beside a number, and a guess where each is among a few.
 ghost use Rattle.std.specs.Prelude.{◌≡◌, ◌≤◌, ◌<◌, length, slice_get, true};
 ghost use Rattle.std.specs.List.{position_or_len};
-ghost use Rattle.interpolator_eval.specs.Names.{is_word_size};
-ghost use Rattle.interpolator_eval.specs.NameNumbers.{ends_number, name_number, guess_index, is_of};
+ghost use Rattle.interpolator_eval.specs.Names.{AreEnds, is_word_size};
+ghost use Rattle.interpolator_eval.specs.NameNumbers.{ends_number, name_number, guess_index, is_of, mixed};
 ghost use Rattle.interpolator_eval.specs.NameNumbers.{guess_for, guessed_place, passes};
 
-use crate::names::{back_of, front_of, same_name};
+use crate::names::{back_of, front_of, has_ends, same_name};
 
 /// How many guesses there are: more than twice as many as names, so that most guesses are right.
 pub(crate) const GUESSES: usize = 128;
@@ -21,6 +21,29 @@ pub(crate) struct Numbered<T> {
 // What the ends of names are multiplied by: an odd number without a pattern.
 const ODD: u64 = 0x9e37_79b9_7f4a_7c15;
 
+// Two numbers and a count in one, whose first bits hang on all of them.
+#[tactic(auto, unfolding(crate::specs::NameNumbers::mixed))]
+#[inline(always)]
+fn mixed(front: u64, back: u64, count: usize) -> u64
+    ensures { result ≡ mixed front back count }
+{
+    front
+        .wrapping_mul(ODD)
+        .wrapping_add(back)
+        .wrapping_add(count as u64)
+        .wrapping_mul(ODD)
+}
+
+/// The number of a name of these ends. Few names have the same one, and it takes no loop.
+#[tactic(auto, unfolding(crate::specs::Names::AreEnds, crate::specs::NameNumbers::ends_number))]
+#[inline(always)]
+pub(crate) fn number_by<const N: usize>(name: &[u8], front: u64, back: u64) -> u64
+    requires ends { AreEnds N name.now front back }
+    ensures { result ≡ ends_number N name.now }
+{
+    mixed(front, back, name.len())
+}
+
 // The number of a name by its first and last `N` bytes.
 #[tactic(auto, unfolding(crate::specs::NameNumbers::ends_number))]
 #[inline(always)]
@@ -29,15 +52,10 @@ fn by_ends<const N: usize>(name: &[u8]) -> u64
     requires least { N ≤ length name.now }
     ensures { result ≡ ends_number N name.now }
 {
-    front_of::<N>(name)
-        .wrapping_mul(ODD)
-        .wrapping_add(back_of::<N>(name))
-        .wrapping_add(name.len() as u64)
-        .wrapping_mul(ODD)
+    mixed(front_of::<N>(name), back_of::<N>(name), name.len())
 }
 
-/// The number of a name. Few names have the same one, and it takes no loop.
-#[inline(always)]
+/// The number of a name of any length.
 pub(crate) fn number_of(name: &[u8]) -> u64
     ensures { result ≡ name_number name.now }
 {
@@ -55,7 +73,7 @@ pub(crate) fn number_of(name: &[u8]) -> u64
     }
 }
 
-/// Which of the guesses is that of a name of this number: its first bits, which hang on all others.
+/// Which of the guesses is that of a name of this number: its first bits.
 #[inline(always)]
 pub(crate) fn index_of_guess(number: u64) -> usize
     ensures index { result ≡ guess_index number }
@@ -73,9 +91,9 @@ fn is_entry_of<T>(entry: &Numbered<T>, number: u64, name: &str) -> bool
     entry.number == number && same_name(&entry.name, name)
 }
 
-// Returns the place of the first entry of a name, or the count of entries. It is seldom asked.
+/// Returns the place of the first entry of a name, or the count of entries. It is seldom asked.
 #[inline(never)]
-fn searched_place<T>(entries: &[Numbered<T>], number: u64, name: &str) -> usize
+pub(crate) fn searched_place<T>(entries: &[Numbered<T>], number: u64, name: &str) -> usize
     requires number { number ≡ name_number name.now }
     ensures { result ≡ position_or_len (is_of name.now) entries.now }
 {
@@ -87,6 +105,42 @@ fn searched_place<T>(entries: &[Numbered<T>], number: u64, name: &str) -> usize
         place += 1;
     }
     place
+}
+
+/// Whether the entry at a place is that of a name of these ends.
+#[inline(always)]
+pub(crate) fn is_guessed_by<T, const N: usize>(
+    entries: &[Numbered<T>],
+    guess: usize,
+    number: u64,
+    name: &[u8],
+    front: u64,
+    back: u64,
+) -> bool
+    requires number { number ≡ name_number name.now }
+    requires ends { AreEnds N name.now front back }
+    ensures { result ≡ passes (is_of name.now) (slice_get entries.now guess) }
+{
+    if guess < entries.len() {
+        return has_number_and_ends::<T, N>(&entries[guess], number, name, front, back);
+    }
+    false
+}
+
+// Whether an entry is that of a name of these ends.
+#[inline(always)]
+fn has_number_and_ends<T, const N: usize>(
+    entry: &Numbered<T>,
+    number: u64,
+    name: &[u8],
+    front: u64,
+    back: u64,
+) -> bool
+    requires number { number ≡ name_number name.now }
+    requires ends { AreEnds N name.now front back }
+    ensures { result ≡ is_of name.now entry.now }
+{
+    entry.number == number && has_ends::<N>(entry.name.as_bytes(), name, front, back)
 }
 
 // Whether the entry at a place is that of a name.

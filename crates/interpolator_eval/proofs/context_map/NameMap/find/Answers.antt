@@ -1,26 +1,18 @@
 -- The names are searched for the bytes of the name, which are the bytes of its characters.
-use Rattle.std.proofs.Common.{length, refl, rules, ◌≡◌, ◌≤◌, ◌<◌}
 use Rattle.std.proofs.lemmas.Str.{encodes-chars}
-use Rattle.interpolator_eval.specs.NameNumbers.{is_of, guess_for, guessed_place}
-use Rattle.interpolator_eval.proofs.GuessLemmas.{chosen_is, chosen_none}
 use Rattle.interpolator_eval.proofs.context_map.NameMap.find.Goals as goal
 
-pub returns-then-place-len : goal.returns-then-place-len
-returns-then-place-len g c =
-    let few = c.args.self.now.few.items in
-    let place = c.place_of-place.result in
-    let name = c.args.name.now in
-    let guess = guess_for c.args.self.now.guesses name in
-    let at : place ≡ guessed_place (is_of name) few guess = search rules in
-    let within : place < length few = search rules in
-    let found = chosen_is (is_of name) few guess place c.index.result.now at within c.index.ensures in
-    rw (encodes-chars name c.utf8.name, found) refl
+pub returns-then-count-gt-SHORT : goal.returns-then-count-gt-SHORT
+returns-then-count-gt-SHORT g c = rw (encodes-chars c.args.name.now c.utf8.name) c.find_any.ensures
 
-pub returns : goal.returns
-returns g c =
-    let few = c.args.self.now.few.items in
-    let name = c.args.name.now in
-    let guess = guess_for c.args.self.now.guesses name in
-    let past : length few ≤ guessed_place (is_of name) few guess = search rules in
-    let none = chosen_none (is_of name) few guess past in
-    rw (encodes-chars name c.utf8.name, none) c.get.ensures.value
+pub returns-then-count-le2 : goal.returns-then-count-le2
+returns-then-count-le2 g c = rw (encodes-chars c.args.name.now c.utf8.name) c.find_by_ends.ensures
+
+pub returns-then-count-le4 : goal.returns-then-count-le4
+returns-then-count-le4 g c = rw (encodes-chars c.args.name.now c.utf8.name) c.find_by_ends-then-count-le4.ensures
+
+pub returns-then-count-le8 : goal.returns-then-count-le8
+returns-then-count-le8 g c = rw (encodes-chars c.args.name.now c.utf8.name) c.find_by_ends-then-count-le8.ensures
+
+pub returns-else-count-le8 : goal.returns-else-count-le8
+returns-else-count-le8 g c = rw (encodes-chars c.args.name.now c.utf8.name) c.find_by_ends-else-count-le8.ensures
