@@ -1,7 +1,7 @@
 //! Formats as programs have them: an order in JSON, a letter in HTML, a row of a table.
 
 use crate::failure::Failure;
-use crate::uses::{How, repeat_format};
+use crate::uses::{How, repeat_in_map};
 use interpolator::{Bits, Formattable, Pairs, View};
 use std::alloc::{AllocError, Global};
 
@@ -187,7 +187,7 @@ fn repeat_lines(
     for (name, value) in values {
         pairs.push((*name, Formattable::integer(value)))?;
     }
-    repeat_format(alloc, how, format.as_str(), &Pairs(&pairs), repeats)
+    repeat_in_map(alloc, how, format.as_str(), &Pairs(&pairs), repeats)
 }
 
 // The lines, each with its end.
