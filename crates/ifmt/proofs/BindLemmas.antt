@@ -1,9 +1,9 @@
 -- What the words bind, one after the other.
-use Rattle.std.proofs.Common.{◌≡◌, refl, ap, subst, ℕ, ◌+◌, ◌<◌, List, [], ◌∷◌, ◌++◌, take, length}
-use Rattle.std.proofs.Common.{get_or, map, string_bytes, Option, None}
+use Rattle.std.proofs.Common.{◌≡◌, ◌∙◌, refl, ap, subst, ℕ, ◌+◌, ◌<◌, List, [], ◌∷◌, ◌++◌, take, length}
+use Rattle.std.proofs.Common.{get_or, map, string_bytes, Option, None, Some}
 use Rattle.std.proofs.Math.Path.{fun_ext}
 use Rattle.std.specs.List.{AllZip, FoldsTo}
-use Rattle.std.specs.Option.{option_map}
+use Rattle.std.specs.Option.{option_map, unwrap_or, MatchOption}
 use Rattle.std.specs.declared.string.String.{String}
 use Rattle.std.proofs.lemmas.List.{take_more}
 use Rattle.std.proofs.lemmas.List.Elements.{All-head, All-tail}
@@ -11,8 +11,8 @@ use Rattle.std.proofs.lemmas.Slice.Zip.{all_zipped_more}
 use Rattle.interpolator.specs.declared.View.{View}
 use Rattle.interpolator.specs.declared.Formattable.{Formattable}
 use Rattle.interpolator.specs.declared.NameMap.{NameMap}
-use Rattle.interpolator.specs.NameMaps.{under, stored_slots}
-use Rattle.interpolator.specs.Slots.{Slots, slots_of}
+use Rattle.interpolator.specs.NameMaps.{under, stored_slots, HasPut, IsEntry}
+use Rattle.interpolator.specs.Slots.{Slots, slots_of, empty_slots}
 use Rattle.interpolator.specs.Views.{shown_as_value}
 use Rattle.words.specs.declared.Word.{Word}
 use Rattle.words.specs.declared.Word.TheVariants.{Text, Number, Decimal as DecimalWord}
@@ -21,9 +21,29 @@ use Rattle.words.specs.declared.Word.TheVariants.{List as ListWord, Bad}
 use Rattle.ifmt.specs.declared.binding.Object.{Object}
 use Rattle.ifmt.specs.declared.binding.Entry.{Entry}
 use Rattle.words.specs.Words.{IsGood, Classifies}
-use Rattle.ifmt.specs.Binding.{Binds, Fills, HasObject, Lends}
+use Rattle.ifmt.specs.Binding.{Binds, Changes, Fills, HasObject, Lends}
 use Rattle.ifmt.specs.Binding.{items_show, item_slots, object_shows}
 use Rattle.ifmt.specs.Command.{AllGood}
+
+module _ {X : Type 0} (IsDefault : Formattable X → Type 0)
+    (default : (value : Formattable X) → IsDefault value → slots_of value ≡ empty_slots) where
+  -- the slots that an entry had, or empty ones
+  lent_slots : (was : Option (Formattable X)) (lent : Formattable X)
+      → MatchOption was (IsDefault lent) (λ value. lent ≡ value)
+      → slots_of lent ≡ unwrap_or (option_map slots_of was) empty_slots
+  lent_slots None lent is = default lent is
+  lent_slots (Some value) lent is = ap slots_of is
+
+  -- what was changed in an entry is changed under its name
+  pub changed : (old new : NameMap (Formattable X)) (name : List ℕ) (lent last : Formattable X)
+      (change : Slots X → Slots X)
+      → IsEntry IsDefault old name lent → HasPut old name last new
+      → slots_of last ≡ change (slots_of lent)
+      → Changes (stored_slots old) name change (stored_slots new)
+  changed old new name lent last change entry put is = record {
+    here = rw put.here (ap Some (is ∙ ap change (lent_slots (under old name) lent entry)));
+    others = λ other differs. ap (option_map slots_of) (put.others other differs);
+  }
 
 -- an entry was filled in
 abbrev pub IsFilled : (old : List ℕ → Option (Slots View)) → Entry
