@@ -9,14 +9,13 @@ use Rattle.interpolator_syntax.specs.At.{At}
 use Rattle.interpolator_syntax.specs.Arguments.{Argument, argument_at}
 use Rattle.interpolator_syntax.specs.Classes.{hash}
 use Rattle.interpolator_syntax.specs.Faults.{Fault}
-use Rattle.interpolator_syntax.specs.Groups.{Group}
+use Rattle.interpolator_syntax.specs.Groups.{Group, inside}
 use Rattle.interpolator_syntax.specs.GroupGrammar.{sign_text, open_text, close_text, IsGroup}
 use Rattle.interpolator_syntax.specs.Pieces.{argument_from, argument_or_broken, argument_step}
 use Rattle.interpolator_syntax.specs.Tokens.{Token, first_token, past_token}
 use Rattle.interpolator_syntax.proofs.GrammarGroupLemmas.{sign_length}
 use Rattle.interpolator_syntax.proofs.GuardLemmas.{GroupAfter, KindAfter, argument_after}
 use Rattle.interpolator_syntax.proofs.LocalityLemmas.{Takes, takes_then}
-use Rattle.interpolator_syntax.specs.Groups.{inside}
 use Rattle.interpolator_pieces.specs.NodeExtents.{node_depth, forest_depth}
 use Rattle.interpolator_syntax.specs.Nodes.{as_forest, piece_node, token_node, nodes}
 use Rattle.interpolator_syntax.proofs.TokenLemmas.{token_shorter, scan_shorter}

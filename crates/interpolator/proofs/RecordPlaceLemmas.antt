@@ -1,7 +1,6 @@
 -- A format of records whose values stand, and where in it the first is that does not.
 use Rattle.std.proofs.Common.{◌≡◌, ℕ, ◌+◌, ◌<◌, ◌≤◌, Bool, true, false, List, [], ◌∷◌, length}
-use Rattle.std.proofs.Common.{arith}
-use Rattle.std.proofs.Common.{refl, Option, Some, None, Result, Ok, Err, if◌then◌else◌}
+use Rattle.std.proofs.Common.{arith, refl, Option, Some, None, Result, Ok, Err, if◌then◌else◌}
 use Rattle.std.proofs.Common.{chars, IsUtf8}
 use Rattle.std.specs.Prelude.{⊤}
 use Rattle.interpolator_render.specs.declared.view.Spec.{Spec}

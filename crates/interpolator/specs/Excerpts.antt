@@ -1,7 +1,6 @@
 -- A line of a text, shown with marks under some of its characters.
-use Rattle.std.specs.Prelude.{ℕ, suc, Bool, ◌-◌, ◌==◌, nat_lt, nat_le, if◌then◌else◌}
-use Rattle.std.specs.Prelude.{List, [], ◌∷◌, ◌++◌, length, take, drop, map, replicate, codes}
-use Rattle.std.specs.Prelude.{encode_utf8_all}
+use Rattle.std.specs.Prelude.{ℕ, suc, Bool, ◌-◌, ◌==◌, nat_lt, nat_le, if◌then◌else◌, List, [], ◌∷◌}
+use Rattle.std.specs.Prelude.{◌++◌, length, take, drop, map, replicate, codes, encode_utf8_all}
 use Rattle.std.specs.Fmt.{decimal}
 
 -- a line, cut around one of its characters if it is long, with some characters marked: those

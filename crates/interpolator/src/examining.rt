@@ -1,6 +1,5 @@
 //! What is known of a template before it is written: names, arguments, faults, extent and cost.
-ghost use Rattle.std.specs.Prelude.{◌≡◌, ◌+◌, Some, length, map, option_map};
-ghost use Rattle.std.specs.Prelude.{IfErr, IfOk};
+ghost use Rattle.std.specs.Prelude.{◌≡◌, ◌+◌, Some, length, map, option_map, IfErr, IfOk};
 ghost use Rattle.std.specs.List.{All};
 ghost use Rattle.std.specs.Str.{chars, IsUtf8};
 ghost use Rattle.interpolator_syntax.specs.Arguments.{argument_of};

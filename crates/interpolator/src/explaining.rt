@@ -2,9 +2,8 @@
 ghost use Rattle.std.specs.Prelude.{◌≡◌, ◌<◌, ◌++◌, codes, IfErr, IfOk, Some, string_bytes};
 ghost use Rattle.std.specs.Str.{chars};
 ghost use Rattle.interpolator.specs.Explained.{before_in_line, explanation, explanation_of};
-ghost use Rattle.interpolator.specs.Explained.{head as head_of};
-ghost use Rattle.interpolator.specs.Explained.{line_of, marked_bytes, names_after, names_line};
-ghost use Rattle.interpolator.specs.Explained.{note_of, told_at, told_in};
+ghost use Rattle.interpolator.specs.Explained.{head as head_of, line_of, marked_bytes, names_after};
+ghost use Rattle.interpolator.specs.Explained.{names_line, note_of, told_at, told_in};
 ghost use Rattle.interpolator_syntax.specs.Faults.{answer_of, no_memory};
 
 use crate::excerpt::{draw, gap};

@@ -13,8 +13,7 @@ use Rattle.interpolator_border.specs.Answers.{Told, ToldAlone, ToldBy, ToldFailu
 use Rattle.interpolator_border.specs.Answers.{text_answer}
 use Rattle.interpolator_border.specs.Tables.{ColumnFaults, FailsIn, Prepares, RowsAnswers, AllRows}
 use Rattle.interpolator_border.specs.Tables.{Faultless, Pairs, TellsNoRow, TellsRows, ToldAtRow}
-use Rattle.interpolator_border.specs.Tables.{column_names}
-use Rattle.interpolator_border.specs.Tables.{rows_ends, rows_text}
+use Rattle.interpolator_border.specs.Tables.{column_names, rows_ends, rows_text}
 use Rattle.interpolator_border.specs.declared.answer.Answer.{Answer as Told_answer}
 use Rattle.interpolator_border.specs.{Fields.field_shows, declared.answer.Failure.Failure}
 use Rattle.interpolator_border.specs.{declared.field.Field.Field, declared.table.RowFault.RowFault}

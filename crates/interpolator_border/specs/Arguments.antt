@@ -1,6 +1,5 @@
 -- The arguments of a format, as they are told.
-use Rattle.std.specs.Prelude.{◌≡◌, ◌⊎◌, ℕ, ◌+◌, List, map, length, true, false}
-use Rattle.std.specs.Prelude.{Option, None, Some}
+use Rattle.std.specs.Prelude.{◌≡◌, ◌⊎◌, ℕ, ◌+◌, List, map, length, true, false, Option, None, Some}
 use Rattle.std.specs.Str.{chars, is_utf8}
 use Rattle.interpolator_render.specs.Lengths.{usize_count}
 use Rattle.interpolator_render.specs.Written.{byte_count}

@@ -3,8 +3,7 @@ ghost use Rattle.std.specs.Prelude.{◌≡◌, [], ◌∷◌, ◌≤◌, ◌-◌
 ghost use Rattle.std.specs.Prelude.{drop, length, map, take, IfOk};
 ghost use Rattle.interpolator_eval.specs.Slots.{slots_of};
 ghost use Rattle.interpolator_border.specs.Fields.{all_lie_within, all_within, begins_before};
-ghost use Rattle.interpolator_border.specs.Fields.{field_slots};
-ghost use Rattle.interpolator_border.specs.Fields.{lies_within, settled};
+ghost use Rattle.interpolator_border.specs.Fields.{field_slots, lies_within, settled};
 
 use crate::field::{Field, LIST};
 use crate::slots::{field_slots, kind_slots};

@@ -1,7 +1,6 @@
 -- A whole field of CSV, read back.
 use Rattle.std.proofs.Common.{◌≡◌, ℕ, Bool, true, false, List, [], ◌∷◌, ◌++◌, refl, ap, ◌∙◌, arith}
-use Rattle.std.proofs.Common.{flat_map, map, inl, append-nil, ◌==◌, if◌then◌else◌}
-use Rattle.std.proofs.Common.{Some}
+use Rattle.std.proofs.Common.{flat_map, map, inl, append-nil, ◌==◌, if◌then◌else◌, Some}
 use Rattle.std.proofs.lemmas.Bool.Decides.{nat_tests}
 use Rattle.interpolator_render.specs.declared.view.Spec.{Spec}
 use Rattle.interpolator_render.specs.declared.view.Trait.{Trait}

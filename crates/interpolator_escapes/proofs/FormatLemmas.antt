@@ -23,11 +23,9 @@ use Rattle.interpolator_syntax.specs.declared.range.Range.{Range}
 use Rattle.interpolator_eval.specs.Slots.{Slots, values_of, items, slot_at}
 use Rattle.interpolator_eval.specs.Meaning.Choices.{chosen_items}
 use Rattle.interpolator_eval.specs.Meaning.Environments.{Environment, slots_under, bind}
-use Rattle.interpolator_eval.specs.Meaning.Meanings.{Meaning, nothing, chain}
-use Rattle.interpolator_eval.specs.Meaning.Meanings.{or_fault, value_means, view_means}
-use Rattle.interpolator_eval.specs.Meaning.Meanings.{forbids_list}
-use Rattle.interpolator_eval.specs.Meaning.Meanings.{buffered_means, padded_list, items_after}
-use Rattle.interpolator_eval.specs.Meaning.Meanings.{items_mean}
+use Rattle.interpolator_eval.specs.Meaning.Meanings.{Meaning, nothing, chain, or_fault, value_means}
+use Rattle.interpolator_eval.specs.Meaning.Meanings.{view_means, forbids_list, buffered_means}
+use Rattle.interpolator_eval.specs.Meaning.Meanings.{padded_list, items_after, items_mean}
 use Rattle.interpolator_eval.specs.Meaning.Meanings.{under_name, listed_means, and_closed}
 use Rattle.interpolator_eval.specs.Meaning.Meanings.{node_means, join_branch_means}
 use Rattle.interpolator_eval.specs.Meaning.Meanings.{item_branch_means, forest_means, means}
@@ -36,10 +34,8 @@ use Rattle.interpolator_escapes.specs.Parts.{MayStand}
 use Rattle.interpolator_escapes.specs.Readers.{Token, structure_of, state_after, read, KeepsPlaces}
 use Rattle.interpolator_escapes.specs.Readers.{KeepsPlain}
 use Rattle.interpolator_escapes.specs.Formats.{shows_nothing, Stays, StayInPlaces, FillStays}
-use Rattle.interpolator_escapes.specs.Formats.{NodeStands, ItemStands}
-use Rattle.interpolator_escapes.specs.Formats.{JoinStands, ForestStands, Stands}
-use Rattle.interpolator_escapes.specs.Formats.{escaped_shows}
-use Rattle.interpolator_escapes.specs.Formats.{structure_from}
+use Rattle.interpolator_escapes.specs.Formats.{NodeStands, ItemStands, JoinStands, ForestStands}
+use Rattle.interpolator_escapes.specs.Formats.{Stands, escaped_shows, structure_from}
 use Rattle.interpolator_escapes.specs.Wholes.{escaped_text, is_whole, whole_text, whole_view}
 use Rattle.interpolator_escapes.specs.declared.escape.Escape.{Escape}
 use Rattle.interpolator_escapes.proofs.ReaderLemmas.{structure-append, state-append, read-append}

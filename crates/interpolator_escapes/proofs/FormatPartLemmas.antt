@@ -26,8 +26,7 @@ use Rattle.interpolator_syntax.specs.declared.range.Range.{Range}
 use Rattle.interpolator_eval.specs.Slots.{Slots, values_of, items, slot_at}
 use Rattle.interpolator_eval.specs.Meaning.Choices.{chosen_items}
 use Rattle.interpolator_eval.specs.Meaning.Environments.{Environment, slots_under, bind}
-use Rattle.interpolator_eval.specs.Meaning.Meanings.{Meaning, nothing, chain, or_fault}
-use Rattle.interpolator_eval.specs.Meaning.Meanings.{value_means}
+use Rattle.interpolator_eval.specs.Meaning.Meanings.{Meaning, nothing, chain, or_fault, value_means}
 use Rattle.interpolator_eval.specs.Meaning.Meanings.{view_means, forbids_list, buffered_means}
 use Rattle.interpolator_eval.specs.Meaning.Meanings.{padded_list, items_after, items_mean}
 use Rattle.interpolator_eval.specs.Meaning.Meanings.{under_name, listed_means, and_closed}
@@ -37,9 +36,8 @@ use Rattle.interpolator_escapes.specs.Escapes.{escape_of, json_escape}
 use Rattle.interpolator_escapes.specs.Readers.{Token, state_after, read, KeepsPlaces, KeepsPlain}
 use Rattle.interpolator_escapes.specs.Parts.{Part, literal, value, part_text, assembled, InPlaces}
 use Rattle.interpolator_escapes.specs.Parts.{read_parts, MayStand}
-use Rattle.interpolator_escapes.specs.Formats.{Stays, FillStays, NodeStands, ItemStands}
-use Rattle.interpolator_escapes.specs.Formats.{JoinStands, ForestStands, Stands}
-use Rattle.interpolator_escapes.specs.Formats.{escaped_shows}
+use Rattle.interpolator_escapes.specs.Formats.{Stays, FillStays, NodeStands, ItemStands, JoinStands}
+use Rattle.interpolator_escapes.specs.Formats.{ForestStands, Stands, escaped_shows}
 use Rattle.interpolator_escapes.specs.FormatParts.{as_it_is, view_parts, found_parts, parts_after}
 use Rattle.interpolator_escapes.specs.FormatParts.{items_parts, padded_parts, list_parts}
 use Rattle.interpolator_escapes.specs.FormatParts.{value_parts, node_parts, join_parts, item_parts}

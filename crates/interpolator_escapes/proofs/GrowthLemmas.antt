@@ -34,13 +34,12 @@ use Rattle.interpolator_eval.specs.Meaning.Environments.{Environment, slots_unde
 use Rattle.interpolator_eval.specs.Meaning.Meanings.{Meaning, chain, value_means, view_means}
 use Rattle.interpolator_eval.specs.Meaning.Meanings.{forbids_list, buffered_means, padded_list}
 use Rattle.interpolator_eval.specs.Meaning.Meanings.{items_after, items_mean, under_name}
-use Rattle.interpolator_eval.specs.Meaning.Meanings.{listed_means}
-use Rattle.interpolator_eval.specs.Meaning.Meanings.{and_closed, node_means, join_branch_means}
-use Rattle.interpolator_eval.specs.Meaning.Meanings.{item_branch_means, forest_means, means}
+use Rattle.interpolator_eval.specs.Meaning.Meanings.{listed_means, and_closed, node_means}
+use Rattle.interpolator_eval.specs.Meaning.Meanings.{join_branch_means, item_branch_means}
+use Rattle.interpolator_eval.specs.Meaning.Meanings.{forest_means, means, or_fault}
 use Rattle.interpolator_render.specs.Padding.{padded_text, padded_number}
 use Rattle.interpolator_render.proofs.LawLemmas.{padded_text_count, padded_number_count}
 use Rattle.interpolator_syntax.specs.At.{placed_at}
-use Rattle.interpolator_eval.specs.Meaning.Meanings.{or_fault}
 use Rattle.std.proofs.Common.{◌==◌, ◌||◌, nat_lt}
 use Rattle.interpolator_escapes.specs.Escapes.{escape_of, line_escape, json_escape, is_control}
 use Rattle.interpolator_escapes.proofs.KeepLemmas.{choose}

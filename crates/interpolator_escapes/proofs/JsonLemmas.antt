@@ -1,7 +1,6 @@
 -- Whole values of JSON leave its reader between strings.
-use Rattle.std.proofs.Common.{◌≡◌, ℕ, Bool, true, false, List, [], ◌∷◌, ◌++◌, refl}
-use Rattle.std.proofs.Common.{◌∙◌, ap, Option, Some, None, append_assoc, flat_map, map, inl, inr}
-use Rattle.std.proofs.Common.{if◌then◌else◌}
+use Rattle.std.proofs.Common.{◌≡◌, ℕ, Bool, true, false, List, [], ◌∷◌, ◌++◌, refl, ◌∙◌, ap, Option}
+use Rattle.std.proofs.Common.{Some, None, append_assoc, flat_map, map, inl, inr, if◌then◌else◌}
 use Rattle.std.specs.Float.{float_is_finite}
 use Rattle.interpolator_render.specs.declared.view.Spec.{Spec}
 use Rattle.interpolator_render.specs.declared.view.Trait.{Trait}

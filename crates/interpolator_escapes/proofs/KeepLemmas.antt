@@ -7,15 +7,13 @@ use Rattle.std.proofs.lemmas.Bool.Decides.{nat_tests}
 use Rattle.std.proofs.lemmas.List.Elements.{filter-append}
 use Rattle.std.proofs.lemmas.Str.{digit_value-digit_char}
 use Rattle.interpolator_escapes.specs.Escapes.{hex_digit, two_digits, four_digits, is_control}
-use Rattle.interpolator_escapes.specs.Escapes.{line_escape}
-use Rattle.interpolator_escapes.specs.Escapes.{control_escape}
-use Rattle.interpolator_escapes.specs.Escapes.{html_escape, csv_escape, json_escape, shell_escape}
+use Rattle.interpolator_escapes.specs.Escapes.{line_escape, control_escape, html_escape, csv_escape}
+use Rattle.interpolator_escapes.specs.Escapes.{json_escape, shell_escape}
 use Rattle.interpolator_escapes.specs.Plain.{is_plain}
 use Rattle.interpolator_escapes.specs.Readers.{KeepsPlaces, KeepsPlain, state_after, read, content}
 use Rattle.interpolator_escapes.specs.Readers.{Token, structure_of}
 use Rattle.interpolator_escapes.specs.Formats.{Stays}
-use Rattle.interpolator_escapes.specs.Lines.{control_step}
-use Rattle.interpolator_escapes.specs.Lines.{line_step, is_line_place, in_line}
+use Rattle.interpolator_escapes.specs.Lines.{control_step, line_step, is_line_place, in_line}
 use Rattle.interpolator_escapes.specs.Lines.{after_slash, in_code, code_step}
 use Rattle.interpolator_escapes.specs.Html.{html_step, is_html_place, in_base, in_text, in_value}
 use Rattle.interpolator_escapes.specs.Html.{double, single, plain, read_again, address, opened}

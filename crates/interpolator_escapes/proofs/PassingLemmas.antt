@@ -1,13 +1,11 @@
 -- What is passed on, escaped, and what that says of the text that was to be written.
-use Rattle.std.proofs.Common.{◌≡◌, ℕ, ◌<◌, Bool, true, false, List, [], ◌∷◌, ◌++◌, length}
-use Rattle.std.proofs.Common.{Result, Ok, Err, refl, sym, ap, ◌∙◌, arith}
-use Rattle.std.proofs.Common.{append_assoc, append-nil, length-append, take, drop, flat_map, inr}
-use Rattle.std.proofs.Common.{take-append-drop}
+use Rattle.std.proofs.Common.{◌≡◌, ℕ, ◌<◌, Bool, true, false, List, [], ◌∷◌, ◌++◌, length, Result}
+use Rattle.std.proofs.Common.{Ok, Err, refl, sym, ap, ◌∙◌, arith, append_assoc, append-nil}
+use Rattle.std.proofs.Common.{length-append, take, drop, flat_map, inr, take-append-drop}
 use Rattle.std.proofs.lemmas.List.{length-drop}
 use Rattle.std.proofs.lemmas.Grind.{flat_map-append}
 use Rattle.interpolator_render.specs.Written.{Written, Appends, AppendsBeginning}
-use Rattle.interpolator_render.specs.Texts.{ViewText, has_text, view_text}
-use Rattle.interpolator_render.specs.Texts.{Renders}
+use Rattle.interpolator_render.specs.Texts.{ViewText, has_text, view_text, Renders}
 use Rattle.interpolator_render.specs.declared.view.RenderFault.{RenderFault}
 use Rattle.interpolator_render.specs.declared.view.RenderFault.TheVariants.{Refused}
 use Rattle.interpolator_render.specs.declared.view.Trait.{Trait}

@@ -2,21 +2,19 @@
 use Rattle.std.proofs.Common.{◌≡◌, ℕ, suc, Bool, true, false, refl, sym, subst, ap, ◌∙◌, inl, inr}
 use Rattle.std.proofs.Common.{Result, Ok, Err, ◌<◌, arith, length}
 use Rattle.std.proofs.Common.{List, [], ◌∷◌, ◌++◌, Option, Some, None, IsSome, option_map}
-use Rattle.interpolator_syntax.specs.Nodes.{Node, node, Branch, no_branch, branch}
-use Rattle.interpolator_syntax.specs.Nodes.{Forest, no_nodes, nodes_and}
-use Rattle.interpolator_syntax.specs.Nodes.{text_content, argument_content, fault_content}
-use Rattle.interpolator_syntax.specs.Nodes.{target_value, target_list}
-use Rattle.interpolator_escapes.specs.Readers.{Token, content, structure, structure_of}
+use Rattle.interpolator_syntax.specs.Nodes.{Node, node, Branch, no_branch, branch, Forest, no_nodes}
+use Rattle.interpolator_syntax.specs.Nodes.{nodes_and, text_content, argument_content}
+use Rattle.interpolator_syntax.specs.Nodes.{fault_content, target_value, target_list, Content}
+use Rattle.interpolator_syntax.specs.Nodes.{Target}
+use Rattle.interpolator_escapes.specs.Readers.{Token, content, structure, structure_of, state_after}
 use Rattle.interpolator_escapes.specs.CodeReaders.{has_structure}
 use Rattle.interpolator_escapes.specs.Formats.{Stays}
 use Rattle.interpolator_escapes.specs.Formats.{NodeStands, ItemStands, JoinStands, ForestStands}
 use Rattle.interpolator_escapes.specs.Placing.{NodeFails, ItemFails, JoinFails, ForestFails}
 use Rattle.interpolator_escapes.specs.Placing.{NodePlaced, ItemPlaced, JoinPlaced, FillPlaced}
 use Rattle.interpolator_escapes.specs.Placing.{ForestPlaced, IfMisplaced, Placed, ValueFails}
-use Rattle.interpolator_escapes.specs.Readers.{state_after}
 use Rattle.interpolator_render.specs.declared.view.Spec.{Spec}
 use Rattle.interpolator_render.specs.declared.view.Trait.{Trait}
-use Rattle.interpolator_syntax.specs.Nodes.{Content, Target}
 use Rattle.interpolator_syntax.specs.SpecTexts.{plain_spec}
 use Rattle.interpolator_render.specs.declared.view.Trait.TheVariants.{Display}
 use Rattle.interpolator_syntax.specs.declared.argument_fault.ArgumentFault.{ArgumentFault}

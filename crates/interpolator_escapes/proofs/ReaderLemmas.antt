@@ -6,8 +6,7 @@ use Rattle.interpolator_render.specs.declared.view.Trait.{Trait}
 use Rattle.interpolator_render.specs.declared.view.Trait.TheVariants.{Debug, Display}
 use Rattle.interpolator_syntax.specs.SpecTexts.{plain_spec}
 use Rattle.interpolator_escapes.specs.Readers.{Token, content, structure, structure_of, state_after}
-use Rattle.interpolator_escapes.specs.Readers.{read}
-use Rattle.interpolator_escapes.specs.Readers.{Keeps, KeepsPlaces, KeepsPlain}
+use Rattle.interpolator_escapes.specs.Readers.{read, Keeps, KeepsPlaces, KeepsPlain}
 use Rattle.interpolator_escapes.specs.Plain.{AllPlain}
 use Rattle.interpolator_escapes.specs.Parts.{Part, literal, value, assembled, MayStand, InPlaces, read_parts}
 

@@ -1,7 +1,6 @@
 -- What is read of a format of whole fields.
-use Rattle.std.proofs.Common.{◌≡◌, ℕ, Bool, true, false, List, [], ◌∷◌, refl, ap, sym, ◌∙◌}
-use Rattle.std.proofs.Common.{Option, Some, None, Result, Ok, Err}
-use Rattle.std.proofs.Common.{if◌then◌else◌, ◌&&◌, not}
+use Rattle.std.proofs.Common.{◌≡◌, ℕ, Bool, true, false, List, [], ◌∷◌, refl, ap, sym, ◌∙◌, Option}
+use Rattle.std.proofs.Common.{Some, None, Result, Ok, Err, if◌then◌else◌, ◌&&◌, not}
 use Rattle.interpolator_render.specs.declared.view.Trait.{Trait}
 use Rattle.interpolator_render.specs.declared.view.Trait.TheVariants.{Display}
 use Rattle.interpolator_render.specs.declared.view.Spec.{Spec}
@@ -17,15 +16,12 @@ use Rattle.interpolator_syntax.specs.declared.range.Range.{Range}
 use Rattle.interpolator_eval.specs.Slots.{Slots, values_of, items, slot_at}
 use Rattle.interpolator_eval.specs.Meaning.Choices.{chosen_items}
 use Rattle.interpolator_eval.specs.Meaning.Environments.{Environment, slots_under, bind}
-use Rattle.interpolator_eval.specs.Meaning.Meanings.{Meaning}
-use Rattle.interpolator_eval.specs.Meaning.Meanings.{value_means, under_name}
-use Rattle.interpolator_eval.specs.Meaning.Meanings.{forbids_list, items_after, items_mean}
-use Rattle.interpolator_eval.specs.Meaning.Meanings.{listed_means, join_branch_means}
-use Rattle.interpolator_eval.specs.Meaning.Meanings.{item_branch_means}
+use Rattle.interpolator_eval.specs.Meaning.Meanings.{Meaning, value_means, under_name, forbids_list}
+use Rattle.interpolator_eval.specs.Meaning.Meanings.{items_after, items_mean, listed_means}
+use Rattle.interpolator_eval.specs.Meaning.Meanings.{join_branch_means, item_branch_means}
 use Rattle.interpolator_eval.specs.Meaning.Meanings.{node_means, forest_means, means}
 use Rattle.interpolator_escapes.specs.Csv.{field_start, bare, quoted, quote_seen}
-use Rattle.interpolator_escapes.specs.Fields.{record_shows}
-use Rattle.interpolator_escapes.specs.Fields.{record_value, record_view}
+use Rattle.interpolator_escapes.specs.Fields.{record_shows, record_value, record_view}
 use Rattle.interpolator_escapes.specs.Formats.{shows_nothing}
 use Rattle.interpolator_escapes.specs.FormatParts.{as_it_is, found_parts, forest_parts, node_parts}
 use Rattle.interpolator_escapes.specs.FormatParts.{value_parts, view_parts, item_parts, join_parts}
@@ -33,13 +29,12 @@ use Rattle.interpolator_escapes.specs.FormatParts.{items_parts, list_parts, part
 use Rattle.interpolator_escapes.specs.Parts.{Part}
 use Rattle.interpolator_escapes.specs.Plain.{is_bare, is_debug}
 use Rattle.interpolator_escapes.specs.Readers.{structure_of}
-use Rattle.interpolator_escapes.specs.RecordFormats.{Spot, in_state, field_end}
-use Rattle.interpolator_escapes.specs.RecordFormats.{after_value, after_node, after_forest}
-use Rattle.interpolator_escapes.specs.RecordFormats.{after_item, after_join, covers, item_end}
-use Rattle.interpolator_escapes.specs.RecordFormats.{join_end, list_end}
-use Rattle.interpolator_escapes.specs.RecordFormats.{and_then, fields_read}
-use Rattle.interpolator_escapes.specs.RecordFormats.{record_values, record_parts}
-use Rattle.interpolator_escapes.specs.RecordFormats.{misplaced_at, misplaced_by, StandsAsRecord}
+use Rattle.interpolator_escapes.specs.RecordFormats.{Spot, in_state, field_end, after_value}
+use Rattle.interpolator_escapes.specs.RecordFormats.{after_node, after_forest, after_item}
+use Rattle.interpolator_escapes.specs.RecordFormats.{after_join, covers, item_end, join_end}
+use Rattle.interpolator_escapes.specs.RecordFormats.{list_end, and_then, fields_read, record_values}
+use Rattle.interpolator_escapes.specs.RecordFormats.{record_parts, misplaced_at, misplaced_by}
+use Rattle.interpolator_escapes.specs.RecordFormats.{StandsAsRecord}
 use Rattle.interpolator_escapes.specs.declared.misplaced.Misplaced.{Misplaced}
 use Rattle.interpolator_escapes.specs.declared.misplaced.Why.TheVariants.{Item, Join}
 use Rattle.interpolator_escapes.proofs.FieldLemmas.{Reads}

@@ -5,8 +5,7 @@ use Rattle.interpolator_escapes.specs.Csv.{csv_step, is_csv_place, field_start, 
 use Rattle.interpolator_escapes.specs.Escapes.{csv_escape}
 use Rattle.interpolator_escapes.specs.Languages.{read_by}
 use Rattle.interpolator_escapes.specs.Readers.{Token, content, read}
-use Rattle.interpolator_escapes.specs.Records.{fields_after, fields_of, quoted_field}
-use Rattle.interpolator_escapes.specs.Records.{quoted_record}
+use Rattle.interpolator_escapes.specs.Records.{fields_after, fields_of, quoted_field, quoted_record}
 use Rattle.interpolator_escapes.specs.declared.escape.Escape.TheVariants.{Csv}
 use Rattle.interpolator_escapes.proofs.KeepLemmas.{csv_keeps, csv_plain}
 use Rattle.interpolator_escapes.proofs.ReaderLemmas.{read-append, value_state, value_read}

@@ -14,8 +14,7 @@ use Rattle.interpolator_syntax.specs.At.{text_of}
 use Rattle.interpolator_syntax.specs.Faults.{Fault}
 use Rattle.interpolator_syntax.specs.declared.piece_kind.PieceKind.{PieceKind}
 use Rattle.interpolator_syntax.specs.declared.piece_kind.PieceKind.TheVariants as kinds
-use Rattle.interpolator_eval.specs.Meaning.Meanings.{Meaning, chain, or_fault}
-use Rattle.interpolator_eval.specs.Meaning.Meanings.{view_means}
+use Rattle.interpolator_eval.specs.Meaning.Meanings.{Meaning, chain, or_fault, view_means}
 use Rattle.interpolator_eval.specs.Meaning.Meanings.{and_closed}
 use Rattle.interpolator_escapes.specs.Csv.{CsvState, field_start, bare, quoted, quote_seen}
 use Rattle.interpolator_escapes.specs.Csv.{csv_step, ends_field}
@@ -26,17 +25,13 @@ use Rattle.interpolator_escapes.specs.Parts.{Part, literal, value}
 use Rattle.interpolator_escapes.specs.Plain.{AllPlain, is_bare}
 use Rattle.interpolator_escapes.specs.Readers.{content, structure_of}
 use Rattle.interpolator_escapes.specs.RecordFormats.{Spot, in_state, field_end, after_literal}
-use Rattle.interpolator_escapes.specs.RecordFormats.{covers}
-use Rattle.interpolator_escapes.specs.RecordFormats.{same_state}
-use Rattle.interpolator_escapes.specs.RecordFormats.{fields_read}
-use Rattle.interpolator_escapes.specs.RecordFormats.{past_value}
+use Rattle.interpolator_escapes.specs.RecordFormats.{covers, same_state, fields_read, past_value}
 use Rattle.interpolator_escapes.specs.RecordFormats.{misplaced_at}
 use Rattle.interpolator_escapes.specs.Records.{quoted_field}
 use Rattle.interpolator_escapes.specs.Wholes.{escaped_text}
-use Rattle.interpolator_escapes.proofs.FieldLemmas.{After, Reads, reads-append}
-use Rattle.interpolator_escapes.proofs.FieldLemmas.{inner_state, inner_read, quoted_state}
-use Rattle.interpolator_escapes.proofs.FieldLemmas.{quoted_read, plain_same, first_state, first_read}
-use Rattle.interpolator_escapes.proofs.FieldLemmas.{sep_same}
+use Rattle.interpolator_escapes.proofs.FieldLemmas.{After, Reads, reads-append, inner_state}
+use Rattle.interpolator_escapes.proofs.FieldLemmas.{inner_read, quoted_state, quoted_read}
+use Rattle.interpolator_escapes.proofs.FieldLemmas.{plain_same, first_state, first_read, sep_same}
 use Rattle.interpolator_escapes.proofs.FormatLemmas.{text_of_placed_at}
 use Rattle.interpolator_escapes.proofs.PlainLemmas.{PlainView, plain_debug}
 use Rattle.interpolator_escapes.proofs.ReaderLemmas.{state-append, structure-append, structure-content}

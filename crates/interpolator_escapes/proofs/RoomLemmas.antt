@@ -4,7 +4,7 @@ use Rattle.std.proofs.Common.{refl, sym, ap, ◌∙◌, subst, chars, IsUtf8, Is
 use Rattle.std.proofs.Common.{append_assoc, append-nil, take-append-drop, Result, Err, encode_utf8}
 use Rattle.std.proofs.Math.Seq.{take-append-add}
 use Rattle.std.proofs.lemmas.Grind.{flat_map-append}
-use Rattle.std.proofs.lemmas.List.{length-take-le, take-append-le, take-take}
+use Rattle.std.proofs.lemmas.List.{length-take-le, take-append-le, take-take, nil_from_length}
 use Rattle.std.proofs.lemmas.Str.{chars-append, IsUtf8-append, IsUtf8-take, chars-nil}
 use Rattle.interpolator_render.specs.declared.text_write.Refusal.{Refusal}
 use Rattle.interpolator_render.specs.Written.{Written, Appends, AppendsBeginning, Writes, Puts}
@@ -12,7 +12,6 @@ use Rattle.interpolator_render.specs.Written.{byte_count}
 use Rattle.interpolator_render.proofs.LayoutLemmas.{byte_count-chars, writes_second, appends_none}
 use Rattle.interpolator_render.proofs.LayoutLemmas.{writes_from_puts, stops_in_first}
 use Rattle.interpolator_render.proofs.LayoutLemmas.{byte_count-append}
-use Rattle.std.proofs.lemmas.List.{nil_from_length}
 use Rattle.std.proofs.lemmas.Bool.{cases_lt}
 use Rattle.std.proofs.lemmas.Str.{IsCharBoundary-at_seam, IsUtf8-past_char, length-encode}
 use Rattle.std.proofs.lemmas.Str.{len_utf8_bounds}

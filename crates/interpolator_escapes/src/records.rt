@@ -16,11 +16,10 @@ ghost use Rattle.interpolator_escapes.specs.Csv.{field_start};
 ghost use Rattle.interpolator_escapes.specs.RecordFormats.{after_forest, after_item, after_join};
 ghost use Rattle.interpolator_escapes.specs.RecordFormats.{after_literal, after_node, and_then};
 ghost use Rattle.interpolator_escapes.specs.RecordFormats.{covers, item_end, join_end, list_end};
-ghost use Rattle.interpolator_escapes.specs.RecordFormats.{same_state};
-ghost use Rattle.interpolator_escapes.specs.RecordFormats.{after_record, after_value, in_state};
-ghost use Rattle.interpolator_escapes.specs.RecordFormats.{is_field_place, is_quoted_place};
-ghost use Rattle.interpolator_escapes.specs.RecordFormats.{IsRecordAnswer, record_answer};
-ghost use Rattle.interpolator_escapes.specs.RecordFormats.{spot_ending};
+ghost use Rattle.interpolator_escapes.specs.RecordFormats.{same_state, after_record, after_value};
+ghost use Rattle.interpolator_escapes.specs.RecordFormats.{in_state, is_field_place};
+ghost use Rattle.interpolator_escapes.specs.RecordFormats.{is_quoted_place, IsRecordAnswer};
+ghost use Rattle.interpolator_escapes.specs.RecordFormats.{record_answer, spot_ending};
 
 use crate::ending::Ending;
 use crate::misplaced::{Misplaced, PlaceError, Why};

@@ -14,9 +14,8 @@ use Rattle.std.proofs.lemmas.Str.{encodes_same}
 use Rattle.interpolator_eval.specs.NameMaps.{under, under_bytes, HasPut, HasNew, HasAdded}
 use Rattle.interpolator_eval.specs.NameNumbers.{is_of, value_of, name_number, guess_index, guess_for}
 use Rattle.interpolator_eval.specs.NameNumbers.{guessed, guessed_place, remade}
-use Rattle.interpolator_eval.proofs.GuessLemmas.{chosen_is, chosen_passes, other_more}
-use Rattle.interpolator_eval.proofs.GuessLemmas.{other_at_end, own_at_end, own_searched, other_over}
-use Rattle.interpolator_eval.proofs.GuessLemmas.{own_over}
+use Rattle.interpolator_eval.proofs.GuessLemmas.{chosen_is, chosen_passes, other_more, other_at_end}
+use Rattle.interpolator_eval.proofs.GuessLemmas.{own_at_end, own_searched, other_over, own_over}
 use Rattle.interpolator_eval.specs.declared.numbered.Numbered.{Numbered}
 use Rattle.interpolator_eval.specs.declared.context_map.NameMap.{NameMap}
 

@@ -4,9 +4,8 @@ use Rattle.std.specs.Prelude.{if◌then◌else◌}
 use Rattle.std.specs.List.{join_by}
 use Rattle.interpolator_render.specs.declared.view.Trait.{Trait}
 use Rattle.interpolator_render.specs.declared.view.Trait.TheVariants.{Binary, Debug, Display}
-use Rattle.interpolator_render.specs.declared.view.Trait.TheVariants.{LowerExp}
-use Rattle.interpolator_render.specs.declared.view.Trait.TheVariants.{LowerHex, Octal, UpperExp}
-use Rattle.interpolator_render.specs.declared.view.Trait.TheVariants.{UpperHex, Iter}
+use Rattle.interpolator_render.specs.declared.view.Trait.TheVariants.{LowerExp, LowerHex, Octal}
+use Rattle.interpolator_render.specs.declared.view.Trait.TheVariants.{UpperExp, UpperHex, Iter}
 use Rattle.interpolator_eval.specs.Slots.{Slots, values_of, items, slot_at}
 
 -- the name of a trait's slot

@@ -4,9 +4,8 @@ use Rattle.std.specs.Option.{option_map, option_copied}
 use Rattle.std.specs.Borrow.{Bor}
 use Rattle.interpolator_render.specs.declared.view.Trait.{Trait}
 use Rattle.interpolator_render.specs.declared.view.Trait.TheVariants.{Binary, Debug, Display}
-use Rattle.interpolator_render.specs.declared.view.Trait.TheVariants.{LowerExp}
-use Rattle.interpolator_render.specs.declared.view.Trait.TheVariants.{LowerHex, Octal, UpperExp}
-use Rattle.interpolator_render.specs.declared.view.Trait.TheVariants.{UpperHex, Iter}
+use Rattle.interpolator_render.specs.declared.view.Trait.TheVariants.{LowerExp, LowerHex, Octal}
+use Rattle.interpolator_render.specs.declared.view.Trait.TheVariants.{UpperExp, UpperHex, Iter}
 use Rattle.interpolator_eval.specs.declared.slots.Formattable.{Formattable, Formattable-F}
 use Rattle.interpolator_eval.specs.declared.slots.Formattable.{fold-Formattable}
 

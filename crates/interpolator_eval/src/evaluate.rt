@@ -5,10 +5,13 @@
 
 pub mod environment;
 pub mod evaluator;
+mod items;
 pub mod list;
+pub mod need;
 pub mod plain_item;
 pub mod sample;
 pub mod scan;
+mod scanned_argument;
 mod scanned_groups;
 pub mod sink;
 pub mod source;

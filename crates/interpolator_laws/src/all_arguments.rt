@@ -4,8 +4,7 @@ ghost use Rattle.std.specs.Prelude.{◌≡◌, [], ◌∷◌, map, codes};
 ghost use Rattle.interpolator_syntax.specs.At.{At, outermost};
 ghost use Rattle.interpolator_syntax.specs.Pieces.{pieces};
 ghost use Rattle.interpolator_eval.specs.Meaning.AskedNames.{asked_names, without_empty};
-ghost use Rattle.interpolator_pieces.specs.AllArguments.{arguments_of, names_of};
-ghost use Rattle.interpolator_pieces.specs.AllArguments.{pieces_arguments};
+ghost use Rattle.interpolator_pieces.specs.AllArguments.{arguments_of, names_of, pieces_arguments};
 
 /// The arguments of a text are those of its pieces, in order: for a closed or an unclosed argument
 /// the argument itself, then those of its item format, and then those of its join; for any other

@@ -21,7 +21,7 @@ ghost use Rattle.interpolator_syntax.specs.Faults.{unclosed, iter, answer_of, re
 ghost use Rattle.interpolator_eval.specs.Meaning.AskedNames.{asked_names};
 ghost use Rattle.interpolator_eval.specs.Meaning.Environments.{Environment, environment};
 ghost use Rattle.interpolator_eval.specs.Meaning.Meanings.{means};
-ghost use Rattle.interpolator_eval.specs.Meaning.Outcomes.{Outcome, Formats};
+ghost use Rattle.interpolator_eval.specs.Meaning.Outcomes.{Outcome, Formats, OnlyRefused};
 ghost use Rattle.interpolator_eval.specs.Meaning.Resembling.{HasText, ResemblesOn};
 ghost use Rattle.interpolator_eval.specs.Meaning.Samples.{shows_nothing, is_failure};
 ghost use Rattle.interpolator_eval.specs.Contexts.{found_by_pairs};
@@ -29,7 +29,6 @@ ghost use Rattle.interpolator_eval.specs.declared.slots.Formattable.{Formattable
 ghost use Rattle.interpolator_laws.specs.SamplePairs.{PairsResemble};
 ghost use Rattle.interpolator_eval.specs.Slots.{Slots, empty_slots, with_debug_display};
 ghost use Rattle.interpolator_eval.specs.Slots.{with_integer, with_iter};
-ghost use Rattle.interpolator_eval.specs.Meaning.Outcomes.{OnlyRefused};
 ghost use Rattle.interpolator_pieces.specs.NodeSamples.{faults_over, pads_a_list};
 
 use interpolator::{Interpolate, Template};

@@ -5,8 +5,7 @@ use Rattle.interpolator_syntax.specs.Groups.{Group, group_of}
 use Rattle.interpolator_syntax.specs.Nodes.{as_forest, branch}
 use Rattle.interpolator_syntax.specs.declared.group.Group as code_group
 use Rattle.interpolator_syntax.specs.declared.piece_kind.PieceKind.TheVariants.{Closed, Literal}
-use Rattle.interpolator_eval.specs.Meaning.Sources.{IsBare, IsFramed, IsRun, IsText}
-use Rattle.interpolator_eval.specs.Meaning.Sources.{RunFirst}
+use Rattle.interpolator_eval.specs.Meaning.Sources.{IsBare, IsFramed, IsRun, IsText, RunFirst}
 use Rattle.interpolator_pieces.specs.Stored.{StandsAlone, detail_of, node_of, nodes_of}
 use Rattle.interpolator_pieces.specs.StoredMeanings.{stored_name, stored_part}
 use Rattle.interpolator_pieces.specs.declared.piece.Piece.{Piece}

@@ -3,7 +3,7 @@ use Rattle.std.specs.Prelude.{◌≡◌, ◌⊎◌, ℕ, List, [], ◌∷◌, �
 use Rattle.std.specs.Prelude.{codes, if◌then◌else◌}
 use Rattle.interpolator_syntax.specs.At.{At}
 use Rattle.interpolator_syntax.specs.ArgumentFaults.{IsArgumentFault}
-use Rattle.interpolator_syntax.specs.Faults.{Fault, expected, parse, iter}
+use Rattle.interpolator_syntax.specs.Faults.{Fault, expected, parse, iter, argument_fault_of}
 use Rattle.interpolator_eval.specs.Meaning.Meanings.{forbids_list}
 use Rattle.interpolator_syntax.specs.Nodes.{Node, node, Branch, no_branch, branch, as_forest}
 use Rattle.interpolator_syntax.specs.Lists.{ListRequest}
@@ -12,7 +12,6 @@ use Rattle.interpolator_syntax.specs.Nodes.{Content, text_content, argument_cont
 use Rattle.interpolator_pieces.specs.Stored.{detail_of}
 use Rattle.interpolator_pieces.specs.StoredMeanings.{unclosed_fault_of}
 use Rattle.interpolator_pieces.specs.Visits.{Visit, enter, leave}
-use Rattle.interpolator_syntax.specs.Faults.{argument_fault_of}
 use Rattle.interpolator_render.specs.declared.view.Spec.{Spec}
 use Rattle.interpolator_pieces.specs.declared.piece.Form.{Form}
 use Rattle.interpolator_pieces.specs.declared.piece.Form.TheVariants as forms

@@ -1,9 +1,8 @@
 -- How wide and how deep a format is.
 use Rattle.std.specs.Prelude.{ℕ, suc, max, Option, Some, unwrap_or}
 use Rattle.interpolator_render.specs.declared.view.Spec.{Spec}
-use Rattle.interpolator_syntax.specs.Nodes.{Node, node, Branch, no_branch, branch}
-use Rattle.interpolator_syntax.specs.Nodes.{Forest, no_nodes, nodes_and}
-use Rattle.interpolator_syntax.specs.Nodes.{Content, argument_content}
+use Rattle.interpolator_syntax.specs.Nodes.{Node, node, Branch, no_branch, branch, Forest, no_nodes}
+use Rattle.interpolator_syntax.specs.Nodes.{nodes_and, Content, argument_content}
 use Rattle.interpolator_pieces.specs.Visits.{Visit, enter, leave}
 use Rattle.interpolator_pieces.specs.declared.piece.Form.{Form}
 use Rattle.interpolator_pieces.specs.declared.piece.Form.TheVariants as forms

@@ -9,10 +9,9 @@ use Rattle.interpolator_render.specs.declared.view.Spec.{Spec}
 use Rattle.interpolator_render.specs.declared.view.Trait.TheVariants as traits
 use Rattle.interpolator_syntax.specs.At.{At, size, outermost}
 use Rattle.interpolator_syntax.specs.Faults.{argument_fault_of}
-use Rattle.interpolator_syntax.specs.Groups.{Group}
+use Rattle.interpolator_syntax.specs.Groups.{Group, inside}
 use Rattle.interpolator_syntax.specs.SpecTexts.{plain_spec}
 use Rattle.interpolator_syntax.specs.Nodes.{Node, node, Branch, no_branch, branch, Forest}
-use Rattle.interpolator_syntax.specs.Groups.{inside}
 use Rattle.interpolator_syntax.specs.Nodes.{no_nodes, nodes_and, as_branch, nodes, group_branch}
 use Rattle.interpolator_syntax.specs.Nodes.{Content, text_content, argument_content, fault_content}
 use Rattle.interpolator_syntax.specs.Nodes.{target_value, target_list}

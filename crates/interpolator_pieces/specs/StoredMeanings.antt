@@ -5,11 +5,9 @@ use Rattle.interpolator_render.specs.declared.view.Spec.{Spec}
 use Rattle.interpolator_render.specs.Views.{Shown}
 use Rattle.interpolator_syntax.specs.Faults.{Fault, parse, expected}
 use Rattle.interpolator_eval.specs.Meaning.Environments.{Environment}
-use Rattle.interpolator_eval.specs.Meaning.Meanings.{Meaning}
+use Rattle.interpolator_eval.specs.Meaning.Meanings.{Meaning, node_means, forest_means}
 use Rattle.interpolator_syntax.specs.Nodes.{as_forest}
-use Rattle.interpolator_eval.specs.Meaning.Meanings.{node_means, forest_means}
-use Rattle.interpolator_pieces.specs.Stored.{node_of, nodes_of}
-use Rattle.interpolator_pieces.specs.Stored.{part, name_part, detail_of}
+use Rattle.interpolator_pieces.specs.Stored.{node_of, nodes_of, part, name_part, detail_of}
 use Rattle.interpolator_syntax.specs.declared.piece_kind.PieceKind.{PieceKind}
 use Rattle.interpolator_syntax.specs.declared.piece_kind.PieceKind.TheVariants.{Unclosed}
 use Rattle.interpolator_pieces.specs.declared.piece.Piece.{Piece}

@@ -5,7 +5,7 @@ ghost use Rattle.interpolator_pieces.specs.NodeChecks.{first_fault, visit_faults
 ghost use Rattle.interpolator_pieces.specs.NodeChecks.{stored_own_fault, stored_end_fault};
 
 use crate::piece::{Form, Piece, form_of, spec_end_of, spec_of};
-use crate::stored_source::require_closed;
+use crate::piece_text::require_closed;
 use crate::walk::{Level, Visitor};
 use interpolator_eval::forbids_list;
 use interpolator_syntax::{Error, ParseError};

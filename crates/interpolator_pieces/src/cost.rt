@@ -14,7 +14,7 @@ ghost use Rattle.interpolator_pieces.specs.Stored.{branch_of, content_of};
 ghost use Rattle.interpolator_pieces.specs.declared.piece.Piece.TheViews.{out-Piece};
 
 use crate::piece::{Form, Piece, form_of, spec_of};
-use crate::stored_source::text_of;
+use crate::piece_text::text_of;
 use interpolator_eval::chosen;
 use interpolator_render::{Spec, Trait, char_count, most_written};
 use interpolator_syntax::Range;

@@ -14,7 +14,8 @@ ghost use Rattle.interpolator_pieces.specs.Calls.{MakesText, WritesText};
 
 use crate::functions::buffer_for;
 use crate::parse::parse_pieces;
-use crate::stored_source::{Stored, cut};
+use crate::piece_text::cut;
+use crate::stored_source::Stored;
 use interpolator_eval::{
     Context, Environment, Escaper, Sink, Unescaped, write_before_list, write_uncounted,
 };

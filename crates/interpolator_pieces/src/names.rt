@@ -6,7 +6,7 @@ ghost use Rattle.interpolator_pieces.specs.NodeNames.{name_list, name_texts, vis
 ghost use Rattle.interpolator_pieces.specs.Stored.{content_of, node_of, node_whole};
 
 use crate::piece::{Form, Piece, form_of};
-use crate::stored_source::text_of;
+use crate::piece_text::text_of;
 use crate::walk::{Level, Visitor};
 use std::alloc::{AllocError, Global};
 

@@ -24,7 +24,7 @@ ghost use Rattle.interpolator_pieces.specs.declared.piece.Piece.TheViews.{out-Pi
 use crate::checks::{check_end, check_own};
 use crate::fault_collector::FaultCollector;
 use crate::piece::{Form, Piece, form_of, spec_end_of, spec_of};
-use crate::stored_source::{name_of, text_of};
+use crate::piece_text::{name_of, text_of};
 use interpolator_eval::{Candidates, Context, Items, LookUp, Need, SampleEnvironment};
 use interpolator_render::{Spec, Trait, Value};
 use interpolator_syntax::{Error, PieceKind};

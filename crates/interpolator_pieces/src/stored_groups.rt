@@ -8,7 +8,7 @@ ghost use Rattle.interpolator_pieces.specs.Stored.{StandsAlone, forest_whole, no
 ghost use Rattle.interpolator_pieces.specs.Stored.{nodes_of};
 
 use crate::piece::{Piece, spec_end_of};
-use crate::stored_source::{name_of, text_of};
+use crate::piece_text::{name_of, text_of};
 use interpolator_eval::PlainItem;
 use interpolator_syntax::{Group, PieceKind};
 

@@ -1,36 +1,31 @@
 //! Stored pieces as the source of a format. Callers come before what they call.
-ghost use Rattle.std.specs.Prelude.{◌≡◌, ◌+◌, ◌^◌, ◌<◌, ◌≤◌, IfOk, IsSome, Some};
-ghost use Rattle.std.specs.Prelude.{[], ◌∷◌, false, length, option_map, true};
-ghost use Rattle.std.specs.Str.{chars};
+ghost use Rattle.std.specs.Prelude.{◌≡◌, ◌+◌, ◌<◌, ◌≤◌, IfOk, Some, false, option_map, true};
 ghost use Rattle.interpolator_render.specs.Bounds.{bounded_writer};
 ghost use Rattle.interpolator_syntax.specs.Faults.{result_answer, fault, argument_fault_of};
-ghost use Rattle.interpolator_syntax.specs.Groups.{group_of};
-ghost use Rattle.interpolator_syntax.specs.Nodes.{as_forest, branch, no_nodes};
+ghost use Rattle.interpolator_syntax.specs.Nodes.{as_forest};
 ghost use Rattle.interpolator_eval.specs.Escaping.{shows_by};
 ghost use Rattle.interpolator_eval.specs.Meaning.CodeEnvironments.{environment_of};
 ghost use Rattle.interpolator_eval.specs.Meaning.Meanings.{forest_means};
 ghost use Rattle.interpolator_eval.specs.Meaning.Outcomes.{Outcome};
-ghost use Rattle.interpolator_eval.specs.Meaning.Sources.{IsBare, IsText, Met, asks_list};
-ghost use Rattle.interpolator_eval.specs.Meaning.Sources.{before_list, from_list};
-ghost use Rattle.interpolator_eval.specs.Meaning.Sources.{met_pieces, unlisted_means};
+ghost use Rattle.interpolator_eval.specs.Meaning.Sources.{Met, before_list, from_list, met_pieces};
+ghost use Rattle.interpolator_eval.specs.Meaning.Sources.{unlisted_means};
 ghost use Rattle.interpolator_eval.specs.Meaning.Work.{forest_work};
 ghost use Rattle.interpolator_pieces.specs.Stored.{node_of, nodes_of, node_whole, forest_whole};
-ghost use Rattle.interpolator_pieces.specs.Stored.{StandsAlone, detail_of, part};
+ghost use Rattle.interpolator_pieces.specs.Stored.{detail_of};
 ghost use Rattle.interpolator_pieces.specs.StoredLists.{begins_list, is_list_form, range_asked};
 ghost use Rattle.interpolator_pieces.specs.StoredLists.{stored_list, stored_rest};
-ghost use Rattle.interpolator_pieces.specs.StoredMeanings.{stored_part, stored_name};
 ghost use Rattle.interpolator_pieces.specs.StoredMeanings.{unclosed_fault};
-ghost use Rattle.interpolator_pieces.specs.declared.piece.Form.TheVariants as forms;
 ghost use Rattle.interpolator_pieces.specs.declared.piece.Piece.TheViews.{out-Piece};
 
-use crate::piece::{Detail, Form, Piece, list_detail, part_of, spec_end_of};
+use crate::piece::{Detail, Form, Piece, list_detail, spec_end_of};
+use crate::piece_text::{name_of, require_closed, text_of};
 use crate::stored_groups::{plain_pieces, text_pieces};
 use interpolator_eval::{
     Context, Environment, Escaper, FormatSource, Formattable, LookUp, PieceCount, PlainItem, Sink,
     chosen_list, write_plain_value, write_run, write_value,
 };
 use interpolator_render::{Bounded, Spec, TextWrite};
-use interpolator_syntax::{ArgumentFault, Error, Group, ParseError, PieceKind, Range};
+use interpolator_syntax::{ArgumentFault, Error, Group, PieceKind, Range};
 use std::sync::ledger::Ledger;
 
 /// Pieces that are still to be written: all those of a text, or any others that fit it.
@@ -393,43 +388,4 @@ fn refused(broken: &ArgumentFault) -> Result<bool, Error>
     ensures { result_answer result ≡ Some (fault (argument_fault_of broken.now)) }
 {
     Err(Error::from(*broken))
-}
-
-/// The text from byte `from` up to `to`.
-pub fn cut(text: &str, from: usize, to: usize) -> &str
-    requires fits { IsSome (part text.now from to) }
-    ensures text { Some (chars result.now) ≡ part text.now from to }
-    ensures size { from + length result.now ≡ to }
-    ensures fits { from + length result.now < 2 ^ 64 }
-{
-    &text[from..to]
-}
-
-/// The bytes of the text that are written for a piece.
-pub fn text_of<'t>(text: &'t str, piece: &Piece) -> &'t str
-    requires fits { IsSome (stored_part text.now piece.now) }
-    ensures text { Some (chars result.now) ≡ stored_part text.now piece.now }
-    ensures fits { (detail_of piece.now).from + length result.now < 2 ^ 64 }
-{
-    let (from, to) = part_of(text, piece);
-    cut(text, from, to)
-}
-
-/// Where the argument of a piece begins, and its name.
-pub fn name_of<'t>(text: &'t str, piece: &Piece) -> (usize, &'t str)
-    requires fits { IsSome (stored_name text.now piece.now) }
-    ensures start { result.0 ≡ (out-Piece piece.now).place + 1 }
-    ensures name { Some (chars result.1.now) ≡ stored_name text.now piece.now }
-{
-    (piece.place + 1, text_of(text, piece))
-}
-
-/// The fault of an argument that is not closed.
-pub fn require_closed(piece: &Piece) -> Result<(), Error>
-    ensures { result_answer result ≡ option_map fault (unclosed_fault piece.now) }
-{
-    match piece.kind {
-        PieceKind::Unclosed => { Err(Error::Parse(ParseError::Expected("}", spec_end_of(piece)))) }
-        _ => Ok(()),
-    }
 }

@@ -10,9 +10,8 @@ ghost use Rattle.interpolator_syntax.specs.Groups.{group_of};
 ghost use Rattle.interpolator_syntax.specs.Nodes.{group_branch, nodes, token_node};
 ghost use Rattle.interpolator_syntax.specs.Pieces.{argument_from};
 ghost use Rattle.interpolator_syntax.specs.Tokens.{argument};
-ghost use Rattle.interpolator_pieces.specs.NodeChecks.{brace_faults, branch_faults};
-ghost use Rattle.interpolator_pieces.specs.NodeChecks.{first_fault, list_faults, node_faults};
-ghost use Rattle.interpolator_pieces.specs.NodeChecks.{text_faults};
+ghost use Rattle.interpolator_pieces.specs.NodeChecks.{brace_faults, branch_faults, first_fault};
+ghost use Rattle.interpolator_pieces.specs.NodeChecks.{list_faults, node_faults, text_faults};
 
 use interpolator_eval::forbids_list;
 use interpolator_render::Trait;

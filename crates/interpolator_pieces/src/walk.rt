@@ -1,9 +1,8 @@
 //! The walk over the pieces of a format, at every depth of groups.
 ghost use Rattle.std.specs.Prelude.{◌≡◌, ◌+◌, ◌^◌, ◌<◌, ℕ, List, Result, true};
 ghost use Rattle.interpolator_pieces.specs.NodeExtents.{forest_depth, node_depth, branch_depth};
-ghost use Rattle.interpolator_pieces.specs.Visits.{Visit, enter, leave, Walks, inner};
-ghost use Rattle.interpolator_pieces.specs.Visits.{node_visits, branch_visits, forest_visits};
-ghost use Rattle.interpolator_pieces.specs.Visits.{text_visits};
+ghost use Rattle.interpolator_pieces.specs.Visits.{Visit, enter, leave, Walks, inner, node_visits};
+ghost use Rattle.interpolator_pieces.specs.Visits.{branch_visits, forest_visits, text_visits};
 ghost use Rattle.interpolator_syntax.specs.At.{outermost};
 ghost use Rattle.interpolator_syntax.specs.Nodes.{as_forest, nodes};
 ghost use Rattle.std.specs.Str.{chars};

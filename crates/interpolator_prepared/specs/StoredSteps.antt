@@ -1,8 +1,7 @@
 -- How the code stores a program.
 use Rattle.std.specs.Prelude.{ℕ, suc, ◌+◌, ◌-◌, nat_lt, ◌==◌, if◌then◌else◌, List, [], ◌∷◌, ◌++◌}
-use Rattle.std.specs.Prelude.{Bool, true, false, unwrap_or}
-use Rattle.std.specs.Prelude.{length, map, Option, Some, None, option_map, string_bytes}
-use Rattle.std.specs.Prelude.{◌&&◌, not, is_some, take, drop, IsSome, ⊤}
+use Rattle.std.specs.Prelude.{Bool, true, false, unwrap_or, length, map, Option, Some, None}
+use Rattle.std.specs.Prelude.{option_map, string_bytes, ◌&&◌, not, is_some, take, drop, IsSome, ⊤}
 use Rattle.std.specs.Str.{chars}
 use Rattle.interpolator_render.specs.declared.view.Trait.{Trait}
 use Rattle.interpolator_render.specs.declared.view.Trait.TheVariants as traits

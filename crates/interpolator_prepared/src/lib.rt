@@ -14,6 +14,7 @@ mod put;
 mod row;
 mod run;
 mod step;
+mod written_row;
 
 pub use prepared::{Prepared, prepare_pieces};
 pub use row::{PreparedRow, Row, last_position, names_of};

@@ -1,6 +1,5 @@
 //! The names of a format, in order, and where each was last.
-ghost use Rattle.std.specs.Prelude.{◌≡◌, List, ℕ, []};
-ghost use Rattle.std.specs.Prelude.{◌∷◌, ◌++◌, IfOk, OnOk, length, string_bytes};
+ghost use Rattle.std.specs.Prelude.{◌≡◌, List, ℕ, [], ◌∷◌, ◌++◌, IfOk, OnOk, length, string_bytes};
 ghost use Rattle.interpolator_prepared.specs.Rows.{HasPositions, last_position, name_bytes};
 
 use crate::row::last_position;

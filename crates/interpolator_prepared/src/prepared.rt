@@ -1,13 +1,9 @@
 //! Formats that were prepared for rows of values: names are positions, and text is joined.
-ghost use Rattle.std.specs.Prelude.{◌≡◌, ◌≤◌, flat_map, length, map, IfErr, IfOk, Some};
+ghost use Rattle.std.specs.Prelude.{◌≡◌, flat_map, length, map, IfErr, IfOk, Some};
 ghost use Rattle.std.specs.Str.{chars};
 ghost use Rattle.interpolator_syntax.specs.At.{outermost};
-ghost use Rattle.interpolator_syntax.specs.Faults.{
-  answer_of,
-  result_answer,
-  no_memory,
-  PlaceWithin,
-};
+ghost use Rattle.interpolator_syntax.specs.Faults.{answer_of, result_answer, no_memory};
+ghost use Rattle.interpolator_syntax.specs.Faults.{PlaceWithin};
 ghost use Rattle.interpolator_syntax.specs.Nodes.{nodes};
 ghost use Rattle.interpolator_eval.specs.Escaping.{shows_by};
 ghost use Rattle.interpolator_eval.specs.Meaning.Environments.{environment};
@@ -21,11 +17,11 @@ ghost use Rattle.interpolator_pieces.specs.Stored.{nodes_of};
 
 use crate::compile::compile;
 use crate::row::{Cells, NamedRow, PreparedRow, Row};
-use crate::run::run_steps;
 use crate::step::Step;
+use crate::written_row::{format_row, write_row};
 use interpolator_eval::{Escaper, Unescaped};
-use interpolator_pieces::{Piece, buffer_for, write_by, write_newline};
-use interpolator_render::{TextBuffer, TextWrite, Value};
+use interpolator_pieces::{Piece, write_by, write_newline};
+use interpolator_render::{TextWrite, Value};
 use interpolator_syntax::Error;
 use std::alloc::Global;
 use std::marker::Model;
@@ -68,56 +64,6 @@ impl Model for Prepared {
     ghost invariant = { λ p. flat_map (steps_of (string_bytes p.text)) p.steps.items
         ≡ map Some (program (name_bytes p.names.items)
         (nodes (outermost (chars (string_bytes p.text))))) };
-}
-
-/// Writes the steps of a format with a row; if the row is not in the order of the names, writes the
-/// text instead.
-fn write_row<'a, W: TextWrite, R: PreparedRow, E: Escaper>(
-    alloc: Global,
-    out: &mut W,
-    text: &str,
-    named: &NamedRow<'a, R>,
-    steps: &[Step],
-) -> Result<(), Error>
-    requires program { flat_map (steps_of text.now) steps.now
-        ≡ map Some (program (name_bytes named.now.names.now) (nodes (outermost (chars text.now)))) }
-    ensures outcome { Outcome
-        (means (shows_by E.shown R.Object.shows)
-        (environment (R.finds_in named.now.row.now (name_bytes named.now.names.now)))
-        (outermost (chars text.now)))
-        (W.written out.old) (W.written out.new) (result_answer result) }
-    ensures place { PlaceWithin (length text.now) (result_answer result) }
-{
-    if !named.row.is_in_order(named.names) {
-        return write_by::<W, NamedRow<'_, R>, E>(alloc, out, text, named);
-    }
-    run_steps::<W, R, E>(alloc, out, text, named, steps)?;
-    Ok(())
-}
-
-/// The text of the steps of a format with a row, in a new `String`.
-fn format_row<'a, R: PreparedRow, E: Escaper>(
-    alloc: Global,
-    text: &str,
-    named: &NamedRow<'a, R>,
-    steps: &[Step],
-) -> Result<String, Error>
-    requires program { flat_map (steps_of text.now) steps.now
-        ≡ map Some (program (name_bytes named.now.names.now) (nodes (outermost (chars text.now)))) }
-    ensures formats { Formats
-        (means (shows_by E.shown R.Object.shows)
-        (environment (R.finds_in named.now.row.now (name_bytes named.now.names.now)))
-        (outermost (chars text.now)))
-        result }
-    ensures place { PlaceWithin (length text.now) (result_answer result) }
-{
-    let mut out = buffer_for(alloc, text)?;
-    let answer = write_row::<TextBuffer, R, E>(alloc, &mut out, text, named, steps);
-    if out.refused() {
-        return Err(Error::NoMemory);
-    }
-    answer?;
-    Ok(out.into_string())
 }
 
 impl Prepared {

@@ -7,13 +7,8 @@ ghost use Rattle.interpolator_eval.specs.Meaning.Environments.{environment};
 ghost use Rattle.interpolator_eval.specs.Meaning.Outcomes.{Outcome};
 ghost use Rattle.interpolator_eval.specs.Slots.{Slots};
 ghost use Rattle.interpolator_prepared.specs.Rows.{name_bytes};
-ghost use Rattle.interpolator_prepared.specs.StoredSteps.{
-  Fit,
-  fitting_means,
-  steps_of,
-  stored_steps_mean,
-};
-ghost use Rattle.interpolator_prepared.specs.StoredSteps.{kept_step};
+ghost use Rattle.interpolator_prepared.specs.StoredSteps.{Fit, fitting_means, steps_of};
+ghost use Rattle.interpolator_prepared.specs.StoredSteps.{stored_steps_mean, kept_step};
 ghost use Rattle.interpolator_eval.specs.Meaning.CodeEnvironments.{environment_of};
 ghost use Rattle.interpolator_eval.specs.Meaning.Sinks.{Writes};
 ghost use Rattle.interpolator_pieces.specs.Stored.{node_of, node_whole};

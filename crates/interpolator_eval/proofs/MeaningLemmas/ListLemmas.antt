@@ -1,7 +1,6 @@
 -- Lists: what writing the items one after the other leaves, and how many pieces it goes through.
 use Rattle.std.proofs.Common.{rules, ◌≡◌, ℕ, ◌+◌, ◌<◌, ◌≤◌, List, [], ◌∷◌, map, drop, length}
-use Rattle.std.proofs.Common.{get_or}
-use Rattle.std.proofs.Common.{Option, arith, None, Some, refl}
+use Rattle.std.proofs.Common.{get_or, Option, arith, None, Some, refl}
 use Rattle.std.proofs.lemmas.List.{drop_more, drop_all}
 use Rattle.interpolator_render.specs.Written.{Written}
 use Rattle.interpolator_syntax.specs.Faults.{Answer}

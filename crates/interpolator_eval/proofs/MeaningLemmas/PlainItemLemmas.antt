@@ -11,8 +11,7 @@ use Rattle.interpolator_syntax.specs.Classes.{close_brace}
 use Rattle.interpolator_syntax.specs.Faults.{Fault}
 use Rattle.interpolator_syntax.specs.Groups.{Group, group_of, inside}
 use Rattle.interpolator_syntax.specs.declared.group.Group as code_group
-use Rattle.interpolator_syntax.specs.Nodes.{Forest, group_branch, no_nodes, nodes}
-use Rattle.interpolator_syntax.specs.Nodes.{token_node}
+use Rattle.interpolator_syntax.specs.Nodes.{Forest, group_branch, no_nodes, nodes, token_node}
 use Rattle.interpolator_syntax.specs.Pieces.{argument_from}
 use Rattle.interpolator_syntax.specs.SpecTexts.{of_value, plain_spec}
 use Rattle.interpolator_syntax.specs.Tokens.{argument, first_token, literals}

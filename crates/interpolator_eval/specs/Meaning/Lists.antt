@@ -10,8 +10,7 @@ use Rattle.interpolator_eval.specs.Slots.{Slots, items}
 use Rattle.interpolator_eval.specs.Meaning.Choices.{chosen_items}
 use Rattle.interpolator_eval.specs.Meaning.Environments.{Environment, slots_under}
 use Rattle.interpolator_eval.specs.Meaning.Meanings.{Meaning, buffered_means, under_name}
-use Rattle.interpolator_eval.specs.Meaning.Meanings.{listed_means}
-use Rattle.interpolator_eval.specs.Meaning.Meanings.{padded_list, items_mean}
+use Rattle.interpolator_eval.specs.Meaning.Meanings.{listed_means, padded_list, items_mean}
 use Rattle.interpolator_eval.specs.Meaning.Outcomes.{Outcome}
 
 -- what a list means whose text is made whole and padded, by what its items mean

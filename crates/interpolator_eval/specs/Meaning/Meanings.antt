@@ -16,10 +16,9 @@ use Rattle.interpolator_syntax.specs.Faults.{expected, iter}
 use Rattle.interpolator_syntax.specs.Groups.{Group}
 use Rattle.interpolator_syntax.specs.Lists.{ListRequest}
 use Rattle.interpolator_syntax.specs.Nodes.{Node, node, Branch, no_branch, branch, as_forest}
-use Rattle.interpolator_syntax.specs.Nodes.{Forest, no_nodes, nodes_and, nodes}
-use Rattle.interpolator_syntax.specs.Nodes.{Content, text_content, argument_content, fault_content}
-use Rattle.interpolator_syntax.specs.Nodes.{Target, target_value, target_list}
-use Rattle.interpolator_syntax.specs.Nodes.{group_branch, argument_node}
+use Rattle.interpolator_syntax.specs.Nodes.{Forest, no_nodes, nodes_and, nodes, Content}
+use Rattle.interpolator_syntax.specs.Nodes.{text_content, argument_content, fault_content, Target}
+use Rattle.interpolator_syntax.specs.Nodes.{target_value, target_list, group_branch, argument_node}
 use Rattle.interpolator_syntax.specs.Pieces.{Piece}
 use Rattle.interpolator_syntax.specs.SpecTexts.{plain_spec}
 use Rattle.interpolator_syntax.specs.Splits.{node_alone}

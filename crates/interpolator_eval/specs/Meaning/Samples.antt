@@ -15,8 +15,8 @@ use Rattle.interpolator_eval.specs.Slots.{Slots, slots_of, values_of, items, slo
 use Rattle.interpolator_eval.specs.declared.evaluate.sample.Candidates.{Candidates}
 use Rattle.interpolator_eval.specs.declared.evaluate.sample.Candidates.TheVariants.{One, Each}
 use Rattle.interpolator_eval.specs.declared.evaluate.sample.Items.{Items}
-use Rattle.interpolator_eval.specs.declared.evaluate.sample.Need.{Need}
-use Rattle.interpolator_eval.specs.declared.evaluate.sample.Need.TheVariants as needs
+use Rattle.interpolator_eval.specs.declared.evaluate.need.Need.{Need}
+use Rattle.interpolator_eval.specs.declared.evaluate.need.Need.TheVariants as needs
 use Rattle.interpolator_eval.specs.declared.evaluate.sample.SampleEnvironment.{SampleEnvironment}
 
 -- what the sample has under a name and, in an item format, what the item may be: any item of the

@@ -7,11 +7,10 @@ use Rattle.interpolator_render.specs.declared.view.Trait.TheVariants.{Display}
 use Rattle.interpolator_render.specs.Views.{Shown}
 use Rattle.interpolator_syntax.specs.At.{placed_from}
 use Rattle.interpolator_syntax.specs.Faults.{Fault, parse, expected}
-use Rattle.interpolator_syntax.specs.Nodes.{Node, node, Branch, no_branch, branch}
+use Rattle.interpolator_syntax.specs.Nodes.{Node, node, Branch, no_branch, branch, Forest, no_nodes}
+use Rattle.interpolator_syntax.specs.Nodes.{nodes_and, text_node, Content, argument_content, Target}
+use Rattle.interpolator_syntax.specs.Nodes.{target_value, target_list}
 use Rattle.interpolator_syntax.specs.Groups.{Group, group_of}
-use Rattle.interpolator_syntax.specs.Nodes.{Forest, no_nodes, nodes_and, text_node}
-use Rattle.interpolator_syntax.specs.Nodes.{Content, argument_content}
-use Rattle.interpolator_syntax.specs.Nodes.{Target, target_value, target_list}
 use Rattle.interpolator_syntax.specs.declared.piece_kind.PieceKind.{PieceKind}
 use Rattle.interpolator_syntax.specs.declared.piece_kind.PieceKind.TheVariants.{Closed, Literal}
 use Rattle.interpolator_syntax.specs.declared.piece_kind.PieceKind.TheVariants.{Unclosed}
@@ -22,9 +21,8 @@ use Rattle.interpolator_eval.specs.declared.evaluate.plain_item.PlainItem.{Plain
 use Rattle.interpolator_eval.specs.Meaning.Environments.{Environment, slots_under}
 use Rattle.interpolator_eval.specs.Meaning.Lists.{list_under_name}
 use Rattle.interpolator_eval.specs.Meaning.Meanings.{Meaning, nothing, chain, fault_alone}
-use Rattle.interpolator_eval.specs.Meaning.Meanings.{items_mean, text_alone}
-use Rattle.interpolator_eval.specs.Meaning.Meanings.{node_means, join_branch_means}
-use Rattle.interpolator_eval.specs.Meaning.Meanings.{item_branch_means}
+use Rattle.interpolator_eval.specs.Meaning.Meanings.{items_mean, text_alone, node_means}
+use Rattle.interpolator_eval.specs.Meaning.Meanings.{join_branch_means, item_branch_means}
 use Rattle.interpolator_eval.specs.Meaning.Work.{Work, under_work, listed_work, items_work}
 use Rattle.interpolator_eval.specs.Meaning.Work.{join_branch_work, item_branch_work}
 

@@ -1,7 +1,6 @@
 -- The work of writing a format, up to the first fault: how many pieces are gone through, and how
 -- many characters lists under a width have in buffers at one time.
-use Rattle.std.specs.Prelude.{ℕ, ◌+◌, max, length, List, [], ◌∷◌, Option, None, Some}
-use Rattle.std.specs.Prelude.{if◌then◌else◌}
+use Rattle.std.specs.Prelude.{ℕ, ◌+◌, max, length, List, [], ◌∷◌, Option, None, Some, if◌then◌else◌}
 use Rattle.interpolator_render.specs.declared.view.Spec.{Spec}
 use Rattle.interpolator_render.specs.declared.view.Trait.{Trait}
 use Rattle.interpolator_render.specs.Views.{Shown}

@@ -10,15 +10,9 @@ ghost use Rattle.interpolator_eval.specs.Meaning.CodeEnvironments.{environment_o
 ghost use Rattle.interpolator_eval.specs.Meaning.Lists.{IsChosen, IsNotChosen, ChosenUnder};
 ghost use Rattle.interpolator_eval.specs.Meaning.Meanings.{forbids_list, forest_means};
 ghost use Rattle.interpolator_eval.specs.Meaning.Sinks.{Writes};
-ghost use Rattle.interpolator_eval.specs.Meaning.Sources.{
-  ListArgument,
-  Met,
-  before_list,
-  from_list,
-};
-ghost use Rattle.interpolator_eval.specs.Meaning.Sources.{IsPlainItem, IsText, branch_of};
-ghost use Rattle.interpolator_eval.specs.Meaning.Sources.{first_holds};
-ghost use Rattle.interpolator_eval.specs.Meaning.Sources.{met_pieces};
+ghost use Rattle.interpolator_eval.specs.Meaning.Sources.{ListArgument, Met, before_list};
+ghost use Rattle.interpolator_eval.specs.Meaning.Sources.{from_list, IsPlainItem, IsText};
+ghost use Rattle.interpolator_eval.specs.Meaning.Sources.{branch_of, first_holds, met_pieces};
 ghost use Rattle.interpolator_eval.specs.Meaning.Work.{forest_work};
 
 use crate::context::Context;

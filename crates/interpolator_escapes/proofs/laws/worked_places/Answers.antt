@@ -1,4 +1,4 @@
-use Rattle.std.proofs.Common.{refl}
+use Rattle.std.proofs.Common.{refl, codes}
 use Rattle.interpolator_syntax.specs.Arguments.{argument_at}
 use Rattle.interpolator_syntax.specs.Groups.{group_at}
 use Rattle.interpolator_syntax.specs.Lists.{list_at}
@@ -10,7 +10,6 @@ use Rattle.interpolator_syntax.specs.Nodes.{nodes}
 use Rattle.interpolator_escapes.specs.Csv.{quoted, quote_seen}
 use Rattle.interpolator_escapes.specs.Json.{between, in_string}
 use Rattle.interpolator_escapes.specs.Html.{in_base, in_value, double, plain, html_start}
-use Rattle.std.proofs.Common.{codes}
 use Rattle.interpolator_escapes.proofs.laws.worked_places.Goals as goal
 
 pub returns : goal.returns

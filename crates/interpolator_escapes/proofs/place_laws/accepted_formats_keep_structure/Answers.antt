@@ -6,8 +6,7 @@ use Rattle.interpolator_syntax.specs.At.{At}
 use Rattle.interpolator_eval.specs.Meaning.Environments.{Environment}
 use Rattle.interpolator_eval.specs.Meaning.Meanings.{means}
 use Rattle.interpolator_escapes.specs.Csv.{field_start, csv_step, is_csv_place}
-use Rattle.interpolator_escapes.specs.Escapes.{html_escape, csv_escape}
-use Rattle.interpolator_escapes.specs.Escapes.{json_escape, shell_escape}
+use Rattle.interpolator_escapes.specs.Escapes.{html_escape, csv_escape, json_escape, shell_escape}
 use Rattle.interpolator_escapes.specs.Formats.{escaped_shows, shows_nothing}
 use Rattle.interpolator_escapes.specs.Html.{html_start, html_step, is_html_place}
 use Rattle.interpolator_escapes.specs.Json.{between, json_step, is_json_place}

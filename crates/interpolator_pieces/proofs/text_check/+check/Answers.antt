@@ -12,8 +12,7 @@ use Rattle.interpolator_eval.proofs.MeaningLemmas.LookUpLemmas.{value_asked}
 use Rattle.interpolator_eval.proofs.MeaningLemmas.ScanLemmas.{asked_broken, asked_ok}
 use Rattle.interpolator_pieces.proofs.TextCheckLemmas.{broken_faults, faults_next, first_told}
 use Rattle.interpolator_pieces.proofs.TextCheckLemmas.{list_told, none_left, none_told, rest_after}
-use Rattle.interpolator_pieces.proofs.TextCheckLemmas.{rest_read}
-use Rattle.interpolator_pieces.proofs.TextCheckLemmas.{text_passed, value_faults}
+use Rattle.interpolator_pieces.proofs.TextCheckLemmas.{rest_read, text_passed, value_faults}
 use Rattle.interpolator_pieces.proofs.text_check.+check.Goals as goal
 
 -- ---- a text
