@@ -1,19 +1,15 @@
 -- The answer, once the lines are sound, from the line that was found and what the words give.
-use Rattle.std.proofs.Common.{◌≡◌, ◌⊎◌, refl, inr, arith, ℕ, List, Option, None, Some}
-use Rattle.std.proofs.Common.{All, option_map}
+use Rattle.std.proofs.Common.{◌≡◌, ◌⊎◌, refl, inr, arith, ℕ, List, Option, None, Some, All}
+use Rattle.std.proofs.Common.{option_map}
 use Rattle.std.specs.declared.string.String.{String}
 use Rattle.interpolator.specs.Faults.{Answer as Reply, Fault, answer_place, fault, no_memory}
 use Rattle.interpolator_escapes.specs.declared.escape.Escape.{Escape}
 use Rattle.catalogue.specs.Declarations.{Declared, nothing, these, broken}
-use Rattle.catalogue.specs.Entries.{Held}
 use Rattle.catalogue.specs.Files.{Line, Page}
 use Rattle.catalogue.specs.Messages.{Answers, IsMadeOrTold, OfLine, Replies}
-use Rattle.catalogue.specs.Picks.{ArePicked}
-use Rattle.catalogue.specs.Sound.{IsSoundOver}
-use Rattle.catalogue.specs.Objects.{IsGiven}
-use Rattle.catalogue.specs.declared.entries.Object.{Object}
-use Rattle.catalogue.specs.declared.messages.Answer.{Answer}
 use Rattle.catalogue.specs.declared.messages.Answer.TheVariants.{Message, Faults, Absent, BadWord}
+use Rattle.catalogue.specs.{Entries.Held, Picks.ArePicked, Sound.IsSoundOver, Objects.IsGiven}
+use Rattle.catalogue.specs.{declared.entries.Object.Object, declared.messages.Answer.Answer}
 use Rattle.catalogue.proofs.KindLemmas.{ByKind, MeansNone, SameFaults, none_fails}
 
 -- a fault that has a place, as a call told it, is the fault of what it means

@@ -2,13 +2,9 @@
 use Rattle.std.proofs.Common.{◌≡◌, ◌∙◌, ap, arith, refl, sym, ℕ, zero, suc, ◌+◌, ◌-◌, ◌≤◌, ◌<◌}
 use Rattle.std.proofs.Common.{List, Option, None, Some, MatchOption, drop, get_or, length, take}
 use Rattle.std.proofs.Common.{⊎_elim, length-drop, get_or-drop}
-use Rattle.std.proofs.lemmas.Bool.{cases_eq}
-use Rattle.std.proofs.lemmas.Str.{len_utf8_ascii}
-use Rattle.std.proofs.lemmas.Str.Pattern.{NoCharPasses-char}
-use Rattle.std.specs.Borrow.{Bor}
-use Rattle.std.specs.Option.{option_map}
+use Rattle.std.proofs.lemmas.{Bool.cases_eq, Str.len_utf8_ascii, Str.Pattern.NoCharPasses-char}
 use Rattle.std.specs.Path.{rfind_below, rsplit_once}
-use Rattle.std.specs.Str.Pattern.{RFindsChar}
+use Rattle.std.specs.{Borrow.Bor, Option.option_map, Str.Pattern.RFindsChar}
 
 -- no byte below n is c
 none_below : (c : ℕ) (text : List ℕ) (n : ℕ)

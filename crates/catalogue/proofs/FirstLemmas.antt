@@ -1,10 +1,8 @@
 -- What is left of a list, and the first of what some things give.
 use Rattle.std.proofs.Common.{◌≡◌, ◌∙◌, ap, arith, refl, sym, ℕ, ◌+◌, ◌<◌, List, [], ◌∷◌, ◌++◌}
 use Rattle.std.proofs.Common.{Bool, Option, Some, append_assoc, drop, filter, get_or, length, map}
-use Rattle.std.proofs.lemmas.List.{at_drop_more}
-use Rattle.std.proofs.lemmas.List.Elements.{All-head, All-tail}
-use Rattle.std.specs.List.{All, concat}
-use Rattle.std.specs.Option.{option_map, option_or}
+use Rattle.std.proofs.lemmas.{List.at_drop_more, List.Elements.All-head, List.Elements.All-tail}
+use Rattle.std.specs.{List.All, List.concat, Option.option_map, Option.option_or}
 use Rattle.catalogue.specs.Forms.{first_given}
 
 -- what is left begins with the one that is looked at

@@ -1,14 +1,10 @@
 -- Texts of which each is there once, and the first lines of keys, once one more is looked at.
-use Rattle.std.proofs.Common.{◌≡◌, ap, arith, refl, sym, ℕ, List, [], ◌∷◌, ◌++◌}
-use Rattle.std.proofs.Common.{Bool, append_assoc, filter, not, true, false}
-use Rattle.std.proofs.lemmas.List.Folds.{list_any-append}
-use Rattle.std.proofs.lemmas.Slice.Eq.{bytes_eq-Decides}
-use Rattle.std.specs.Option.{option_or}
-use Rattle.std.specs.Str.{bytes_eq}
-use Rattle.catalogue.specs.Files.{Line}
-use Rattle.catalogue.specs.Keys.{number_of, with_key}
-use Rattle.catalogue.specs.Lines.{key_of}
+use Rattle.std.proofs.Common.{◌≡◌, ap, arith, refl, sym, ℕ, List, [], ◌∷◌, ◌++◌, Bool, append_assoc}
+use Rattle.std.proofs.Common.{filter, not, true, false}
+use Rattle.std.proofs.{lemmas.List.Folds.list_any-append, lemmas.Slice.Eq.bytes_eq-Decides}
+use Rattle.std.specs.{Option.option_or, Str.bytes_eq}
 use Rattle.catalogue.specs.Lacks.{each_once, first_of, is_one_of, key_if_message, with_text}
+use Rattle.catalogue.specs.{Files.Line, Keys.number_of, Keys.with_key, Lines.key_of}
 
 -- nothing is there, so nothing is left out
 all_kept : (texts : List (List ℕ)) → filter (λ x. not (is_one_of [] x)) texts ≡ texts

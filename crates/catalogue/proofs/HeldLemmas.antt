@@ -1,18 +1,13 @@
 -- What values hold under names, and that values resemble the examples of what is declared.
-use Rattle.std.proofs.Common.{◌≡◌, ◌∙◌, refl, ap, arith, ℕ, Bool, true, cond, List, [], ◌∷◌}
-use Rattle.std.proofs.Common.{None, Option, Some, map, reverse}
-use mathlib.Core.Path.{fun_ext}
-use Rattle.std.proofs.lemmas.List.{reverse-append}
+use Rattle.std.proofs.Common.{◌≡◌, ◌∙◌, refl, ap, arith, ℕ, Bool, true, cond, List, [], ◌∷◌, None}
+use Rattle.std.proofs.Common.{Option, Some, map, reverse}
 use Rattle.std.proofs.lemmas.List.Elements.{All-head, All-tail}
-use Rattle.std.proofs.lemmas.List.Folds.{find-append}
-use Rattle.std.specs.Borrow.{Bor}
+use Rattle.std.proofs.{lemmas.List.reverse-append, lemmas.List.Folds.find-append}
+use mathlib.Core.Path.{fun_ext}
 use Rattle.std.specs.List.{All, AllZip, find}
-use Rattle.std.specs.Option.{option_or}
-use Rattle.std.specs.Prelude.{⊤}
-use Rattle.std.specs.Str.{bytes_eq, encode_utf8_all}
-use Rattle.interpolator.specs.Contexts.{found_by_pairs}
+use Rattle.std.specs.{Borrow.Bor, Option.option_or, Prelude.⊤, Str.bytes_eq, Str.encode_utf8_all}
 use Rattle.interpolator.specs.Meaning.Resembling.{Resembles, ResemblesFound}
-use Rattle.interpolator.specs.declared.Formattable.{Formattable}
+use Rattle.interpolator.specs.{Contexts.found_by_pairs, declared.Formattable.Formattable}
 use Rattle.interpolator.specs.declared.View.{View}
 use Rattle.catalogue.specs.Entries.{Held, found_by, held_by_pair}
 use Rattle.catalogue.specs.Examples.{view_shows}

@@ -1,10 +1,8 @@
 -- The numbers of keys that a map has, once one more is put in.
 use Rattle.std.proofs.Common.{◌≡◌, ℕ, ◌+◌, List, cond, None, Some, arith}
-use Rattle.std.specs.Borrow.{Bor}
 use Rattle.std.specs.HashMap.{HashMap, get_by, hash_map_len}
-use Rattle.std.specs.Str.{bytes_eq}
-use Rattle.catalogue.specs.Keys.{Remembers, with_key}
-use Rattle.catalogue.specs.Reports.{lent}
+use Rattle.std.specs.{Borrow.Bor, Str.bytes_eq}
+use Rattle.catalogue.specs.{Keys.Remembers, Keys.with_key, Reports.lent}
 
 pub remembers_new : {S : Type 0} (seen : List (ℕ × List ℕ)) (number : ℕ) (key : List ℕ)
     (old new : HashMap (Bor (List ℕ)) ℕ S) → Remembers seen old

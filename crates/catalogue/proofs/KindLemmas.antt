@@ -1,40 +1,29 @@
 -- Values of declared kinds resemble the examples of these: a sound format has no fault over them.
-use Rattle.std.proofs.Common.{◌≡◌, ◌∙◌, ap, arith, refl, sym, inl, ℕ, List, [], ◌∷◌, map}
-use Rattle.std.proofs.Common.{None, Option, Some}
+use Rattle.std.proofs.Common.{◌≡◌, ◌∙◌, ap, arith, refl, sym, inl, ℕ, List, [], ◌∷◌, map, None}
+use Rattle.std.proofs.Common.{Option, Some}
 use Rattle.std.proofs.lemmas.List.Elements.{All-nil, All-cons}
 use Rattle.std.proofs.lemmas.Slice.Eq.{bytes_eq-Decides}
-use Rattle.std.specs.List.{All, AllZip}
-use Rattle.std.specs.Str.{bytes_eq, chars}
+use Rattle.std.specs.{List.All, List.AllZip, Str.bytes_eq, Str.chars, Float.binary64}
 use Rattle.interpolator.specs.At.{At, outermost}
-use Rattle.interpolator.specs.Meaning.AskedNames.{asked_names}
 use Rattle.interpolator.specs.Meaning.Environments.{Environment, environment}
-use Rattle.interpolator.specs.Meaning.Meanings.{means}
 use Rattle.interpolator.specs.Meaning.Samples.{is_failure, shows_nothing}
-use Rattle.interpolator.specs.Meaning.Resembling.{HasText, Resembles, ResemblesOn}
-use Rattle.interpolator.specs.Meaning.Resembling.{ResemblesSlot, ResemblesSome}
+use Rattle.interpolator.specs.Meaning.Resembling.{HasText, Resembles, ResemblesOn, ResemblesSlot}
+use Rattle.interpolator.specs.Meaning.Resembling.{ResemblesSome}
 use Rattle.interpolator.specs.Slots.{Slots, listed_slots, slot_at, slots_listed, values_of}
 use Rattle.interpolator.specs.Slots.{empty_slots, with_debug_display}
-use Rattle.interpolator.specs.Template.NodeSamples.{faults_over}
-use Rattle.interpolator.specs.Texts.{view_text}
-use Rattle.std.specs.Float.{binary64}
 use Rattle.interpolator.specs.Views.{Shown, decimal_number, float_number, shown_as_value}
 use Rattle.interpolator.specs.Views.{signed_number, some_text}
-use Rattle.interpolator.specs.declared.Bits.TheVariants.{B128}
-use Rattle.interpolator.specs.declared.Spec.{Spec}
-use Rattle.interpolator.specs.declared.Trait.{Trait}
-use Rattle.interpolator.specs.declared.View.{View}
-use Rattle.interpolator_escapes.specs.Formats.{escaped_shows}
-use Rattle.interpolator_escapes.specs.declared.escape.Escape.{Escape}
-use Rattle.catalogue.specs.Declarations.{these}
+use Rattle.interpolator.specs.Meaning.{AskedNames.asked_names, Meanings.means}
+use Rattle.interpolator.specs.declared.{Bits.TheVariants.B128, Spec.Spec, Trait.Trait, View.View}
+use Rattle.interpolator.specs.{Template.NodeSamples.faults_over, Texts.view_text}
+use Rattle.interpolator_escapes.specs.{Formats.escaped_shows, declared.escape.Escape.Escape}
 use Rattle.catalogue.specs.Entries.{Held, found_by, item_slots, slots_by}
 use Rattle.catalogue.specs.Examples.{example, example_of, example_slots, faults_of, text_example}
 use Rattle.catalogue.specs.Examples.{view_shows}
-use Rattle.catalogue.specs.Messages.{message_means}
-use Rattle.catalogue.specs.Picks.{HoldsPick}
 use Rattle.catalogue.specs.Objects.{Gives, IsGiven, Showing, shown_by, shown_of, texts_show}
-use Rattle.words.specs.Items.{items_of}
+use Rattle.catalogue.specs.{Declarations.these, Messages.message_means, Picks.HoldsPick}
 use Rattle.words.specs.Words.{Assignment, text, number, decimal, float, list}
-use Rattle.words.specs.declared.Kind.{Kind}
+use Rattle.words.specs.{Items.items_of, declared.Kind.Kind}
 use Rattle.words.specs.declared.Kind.TheVariants as kinds
 use Rattle.catalogue.specs.declared.entries.Object.{Object}
 use Rattle.catalogue.proofs.HeldLemmas.{IsLike, found_alike, last_holds}

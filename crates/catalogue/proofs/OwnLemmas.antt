@@ -1,27 +1,19 @@
 -- The faults that a format has by itself are among those that it has with a sample.
-use Rattle.std.proofs.Common.{◌≡◌, ◌∙◌, refl, ap, ℕ, suc, true, List, []}
-use Rattle.std.proofs.Common.{◌∷◌, ◌++◌, Option, None, Some, arith, map}
+use Rattle.std.proofs.Common.{◌≡◌, ◌∙◌, refl, ap, ℕ, suc, true, List, [], ◌∷◌, ◌++◌, Option, None}
+use Rattle.std.proofs.Common.{Some, arith, map}
 use Rattle.std.proofs.lemmas.List.Elements.{filter-append}
-use Rattle.std.specs.List.{filter}
-use Rattle.std.specs.Prelude.{Contains}
-use Rattle.interpolator.specs.At.{At}
-use Rattle.interpolator.specs.Faults.{Fault, fault}
-use Rattle.interpolator.specs.Slots.{Slots}
+use Rattle.std.specs.{List.filter, Prelude.Contains}
 use Rattle.interpolator.specs.Template.NodeChecks.{IsOfText, branch_faults, end_fault, fault_list}
 use Rattle.interpolator.specs.Template.NodeChecks.{forest_faults, node_faults, own_fault}
 use Rattle.interpolator.specs.Template.NodeChecks.{text_faults}
-use Rattle.interpolator.specs.Template.NodeSamples.{asked_faults, faults_over}
-use Rattle.interpolator.specs.Template.NodeSamples.{forest_faults_in, item_faults_in}
-use Rattle.interpolator.specs.Template.NodeSamples.{join_faults_in, may_be_items, node_faults_in}
-use Rattle.interpolator.specs.Template.NodeSamples.{plain_faults}
-use Rattle.interpolator.specs.Views.{Shown}
-use Rattle.interpolator.specs.declared.Spec.{Spec}
-use Rattle.interpolator.specs.declared.Trait.{Trait}
-use Rattle.interpolator.specs.Meaning.Samples.{Sample, bind_each}
-use Rattle.interpolator.specs.Meaning.Samples.{sample}
-use Rattle.interpolator_syntax.specs.Nodes.{Branch, Content, Forest, Node}
-use Rattle.interpolator_syntax.specs.Nodes.{as_forest, branch, no_branch, no_nodes}
-use Rattle.interpolator_syntax.specs.Nodes.{node, nodes, nodes_and}
+use Rattle.interpolator.specs.Template.NodeSamples.{asked_faults, faults_over, forest_faults_in}
+use Rattle.interpolator.specs.Template.NodeSamples.{item_faults_in, join_faults_in, may_be_items}
+use Rattle.interpolator.specs.Template.NodeSamples.{node_faults_in, plain_faults}
+use Rattle.interpolator.specs.Meaning.Samples.{Sample, bind_each, sample}
+use Rattle.interpolator.specs.{At.At, Faults.Fault, Faults.fault, Slots.Slots, Views.Shown}
+use Rattle.interpolator.specs.{declared.Spec.Spec, declared.Trait.Trait}
+use Rattle.interpolator_syntax.specs.Nodes.{Branch, Content, Forest, Node, as_forest, branch}
+use Rattle.interpolator_syntax.specs.Nodes.{no_branch, no_nodes, node, nodes, nodes_and}
 use Rattle.catalogue.specs.Examples.{is_own, is_own_reply}
 use Rattle.catalogue.proofs.FirstLemmas.{filter_mapped}
 

@@ -1,34 +1,27 @@
 -- Lines of which nothing is reported are sound, and so is the one that is found.
-use Rattle.std.proofs.Common.{◌≡◌, refl, ℕ, ◌+◌, Bool, true, false, cond, arith, ltb-true}
-use Rattle.std.proofs.Common.{List, [], ◌∷◌, ◌++◌, Option, None, Some, Result, Ok, Err, codes}
-use Rattle.std.proofs.Common.{inl, inr, map, subst}
-use Rattle.std.proofs.Common.{length, length-append}
-use Rattle.std.proofs.lemmas.Bool.Decides.{nat_tests}
-use Rattle.std.proofs.lemmas.List.Elements.{All-cons, All-nil}
-use Rattle.std.specs.List.{All}
-use Rattle.std.specs.Option.{option_or}
+use Rattle.std.proofs.Common.{◌≡◌, refl, ℕ, ◌+◌, Bool, true, false, cond, arith, ltb-true, List, []}
+use Rattle.std.proofs.Common.{◌∷◌, ◌++◌, Option, None, Some, Result, Ok, Err, codes, inl, inr, map}
+use Rattle.std.proofs.Common.{subst, length, length-append}
+use Rattle.std.proofs.lemmas.{Bool.Decides.nat_tests, List.Elements.All-cons, List.Elements.All-nil}
+use Rattle.std.specs.{List.All, Option.option_or, Str.bytes_eq}
 use Rattle.interpolator.specs.Faults.{Fault, fault, fault_place}
 use Rattle.interpolator.specs.FaultTexts.{answer_text}
 use Rattle.catalogue.specs.Declarations.{Declared, nothing, these, broken, has}
-use Rattle.catalogue.specs.Examples.{faults_of}
 use Rattle.catalogue.specs.Files.{Line, Page, lines_of}
 use Rattle.catalogue.specs.Formats.{format_of, line_of_spot, spot_in, told_of_place, written_of}
-use Rattle.catalogue.specs.Forms.{Chosen, first_given}
 use Rattle.catalogue.specs.Keys.{IsNew, told_of_key, with_key}
 use Rattle.catalogue.specs.Lines.{declared_of, has_message, head_of, is_passed_over, key_of}
 use Rattle.catalogue.specs.Lines.{key_with, opens}
-use Rattle.catalogue.specs.Reports.{told_at}
-use Rattle.folds.specs.Lines.{goes_on}
-use Rattle.std.specs.Str.{bytes_eq}
-use Rattle.catalogue.specs.Rules.{rule_in, wrong_in}
 use Rattle.catalogue.specs.Sought.{Known, found_among, found_by, found_in, line_for, sought}
 use Rattle.catalogue.specs.Sound.{AreSound, IsSound, IsSoundFile, IsSoundFormat, IsSoundOver}
 use Rattle.catalogue.specs.Told.{told_of_faults, told_of_file, told_of_files, told_of_format}
 use Rattle.catalogue.specs.Told.{told_of_line, told_of_lines, told_of_message, told_of_more}
-use Rattle.catalogue.specs.Told.{told_of_rule, told_of_wrong, what_goes_on}
-use Rattle.catalogue.specs.Told.{what_is_declared, what_is_written}
+use Rattle.catalogue.specs.Told.{told_of_rule, told_of_wrong, what_goes_on, what_is_declared}
+use Rattle.catalogue.specs.Told.{what_is_written}
+use Rattle.catalogue.specs.{Examples.faults_of, Forms.Chosen, Forms.first_given, Reports.told_at}
+use Rattle.catalogue.specs.{Rules.rule_in, Rules.wrong_in, declared.entries.Object.Object}
+use Rattle.folds.specs.Lines.{goes_on}
 use Rattle.words.specs.Words.{is_equals}
-use Rattle.catalogue.specs.declared.entries.Object.{Object}
 use Rattle.catalogue.proofs.FirstLemmas.{given_holds}
 
 -- something is reported

@@ -1,16 +1,13 @@
 -- Names that are left, once more of them are left out.
-use Rattle.std.proofs.Common.{◌≡◌, ◌∙◌, ap, arith, refl, ℕ, ◌||◌, IsUtf8, List, [], ◌∷◌, ◌++◌}
-use Rattle.std.proofs.Common.{Bool, Option, None, Some, Result, Err, false, filter, not}
-use Rattle.std.proofs.lemmas.Slice.Eq.{bytes_eq-Decides}
-use Rattle.std.proofs.lemmas.Str.{encodes-chars}
+use Rattle.std.proofs.Common.{◌≡◌, ◌∙◌, ap, arith, refl, ℕ, ◌||◌, IsUtf8, List, [], ◌∷◌, ◌++◌, Bool}
+use Rattle.std.proofs.Common.{Option, None, Some, Result, Err, false, filter, not}
+use Rattle.std.proofs.{lemmas.Slice.Eq.bytes_eq-Decides, lemmas.Str.encodes-chars}
 use Rattle.std.specs.Str.{bytes_eq, chars}
-use Rattle.plurals.specs.Readings.{tree_at}
-use Rattle.plurals.specs.declared.fault.Fault.{Fault}
-use Rattle.catalogue.specs.Declarations.{Declared}
+use Rattle.plurals.specs.{Readings.tree_at, declared.fault.Fault.Fault}
 use Rattle.catalogue.specs.Files.{Line, Page, lines_of}
-use Rattle.catalogue.specs.Lacks.{each_once, is_one_of}
-use Rattle.catalogue.specs.Unused.{and_names, declares, format_asks, is_used, is_used_in}
-use Rattle.catalogue.specs.Unused.{rule_asks, uses, with_name}
+use Rattle.catalogue.specs.Unused.{and_names, declares, format_asks, is_used, is_used_in, rule_asks}
+use Rattle.catalogue.specs.Unused.{uses, with_name}
+use Rattle.catalogue.specs.{Declarations.Declared, Lacks.each_once, Lacks.is_one_of}
 use Rattle.catalogue.proofs.FormLemmas.{once_more}
 
 -- nothing is left out

@@ -1,10 +1,8 @@
 -- What the head of a line declares: names, each with a kind of value. Texts are bytes.
-use Rattle.std.specs.Prelude.{ℕ, Bool, ◌==◌, ◌-◌, nat_lt, List, [], ◌∷◌, ◌++◌}
-use Rattle.std.specs.Prelude.{length, map, if◌then◌else◌, Option, None, Some}
-use Rattle.std.specs.Option.{option_or}
-use Rattle.std.specs.List.{before_first, after_first, list_any, position_or_len}
-use Rattle.std.specs.List.{slice_split}
-use Rattle.std.specs.Str.{bytes_eq, trim, trim_start}
+use Rattle.std.specs.Prelude.{ℕ, Bool, ◌==◌, ◌-◌, nat_lt, List, [], ◌∷◌, ◌++◌, length, map}
+use Rattle.std.specs.Prelude.{if◌then◌else◌, Option, None, Some}
+use Rattle.std.specs.List.{before_first, after_first, list_any, position_or_len, slice_split}
+use Rattle.std.specs.{Option.option_or, Str.bytes_eq, Str.trim, Str.trim_start}
 use Rattle.interpolator.specs.Explained.{usize_sum}
 use Rattle.plurals.specs.Tokens.{is_name}
 use Rattle.words.specs.Declarations.{as_declaration, declaration_of}

@@ -1,17 +1,12 @@
 -- Values under names, and as pairs of a context.
 use Rattle.std.specs.Prelude.{ℕ, List, Option, map, reverse}
-use Rattle.std.specs.Borrow.{Bor}
-use Rattle.std.specs.List.{find}
-use Rattle.std.specs.Option.{option_map}
-use Rattle.std.specs.Str.{bytes_eq, encode_utf8_all}
+use Rattle.std.specs.{Borrow.Bor, List.find, Option.option_map, Str.bytes_eq, Str.encode_utf8_all}
 use Rattle.interpolator.specs.Slots.{Slots, empty_slots, slots_of, with_debug_display, with_float}
 use Rattle.interpolator.specs.Slots.{with_integer, with_iter}
-use Rattle.interpolator.specs.declared.Formattable.{Formattable}
-use Rattle.interpolator.specs.declared.View.{View}
+use Rattle.interpolator.specs.{declared.Formattable.Formattable, declared.View.View}
 use Rattle.words.specs.declared.Kind.{Kind}
 use Rattle.words.specs.declared.Kind.TheVariants as kinds
-use Rattle.catalogue.specs.declared.entries.Entry.{Entry}
-use Rattle.catalogue.specs.declared.entries.Object.{Object}
+use Rattle.catalogue.specs.{declared.entries.Entry.Entry, declared.entries.Object.Object}
 
 -- a name, and the slots of the value under it
 abbrev pub Held : Type 0

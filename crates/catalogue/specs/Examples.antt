@@ -1,17 +1,11 @@
 -- An example of what a line declares, and the faults that its format has with that.
 use Rattle.std.specs.Prelude.{ℕ, Bool, true, false, pos, List, [], ◌∷◌, map}
 use Rattle.std.specs.Str.{chars}
-use Rattle.interpolator.specs.At.{outermost}
 use Rattle.interpolator.specs.Faults.{Answer, Fault, fault, no_memory, parse, unsupported_option}
-use Rattle.interpolator.specs.Slots.{Slots}
-use Rattle.interpolator.specs.Template.NodeChecks.{text_faults}
-use Rattle.interpolator.specs.Template.NodeSamples.{faults_over}
-use Rattle.interpolator.specs.Views.{Shown, shown_as_value}
-use Rattle.interpolator.specs.declared.Bits.TheVariants.{B128}
-use Rattle.interpolator.specs.declared.Spec.{Spec}
-use Rattle.interpolator.specs.declared.Trait.{Trait}
-use Rattle.interpolator.specs.declared.View.{View}
 use Rattle.interpolator.specs.declared.View.TheVariants.{Character, Decimal, Signed}
+use Rattle.interpolator.specs.Template.{NodeChecks.text_faults, NodeSamples.faults_over}
+use Rattle.interpolator.specs.declared.{Bits.TheVariants.B128, Spec.Spec, Trait.Trait, View.View}
+use Rattle.interpolator.specs.{At.outermost, Slots.Slots, Views.Shown, Views.shown_as_value}
 use Rattle.catalogue.specs.Declarations.{Declared, nothing, these, broken}
 use Rattle.catalogue.specs.Entries.{Held, found_by, item_slots, slots_by}
 use Rattle.words.specs.declared.Kind.{Kind}

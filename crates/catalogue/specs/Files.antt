@@ -1,10 +1,8 @@
 -- Files of messages and their lines. Texts are bytes.
 use Rattle.std.specs.Prelude.{ℕ, ◌+◌, List, [], ◌∷◌, string_bytes}
 use Rattle.std.specs.Str.Lines.{lines}
-use Rattle.words.specs.Items.{texts_of}
-use Rattle.words.specs.Programs.{without_mark}
-use Rattle.catalogue.specs.declared.files.File.{File}
-use Rattle.catalogue.specs.declared.files.Line.{Line as LentLine}
+use Rattle.words.specs.{Items.texts_of, Programs.without_mark}
+use Rattle.catalogue.specs.{declared.files.File.File, declared.files.Line.Line as LentLine}
 use Rattle.catalogue.specs.declared.files.Page.{Page as LentPage}
 
 -- a line of a file: the file's name, the line's number, from 1 on, its text, and the texts of the

@@ -1,14 +1,11 @@
 -- The format of a message, which may go on on the lines after its own. Texts are bytes.
-use Rattle.std.specs.Prelude.{ℕ, ◌-◌, List, [], ◌++◌, codes, if◌then◌else◌, length}
-use Rattle.std.specs.Prelude.{Option, None, Some, Result}
-use Rattle.std.specs.List.{after_first}
-use Rattle.std.specs.Str.{bytes_eq, trim_start}
+use Rattle.std.specs.Prelude.{ℕ, ◌-◌, List, [], ◌++◌, codes, if◌then◌else◌, length, Option, None}
+use Rattle.std.specs.Prelude.{Some, Result}
+use Rattle.std.specs.{List.after_first, Str.bytes_eq, Str.trim_start}
 use Rattle.folds.specs.Lines.{Spot, folded, spot_of}
 use Rattle.folds.specs.Spellings.{place_in, text_in}
-use Rattle.interpolator.specs.Explained.{explanation, usize_sum}
-use Rattle.interpolator.specs.declared.Source.{Source}
-use Rattle.catalogue.specs.Files.{Line}
-use Rattle.catalogue.specs.Reports.{lent, told_at}
+use Rattle.interpolator.specs.{Explained.explanation, Explained.usize_sum, declared.Source.Source}
+use Rattle.catalogue.specs.{Files.Line, Reports.lent, Reports.told_at}
 use Rattle.words.specs.Words.{is_equals}
 
 -- what the line of a message writes of its format, after the first `=`

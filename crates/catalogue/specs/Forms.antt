@@ -1,17 +1,13 @@
 -- The form of a message, which the rule of a file chooses by numbers and texts. Texts are bytes.
-use Rattle.std.specs.Prelude.{ℕ, List, [], ◌∷◌, ◌++◌, codes}
-use Rattle.std.specs.Prelude.{Option, None, Some, Result, Ok, Err, string_bytes}
+use Rattle.std.specs.Prelude.{ℕ, List, [], ◌∷◌, ◌++◌, codes, Option, None, Some, Result, Ok, Err}
+use Rattle.std.specs.Prelude.{string_bytes}
 use Rattle.std.specs.Option.{option_map, option_or}
-use Rattle.plurals.specs.Readings.{tree_at}
-use Rattle.plurals.specs.Trees.{Tree}
 use Rattle.plurals.specs.Values.{as_form, form_by, missing_in}
-use Rattle.plurals.specs.declared.fault.Fault.{Fault}
+use Rattle.plurals.specs.{Readings.tree_at, Trees.Tree, declared.fault.Fault.Fault}
 use Rattle.catalogue.specs.Rules.{declared_for, numbers_of, rule_in, texts_of}
-use Rattle.words.specs.Declarations.{as_declaration}
-use Rattle.words.specs.declared.Kind.{Kind}
-use Rattle.catalogue.specs.declared.entries.Object.{Object}
-use Rattle.catalogue.specs.declared.forms.Choice.{Choice}
+use Rattle.catalogue.specs.{declared.entries.Object.Object, declared.forms.Choice.Choice}
 use Rattle.catalogue.specs.declared.forms.Sought.{Sought}
+use Rattle.words.specs.{Declarations.as_declaration, declared.Kind.Kind}
 
 -- the first of what some things give
 abbrev pub first_given : {A B : Type 0} → (A → Option B) → List A → Option B

@@ -1,15 +1,9 @@
 -- The keys of the lines of a file. Texts are bytes.
-use Rattle.std.specs.Prelude.{◌≡◌, ◌≢◌, ℕ, ◌==◌, List, [], ◌∷◌, ◌++◌, codes, length}
-use Rattle.std.specs.Prelude.{if◌then◌else◌, Option, None, Some, is_some}
-use Rattle.std.specs.Borrow.{Bor}
-use Rattle.std.specs.Fmt.{decimal}
+use Rattle.std.specs.Prelude.{◌≡◌, ◌≢◌, ℕ, ◌==◌, List, [], ◌∷◌, ◌++◌, codes, length, if◌then◌else◌}
+use Rattle.std.specs.Prelude.{Option, None, Some, is_some}
 use Rattle.std.specs.HashMap.{HashMap, get_by, hash_map_len}
-use Rattle.std.specs.List.{find}
-use Rattle.std.specs.Option.{option_map}
-use Rattle.std.specs.Str.{bytes_eq}
-use Rattle.catalogue.specs.Declarations.{begin_of}
-use Rattle.catalogue.specs.Files.{Line}
-use Rattle.catalogue.specs.Reports.{told_at}
+use Rattle.std.specs.{Borrow.Bor, Fmt.decimal, List.find, Option.option_map, Str.bytes_eq}
+use Rattle.catalogue.specs.{Declarations.begin_of, Files.Line, Reports.told_at}
 
 -- the number of the line that has a key, if one has
 abbrev pub number_of : List (ℕ × List ℕ) → List ℕ → Option ℕ

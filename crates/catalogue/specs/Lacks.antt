@@ -1,21 +1,13 @@
 -- The forms that a key lacks, of those that the rule of its file can choose. Texts are bytes.
 use Rattle.std.specs.Prelude.{◌≡◌, ℕ, Bool, false, not, ◌&&◌, nat_lt, List, [], ◌∷◌, ◌++◌, codes}
-use Rattle.std.specs.Prelude.{filter, map, if◌then◌else◌, Option, None, Some, is_some}
-use Rattle.std.specs.Prelude.{Result, Ok, Err}
-use Rattle.std.specs.Borrow.{Bor}
-use Rattle.std.specs.HashMap.{HashMap, get_by}
-use Rattle.std.specs.List.{concat, list_any}
-use Rattle.std.specs.Path.{rsplit_once}
-use Rattle.std.specs.Str.{bytes_eq}
-use Rattle.plurals.specs.Readings.{tree_at}
-use Rattle.plurals.specs.Trees.{Tree}
-use Rattle.plurals.specs.Values.{forms}
-use Rattle.plurals.specs.declared.fault.Fault.{Fault}
-use Rattle.catalogue.specs.Declarations.{begin_of}
-use Rattle.catalogue.specs.Files.{Line, Page, lines_of}
-use Rattle.catalogue.specs.Forms.{first_given, key_of_form, rule_of}
+use Rattle.std.specs.Prelude.{filter, map, if◌then◌else◌, Option, None, Some, is_some, Result, Ok}
+use Rattle.std.specs.Prelude.{Err}
+use Rattle.std.specs.{Borrow.Bor, HashMap.HashMap, HashMap.get_by, List.concat, List.list_any}
+use Rattle.std.specs.{Path.rsplit_once, Str.bytes_eq}
+use Rattle.plurals.specs.{Readings.tree_at, Trees.Tree, Values.forms, declared.fault.Fault.Fault}
 use Rattle.catalogue.specs.Lines.{has_message, head_of, is_under, key_of}
-use Rattle.catalogue.specs.Reports.{told_at}
+use Rattle.catalogue.specs.{Declarations.begin_of, Files.Line, Files.Page, Files.lines_of}
+use Rattle.catalogue.specs.{Forms.first_given, Forms.key_of_form, Forms.rule_of, Reports.told_at}
 
 -- a text is one of some texts
 abbrev pub is_one_of : List (List ℕ) → List ℕ → Bool

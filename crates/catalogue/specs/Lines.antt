@@ -1,8 +1,7 @@
 -- A line of a file: its key, and what it declares. Texts are bytes.
-use Rattle.std.specs.Prelude.{ℕ, Bool, not, ◌==◌, ◌&&◌, ◌||◌, List, if◌then◌else◌, is_some}
-use Rattle.std.specs.Prelude.{Option, None, Some}
-use Rattle.std.specs.List.{before_first, slice_index}
-use Rattle.std.specs.Str.{bytes_eq}
+use Rattle.std.specs.Prelude.{ℕ, Bool, not, ◌==◌, ◌&&◌, ◌||◌, List, if◌then◌else◌, is_some, Option}
+use Rattle.std.specs.Prelude.{None, Some}
+use Rattle.std.specs.{List.before_first, List.slice_index, Str.bytes_eq}
 use Rattle.catalogue.specs.Declarations.{Declared, declared_in, has, key_in}
 use Rattle.catalogue.specs.Rules.{rule_head, rule_in}
 use Rattle.folds.specs.Lines.{goes_on, is_blank}

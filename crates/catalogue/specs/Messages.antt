@@ -1,33 +1,22 @@
 -- What the program answers: a message, or what is wrong. Texts are bytes.
-use Rattle.std.specs.Prelude.{◌≡◌, ◌⊎◌, ℕ, ◌<◌, List, [], length, map, string_bytes}
-use Rattle.std.specs.Prelude.{Option, None, Some, Result, Ok, Err}
+use Rattle.std.specs.Prelude.{◌≡◌, ◌⊎◌, ℕ, ◌<◌, List, [], length, map, string_bytes, Option, None}
+use Rattle.std.specs.Prelude.{Some, Result, Ok, Err}
 use Rattle.std.specs.List.{All, AllZip}
-use Rattle.std.specs.Str.{chars}
-use Rattle.std.specs.declared.string.String.{String}
-use Rattle.std.specs.declared.vec.Vec.{Vec}
-use Rattle.interpolator.specs.At.{outermost}
-use Rattle.interpolator.specs.Faults.{Fault, fault}
-use Rattle.interpolator.specs.Meaning.Environments.{environment}
-use Rattle.interpolator.specs.Meaning.Meanings.{Meaning, means}
-use Rattle.interpolator.specs.Meaning.Outcomes.{Formats}
-use Rattle.interpolator.specs.Views.{Shown}
-use Rattle.interpolator.specs.declared.Spec.{Spec}
-use Rattle.interpolator.specs.declared.Trait.{Trait}
-use Rattle.interpolator_escapes.specs.Formats.{escaped_shows}
-use Rattle.interpolator_escapes.specs.declared.escape.Escape.{Escape}
-use Rattle.catalogue.specs.Declarations.{Declared, nothing}
+use Rattle.std.specs.{Str.chars, declared.string.String.String, declared.vec.Vec.Vec}
+use Rattle.interpolator.specs.{At.outermost, Faults.Fault, Faults.fault}
+use Rattle.interpolator.specs.{Meaning.Environments.environment, Meaning.Meanings.Meaning}
+use Rattle.interpolator.specs.{Meaning.Meanings.means, Meaning.Outcomes.Formats, Views.Shown}
+use Rattle.interpolator.specs.{declared.Spec.Spec, declared.Trait.Trait}
+use Rattle.interpolator_escapes.specs.{Formats.escaped_shows, declared.escape.Escape.Escape}
 use Rattle.catalogue.specs.Entries.{Held, found_by, held_by}
-use Rattle.catalogue.specs.Examples.{view_shows}
-use Rattle.catalogue.specs.Files.{Line, Page}
 use Rattle.catalogue.specs.Picks.{ArePicked, IsLacking, told_of_lacking}
-use Rattle.catalogue.specs.Sought.{Known, found_among}
-use Rattle.catalogue.specs.Sound.{IsSoundFile}
 use Rattle.catalogue.specs.Told.{told_of_absent, told_of_fault, told_of_files}
-use Rattle.catalogue.specs.Objects.{Gives, IsFirstBad}
-use Rattle.words.specs.declared.Kind.{Kind}
-use Rattle.catalogue.specs.declared.entries.Object.{Object}
-use Rattle.catalogue.specs.declared.messages.Answer.{Answer}
 use Rattle.catalogue.specs.declared.messages.Answer.TheVariants.{Message, Faults, Absent, BadWord}
+use Rattle.catalogue.specs.{Declarations.Declared, Declarations.nothing, Examples.view_shows}
+use Rattle.catalogue.specs.{Files.Line, Files.Page, Sought.Known, Sought.found_among}
+use Rattle.catalogue.specs.{Sound.IsSoundFile, Objects.Gives, Objects.IsFirstBad}
+use Rattle.catalogue.specs.{declared.entries.Object.Object, declared.messages.Answer.Answer}
+use Rattle.words.specs.declared.Kind.{Kind}
 
 -- what values show in a message: escaped, if that is asked for
 abbrev pub escaped_by : {X : Type 0} → Option Escape → (shows : X → Trait → Spec → Shown)

@@ -1,17 +1,13 @@
 -- What the words give: a name with a kind, and what is shown of its value and of its items.
 use Rattle.std.specs.Prelude.{◌≡◌, ℕ, List, [], map, string_bytes}
-use Rattle.std.specs.Float.{binary64}
-use Rattle.std.specs.Str.{chars}
-use Rattle.std.specs.declared.string.String.{String}
+use Rattle.std.specs.{Float.binary64, Str.chars, declared.string.String.String}
 use Rattle.interpolator.specs.Views.{Shown, decimal_number, nothing_implemented, shown_as_value}
 use Rattle.interpolator.specs.Views.{float_number, signed_number, some_text}
 use Rattle.interpolator.specs.declared.Bits.TheVariants.{B128}
-use Rattle.words.specs.Items.{items_of}
 use Rattle.words.specs.Words.{Assignment, text, number, decimal, float, list, IsGood, Means}
-use Rattle.words.specs.declared.Kind.{Kind}
+use Rattle.words.specs.{Items.items_of, declared.Kind.Kind}
 use Rattle.words.specs.declared.Kind.TheVariants as kinds
-use Rattle.catalogue.specs.Firsts.{IsFirstWithout}
-use Rattle.catalogue.specs.declared.entries.Object.{Object}
+use Rattle.catalogue.specs.{Firsts.IsFirstWithout, declared.entries.Object.Object}
 
 -- what texts show
 abbrev pub texts_show : List (List ℕ) → List Shown

@@ -1,18 +1,13 @@
 -- The values that a format gets: for each name that its line declares, that of the last word.
 use Rattle.std.specs.Prelude.{◌≡◌, ℕ, List, ◌++◌, codes, Option, Some, map, reverse}
-use Rattle.std.specs.Fmt.{decimal}
-use Rattle.std.specs.List.{AllZip, find}
-use Rattle.std.specs.Str.{bytes_eq}
-use Rattle.words.specs.Declarations.{as_declaration}
+use Rattle.std.specs.{Fmt.decimal, List.AllZip, List.find, Str.bytes_eq}
+use Rattle.words.specs.{Declarations.as_declaration, declared.Kind.Kind}
 use Rattle.catalogue.specs.Declarations.{Declared, nothing, these, broken}
 use Rattle.catalogue.specs.Entries.{Held, held_by, held_by_entry}
-use Rattle.catalogue.specs.Files.{Line}
-use Rattle.catalogue.specs.Firsts.{IsFirstWithout}
-use Rattle.words.specs.declared.Kind.{Kind}
+use Rattle.catalogue.specs.{Files.Line, Firsts.IsFirstWithout}
 use Rattle.words.specs.declared.Kind.TheVariants as kinds
-use Rattle.catalogue.specs.declared.entries.Object.{Object}
-use Rattle.catalogue.specs.declared.picks.Picked.{Picked}
 use Rattle.catalogue.specs.declared.picks.Picked.TheVariants.{Values, Lacks}
+use Rattle.catalogue.specs.{declared.entries.Object.Object, declared.picks.Picked.Picked}
 
 -- the last object of a name
 abbrev pub last_named : List Object → List ℕ → Option Object

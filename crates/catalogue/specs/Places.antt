@@ -1,13 +1,10 @@
 -- Messages whose values are in places of an escape. Texts are bytes.
 use Rattle.std.specs.Prelude.{◌≡◌, ⊤, ℕ, true, List, Result, Ok, Err}
-use Rattle.std.specs.List.{All}
-use Rattle.std.specs.Str.{chars}
+use Rattle.std.specs.{List.All, Str.chars}
 use Rattle.interpolator.specs.At.{outermost}
-use Rattle.interpolator_escapes.specs.Placing.{StandsFor}
-use Rattle.interpolator_escapes.specs.declared.escape.Escape.{Escape}
+use Rattle.interpolator_escapes.specs.{Placing.StandsFor, declared.escape.Escape.Escape}
 use Rattle.catalogue.specs.Files.{Line, Page, lines_of}
-use Rattle.catalogue.specs.Formats.{format_of}
-use Rattle.catalogue.specs.Lines.{has_message}
+use Rattle.catalogue.specs.{Formats.format_of, Lines.has_message}
 
 -- the values of a format are in places of an escape
 abbrev pub IsPlaced : Escape → List ℕ → Type 0

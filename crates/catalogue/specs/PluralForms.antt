@@ -1,16 +1,10 @@
 -- The header of a PO file, and which form of a message a number chooses. Texts are bytes.
-use Rattle.std.specs.Prelude.{◌≡◌, ◌<◌, ◌≤◌, ℕ, ◌==◌, ◌||◌, List, [], ◌∷◌, if◌then◌else◌}
-use Rattle.std.specs.Prelude.{length, slice_get}
-use Rattle.std.specs.Prelude.{Option, None, Some, Result, Ok, Err}
+use Rattle.std.specs.Prelude.{◌≡◌, ◌<◌, ◌≤◌, ℕ, ◌==◌, ◌||◌, List, [], ◌∷◌, if◌then◌else◌, length}
+use Rattle.std.specs.Prelude.{slice_get, Option, None, Some, Result, Ok, Err}
 use Rattle.std.specs.Option.{unwrap_or}
-use Rattle.plurals.specs.Readings.{tree_at}
-use Rattle.plurals.specs.Trees.{Tree}
-use Rattle.plurals.specs.Values.{value_by}
-use Rattle.plurals.specs.declared.fault.Fault.{Fault}
-use Rattle.po.specs.Entries.{Entry}
-use Rattle.po.specs.declared.token.Placed.{Placed}
-use Rattle.catalogue.specs.Forms.{first_given}
-use Rattle.catalogue.specs.Translations.{is_head, is_translated}
+use Rattle.plurals.specs.{Readings.tree_at, Trees.Tree, Values.value_by, declared.fault.Fault.Fault}
+use Rattle.po.specs.{Entries.Entry, declared.token.Placed.Placed}
+use Rattle.catalogue.specs.{Forms.first_given, Translations.is_head, Translations.is_translated}
 
 -- the first of some texts
 abbrev pub first_of : List (List Placed) → Option (List Placed)

@@ -1,8 +1,6 @@
 -- What is reported of a file, one thing after the other. Texts are bytes.
 use Rattle.std.specs.Prelude.{◌≡◌, ◌⊎◌, ℕ, Bool, true, false, List, [], ◌∷◌, ◌++◌, string_bytes}
-use Rattle.catalogue.specs.Files.{Line}
-use Rattle.catalogue.specs.Reports.{told_at}
-use Rattle.catalogue.specs.declared.files.File.{File}
+use Rattle.catalogue.specs.{Files.Line, Reports.told_at, declared.files.File.File}
 use Rattle.interpolator.specs.Positions.{line_at}
 
 -- something is reported at a byte of a file: with its line's number

@@ -1,12 +1,8 @@
 -- What is reported at a byte of a line. Texts are bytes.
 use Rattle.std.specs.Prelude.{ℕ, Bool, ◌==◌, List, [], ◌++◌, codes}
-use Rattle.std.specs.Borrow.{Bor}
-use Rattle.std.specs.Fmt.{decimal}
-use Rattle.std.specs.List.{after_first}
-use Rattle.interpolator.specs.Faults.{fault, fmt}
-use Rattle.interpolator.specs.Explained.{explanation_of}
-use Rattle.interpolator.specs.Positions.{column_at}
-use Rattle.interpolator.specs.declared.Source.{Source}
+use Rattle.std.specs.{Borrow.Bor, Fmt.decimal, List.after_first}
+use Rattle.interpolator.specs.{Faults.fault, Faults.fmt, Explained.explanation_of}
+use Rattle.interpolator.specs.{Positions.column_at, declared.Source.Source}
 use Rattle.catalogue.specs.Files.{Line}
 
 -- the end of a line

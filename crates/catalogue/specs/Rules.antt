@@ -1,20 +1,14 @@
 -- The rule of a file, which chooses the form of a message by numbers and texts. Texts are bytes.
-use Rattle.std.specs.Prelude.{ℕ, ℤ, pos, ◌+◌, ◌^◌, int_lt, unsigned_abs, List, codes}
-use Rattle.std.specs.Prelude.{drop, take, if◌then◌else◌, Option, None, Some, Result, Ok, Err}
-use Rattle.std.specs.Borrow.{Bor}
-use Rattle.std.specs.Option.{option_map}
-use Rattle.std.specs.Str.{bytes_eq}
-use Rattle.interpolator.specs.Explained.{usize_sum}
-use Rattle.interpolator.specs.declared.View.{View}
+use Rattle.std.specs.Prelude.{ℕ, ℤ, pos, ◌+◌, ◌^◌, int_lt, unsigned_abs, List, codes, drop, take}
+use Rattle.std.specs.Prelude.{if◌then◌else◌, Option, None, Some, Result, Ok, Err}
+use Rattle.std.specs.{Borrow.Bor, Option.option_map, Str.bytes_eq}
 use Rattle.interpolator.specs.declared.View.TheVariants.{Signed, Text}
-use Rattle.plurals.specs.Readings.{tree_at}
-use Rattle.plurals.specs.Trees.{Tree}
+use Rattle.interpolator.specs.{Explained.usize_sum, declared.View.View}
 use Rattle.plurals.specs.Values.{Lack, has_forms, no_number, no_text}
-use Rattle.plurals.specs.declared.fault.Fault.{Fault}
+use Rattle.plurals.specs.{Readings.tree_at, Trees.Tree, declared.fault.Fault.Fault}
 use Rattle.plurals.specs.declared.fault.Problem.{Problem}
 use Rattle.plurals.specs.declared.fault.Problem.TheVariants as problems
-use Rattle.catalogue.specs.Declarations.{begin_of}
-use Rattle.catalogue.specs.Picks.{last_named}
+use Rattle.catalogue.specs.{Declarations.begin_of, Picks.last_named}
 use Rattle.words.specs.declared.Kind.{Kind}
 use Rattle.words.specs.declared.Kind.TheVariants as kinds
 use Rattle.catalogue.specs.declared.entries.Object.{Object}

@@ -1,18 +1,12 @@
 -- The line that is looked up, by its key or by the form that the rule of a file chooses.
-use Rattle.std.specs.Prelude.{ℕ, Bool, List, if◌then◌else◌, Option, None, Some}
-use Rattle.std.specs.Prelude.{Result, Ok, Err}
-use Rattle.std.specs.List.{list_any}
-use Rattle.std.specs.Option.{option_map}
-use Rattle.std.specs.Str.{bytes_eq}
-use Rattle.catalogue.specs.Declarations.{Declared, declared_by}
+use Rattle.std.specs.Prelude.{ℕ, Bool, List, if◌then◌else◌, Option, None, Some, Result, Ok, Err}
+use Rattle.std.specs.{List.list_any, Option.option_map, Str.bytes_eq}
 use Rattle.catalogue.specs.Files.{Line, Page, as_line, lines_of}
-use Rattle.catalogue.specs.Formats.{format_of}
 use Rattle.catalogue.specs.Forms.{Chosen, choice_with, first_given, key_by, rule_of}
 use Rattle.catalogue.specs.Lines.{declared_of, has_message, is_under, key_of}
-use Rattle.catalogue.specs.declared.checks.Found.{Found}
-use Rattle.words.specs.Declarations.{as_declaration}
-use Rattle.words.specs.declared.Kind.{Kind}
-use Rattle.catalogue.specs.declared.entries.Object.{Object}
+use Rattle.catalogue.specs.{Declarations.Declared, Declarations.declared_by, Formats.format_of}
+use Rattle.catalogue.specs.{declared.checks.Found.Found, declared.entries.Object.Object}
+use Rattle.words.specs.{Declarations.as_declaration, declared.Kind.Kind}
 
 -- one of some lines has a message under a key
 abbrev pub has_key : List ℕ → List (List ℕ) → Bool

@@ -1,14 +1,12 @@
 -- Lines and files in which nothing is wrong.
-use Rattle.std.specs.Prelude.{◌≡◌, ◌⊎◌, ⊤, ℕ, Bool, true, false, List, [], ◌∷◌, None, Some}
-use Rattle.std.specs.Prelude.{Result, Ok, Err}
+use Rattle.std.specs.Prelude.{◌≡◌, ◌⊎◌, ⊤, ℕ, Bool, true, false, List, [], ◌∷◌, None, Some, Result}
+use Rattle.std.specs.Prelude.{Ok, Err}
 use Rattle.catalogue.specs.Declarations.{Declared, nothing, these, broken}
-use Rattle.catalogue.specs.Examples.{faults_of}
 use Rattle.catalogue.specs.Files.{Line, Page, lines_of}
-use Rattle.catalogue.specs.Formats.{format_of}
-use Rattle.catalogue.specs.Keys.{IsNew, with_key}
 use Rattle.catalogue.specs.Lines.{declared_of, is_passed_over, key_of, key_with, opens}
+use Rattle.catalogue.specs.{Examples.faults_of, Formats.format_of, Keys.IsNew, Keys.with_key}
+use Rattle.catalogue.specs.{Rules.rule_in, Rules.wrong_in}
 use Rattle.folds.specs.Lines.{goes_on}
-use Rattle.catalogue.specs.Rules.{rule_in, wrong_in}
 use Rattle.words.specs.Words.{HasEquals}
 
 -- a format has no fault: by itself, if nothing is declared, or with examples of what is declared

@@ -5,17 +5,14 @@ use Rattle.std.specs.List.{concat}
 use Rattle.interpolator.specs.Faults.{Answer as Reply, answer_place, fault}
 use Rattle.interpolator.specs.FaultTexts.{answer_text}
 use Rattle.catalogue.specs.Declarations.{Declared, nothing, these, broken, begin_of, has}
-use Rattle.catalogue.specs.Examples.{faults_of}
 use Rattle.catalogue.specs.Files.{Line, Page, lines_of}
 use Rattle.catalogue.specs.Formats.{format_of, told_in, told_of_place}
 use Rattle.catalogue.specs.Forms.{choice_with, or_form, rule_of}
-use Rattle.catalogue.specs.Keys.{told_of_key, with_key}
 use Rattle.catalogue.specs.Lines.{declared_of, head_of, is_passed_over, key_of, key_with, opens}
-use Rattle.catalogue.specs.Reports.{told_at}
+use Rattle.catalogue.specs.{Examples.faults_of, Keys.told_of_key, Keys.with_key, Reports.told_at}
+use Rattle.catalogue.specs.{Rules.rule_in, Rules.wrong_in, declared.entries.Object.Object}
 use Rattle.folds.specs.Lines.{goes_on}
-use Rattle.catalogue.specs.Rules.{rule_in, wrong_in}
 use Rattle.words.specs.Words.{is_equals}
-use Rattle.catalogue.specs.declared.entries.Object.{Object}
 
 -- what is reported of a fault of a line's format: the fault as shown in the line that writes it
 abbrev pub told_of_fault : Line → (format : List ℕ) → Reply → List ℕ

@@ -1,29 +1,20 @@
 -- What is reported of the formats of a PO file's messages and translations. Texts are bytes, and
 -- names of arguments are characters.
-use Rattle.std.specs.Prelude.{◌≡◌, ◌⊎◌, ⊤, ℕ, Bool, true, false, not, ◌&&◌, ◌||◌, ◌==◌}
-use Rattle.std.specs.Prelude.{List, [], ◌∷◌, ◌++◌, codes, encode_utf8_all, if◌then◌else◌, length}
-use Rattle.std.specs.Prelude.{map, Option, None, Some}
-use Rattle.std.specs.Fmt.{decimal}
-use Rattle.std.specs.List.{list_all, list_any}
-use Rattle.std.specs.Str.{bytes_eq, chars}
-use Rattle.interpolator.specs.At.{outermost}
-use Rattle.interpolator.specs.Faults.{Answer, fault}
-use Rattle.interpolator.specs.FaultTexts.{answer_text}
+use Rattle.std.specs.Prelude.{◌≡◌, ◌⊎◌, ⊤, ℕ, Bool, true, false, not, ◌&&◌, ◌||◌, ◌==◌, List, []}
+use Rattle.std.specs.Prelude.{◌∷◌, ◌++◌, codes, encode_utf8_all, if◌then◌else◌, length, map, Option}
+use Rattle.std.specs.Prelude.{None, Some}
+use Rattle.std.specs.{Fmt.decimal, List.list_all, List.list_any, Str.bytes_eq, Str.chars}
+use Rattle.interpolator.specs.{At.outermost, Faults.Answer, Faults.fault, FaultTexts.answer_text}
 use Rattle.interpolator.specs.Template.AllArguments.{arguments_of}
 use Rattle.interpolator.specs.declared.Trait.TheVariants.{Display}
-use Rattle.interpolator_escapes.specs.Placing.{FailsFor, StandsFor}
-use Rattle.interpolator_escapes.specs.PlaceTexts.{why_text}
-use Rattle.interpolator_escapes.specs.declared.escape.Escape.{Escape}
-use Rattle.interpolator_escapes.specs.declared.misplaced.Misplaced.{Misplaced}
+use Rattle.interpolator_escapes.specs.declared.{escape.Escape.Escape, misplaced.Misplaced.Misplaced}
+use Rattle.interpolator_escapes.specs.{Placing.FailsFor, Placing.StandsFor, PlaceTexts.why_text}
 use Rattle.interpolator_syntax.specs.Arguments.{Argument}
 use Rattle.interpolator_syntax.specs.SpecTexts.{Kind, of_list, of_value}
-use Rattle.po.specs.Entries.{Entry}
 use Rattle.po.specs.Sections.{text_of, token_text}
-use Rattle.po.specs.declared.token.Placed.{Placed}
-use Rattle.catalogue.specs.Declarations.{nothing}
-use Rattle.catalogue.specs.Examples.{faults_of}
+use Rattle.po.specs.{Entries.Entry, declared.token.Placed.Placed}
 use Rattle.catalogue.specs.Reported.{Each, IsToldAt, Nothing, Then, Unless, When}
-use Rattle.catalogue.specs.declared.files.File.{File}
+use Rattle.catalogue.specs.{Declarations.nothing, Examples.faults_of, declared.files.File.File}
 
 -- the arguments of the format that strings make
 abbrev pub arguments_in : List Placed → List Argument

@@ -1,22 +1,16 @@
 -- The words that no message uses and no rule asks for. Texts are bytes.
 use Rattle.std.specs.Prelude.{ℕ, Bool, false, not, ◌||◌, List, [], ◌∷◌, ◌++◌, codes, filter, map}
 use Rattle.std.specs.Prelude.{if◌then◌else◌, Option, None, Some, Result, Ok, Err}
-use Rattle.std.specs.List.{before_first, concat, list_any}
-use Rattle.std.specs.Str.{bytes_eq, chars}
-use Rattle.interpolator.specs.At.{outermost}
-use Rattle.interpolator.specs.Meaning.AskedNames.{asked_names}
-use Rattle.plurals.specs.Readings.{tree_at}
+use Rattle.std.specs.{List.before_first, List.concat, List.list_any, Str.bytes_eq, Str.chars}
+use Rattle.interpolator.specs.{At.outermost, Meaning.AskedNames.asked_names}
 use Rattle.plurals.specs.Trees.{Tree, alike, chosen, counted, grouped, joined, named, negated}
 use Rattle.plurals.specs.Trees.{reduced, unlike}
-use Rattle.plurals.specs.declared.fault.Fault.{Fault}
+use Rattle.plurals.specs.{Readings.tree_at, declared.fault.Fault.Fault}
 use Rattle.catalogue.specs.Declarations.{Declared, broken, has, is_among, nothing, these}
 use Rattle.catalogue.specs.Files.{Line, Page, lines_of}
-use Rattle.catalogue.specs.Formats.{format_of}
-use Rattle.catalogue.specs.Lacks.{each_once, with_text}
-use Rattle.catalogue.specs.Lines.{declared_of, has_message}
-use Rattle.catalogue.specs.Rules.{rule_in}
-use Rattle.words.specs.Declarations.{declaration_of}
-use Rattle.words.specs.Words.{is_equals}
+use Rattle.catalogue.specs.{Formats.format_of, Lacks.each_once, Lacks.with_text, Lines.declared_of}
+use Rattle.catalogue.specs.{Lines.has_message, Rules.rule_in}
+use Rattle.words.specs.{Declarations.declaration_of, Words.is_equals}
 
 -- the name of a word: what is before its first `=`, without the sign of its kind
 abbrev pub name_of : List ℕ → Option (List ℕ)

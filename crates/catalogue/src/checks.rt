@@ -1,20 +1,17 @@
 //! The lines of files, which are all checked, and the one under a key.
 
-ghost use Rattle.std.specs.Prelude.{◌≡◌, ◌++◌, ℕ, List, [], IfOk, IfErr, None, Some, false};
-ghost use Rattle.std.specs.Prelude.{length, map, string_bytes};
-ghost use Rattle.std.specs.List.{All};
-ghost use Rattle.std.specs.Option.{option_map};
+ghost use Rattle.std.specs.Prelude.{◌≡◌, ◌++◌, ℕ, List, [], IfOk, IfErr, None, Some, false, length};
+ghost use Rattle.std.specs.Prelude.{map, string_bytes};
+ghost use Rattle.std.specs.{List.All, Option.option_map};
 ghost use Rattle.interpolator.specs.Faults.{answer_of, no_memory};
 ghost use Rattle.catalogue.specs.Declarations.{declared_by, declared_in, key_in};
 ghost use Rattle.catalogue.specs.Files.{as_line, as_page, page_of};
-ghost use Rattle.catalogue.specs.Formats.{format_of};
 ghost use Rattle.catalogue.specs.Forms.{as_sought, first_given};
 ghost use Rattle.catalogue.specs.Keys.{Remembers, told_of_key};
-ghost use Rattle.catalogue.specs.Lines.{key_with};
 ghost use Rattle.catalogue.specs.Sought.{as_found, found_among, found_by, found_in, line_for};
-ghost use Rattle.catalogue.specs.Sound.{IsSoundFile};
 ghost use Rattle.catalogue.specs.Told.{told_of_file, told_of_files, told_of_line, told_of_lines};
 ghost use Rattle.catalogue.specs.Told.{told_of_message, told_of_more};
+ghost use Rattle.catalogue.specs.{Formats.format_of, Lines.key_with, Sound.IsSoundFile};
 
 use crate::declarations::{Heading, begin_of, heading_of};
 use crate::entries::Object;

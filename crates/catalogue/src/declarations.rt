@@ -1,15 +1,11 @@
 //! What the head of a line declares: the names that its format is given, each with a kind.
 
 ghost use Rattle.std.specs.Prelude.{◌≡◌, ◌++◌, ◌==◌, ◌<◌, IfOk, OnOk, map};
-ghost use Rattle.std.specs.Option.{option_map};
-ghost use Rattle.std.specs.List.{slice_split};
-ghost use Rattle.std.specs.Str.{trim};
-ghost use Rattle.catalogue.specs.Declarations.{as_list, if_whole};
-ghost use Rattle.catalogue.specs.Declarations.{part_of, begin_of, after_part, broken_at};
-ghost use Rattle.catalogue.specs.Declarations.{declared_by, declared_between, declared_after};
-ghost use Rattle.catalogue.specs.Declarations.{declared_in, is_among, key_in};
-ghost use Rattle.words.specs.Declarations.{as_declaration};
-ghost use Rattle.words.specs.Items.{texts_of};
+ghost use Rattle.std.specs.{Option.option_map, List.slice_split, Str.trim};
+ghost use Rattle.catalogue.specs.Declarations.{as_list, if_whole, part_of, begin_of, after_part};
+ghost use Rattle.catalogue.specs.Declarations.{broken_at, declared_by, declared_between};
+ghost use Rattle.catalogue.specs.Declarations.{declared_after, declared_in, is_among, key_in};
+ghost use Rattle.words.specs.{Declarations.as_declaration, Items.texts_of};
 
 use plurals::is_name;
 use std::alloc::{AllocError, Global};

@@ -1,8 +1,7 @@
 //! Values under names, and as pairs of a context.
 
 ghost use Rattle.std.specs.Prelude.{◌≡◌, IfOk, IfErr, map};
-ghost use Rattle.interpolator.specs.Faults.{answer_of, no_memory};
-ghost use Rattle.interpolator.specs.Slots.{slots_of};
+ghost use Rattle.interpolator.specs.{Faults.answer_of, Faults.no_memory, Slots.slots_of};
 ghost use Rattle.catalogue.specs.Entries.{entry_slots, held_by, held_by_entry, held_by_pair};
 ghost use Rattle.catalogue.specs.Entries.{item_slots};
 

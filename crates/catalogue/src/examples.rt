@@ -1,15 +1,12 @@
 //! The faults that a format has by itself, and with an example of what is declared.
 
 ghost use Rattle.std.specs.Prelude.{◌≡◌, IfOk, IfErr, map};
-ghost use Rattle.std.specs.List.{filter};
-ghost use Rattle.std.specs.Str.{chars};
-ghost use Rattle.interpolator.specs.At.{outermost};
+ghost use Rattle.std.specs.{List.filter, Str.chars};
 ghost use Rattle.interpolator.specs.Faults.{answer_of, fault, no_memory};
-ghost use Rattle.interpolator.specs.Template.NodeChecks.{text_faults};
-ghost use Rattle.catalogue.specs.Declarations.{declared_by};
-ghost use Rattle.words.specs.Declarations.{as_declaration};
-ghost use Rattle.catalogue.specs.Entries.{held_by};
+ghost use Rattle.interpolator.specs.{At.outermost, Template.NodeChecks.text_faults};
 ghost use Rattle.catalogue.specs.Examples.{example_faults, example_of, faults_of, is_own_reply};
+ghost use Rattle.catalogue.specs.{Declarations.declared_by, Entries.held_by};
+ghost use Rattle.words.specs.Declarations.{as_declaration};
 
 use crate::declarations::Heading;
 use crate::entries::{Object, entries_of, pairs_of};

@@ -3,8 +3,7 @@
 ghost use Rattle.std.specs.Prelude.{◌≡◌, IfOk, map};
 ghost use Rattle.std.specs.Str.Lines.{lines};
 ghost use Rattle.catalogue.specs.Files.{as_line, as_page, lines_of, numbered, page_of};
-ghost use Rattle.words.specs.Items.{texts_of};
-ghost use Rattle.words.specs.Programs.{without_mark};
+ghost use Rattle.words.specs.{Items.texts_of, Programs.without_mark};
 
 use std::alloc::{AllocError, Global};
 use words::program::without_mark;

@@ -2,12 +2,11 @@
 
 ghost use Rattle.std.specs.Prelude.{◌≡◌, IfOk, string_bytes};
 ghost use Rattle.std.specs.Option.{option_map};
-ghost use Rattle.words.specs.Items.{texts_of};
+ghost use Rattle.words.specs.{Items.texts_of, Declarations.as_declaration};
 ghost use Rattle.catalogue.specs.Forms.{as_choice, as_sought, choice_of, choice_with, key_by};
 ghost use Rattle.catalogue.specs.Forms.{key_of_form, or_form, rule_of};
 ghost use Rattle.catalogue.specs.Rules.{declared_for};
 ghost use Rattle.plurals.specs.Values.{as_form, as_lack};
-ghost use Rattle.words.specs.Declarations.{as_declaration};
 
 use crate::entries::Object;
 use crate::rules::{Named, declared_for, rule_in};

@@ -4,9 +4,8 @@ ghost use Rattle.std.specs.Prelude.{◌≡◌, ◌==◌, ℕ, List, [], IfErr, I
 ghost use Rattle.std.specs.Prelude.{string_bytes};
 ghost use Rattle.std.specs.Option.{option_map};
 ghost use Rattle.interpolator.specs.Faults.{answer_of, no_memory};
-ghost use Rattle.catalogue.specs.Files.{as_line};
-ghost use Rattle.catalogue.specs.Keys.{Remembers, number_of, told_again, told_of_key};
-ghost use Rattle.catalogue.specs.Keys.{what_is_again, with_key};
+ghost use Rattle.catalogue.specs.{Files.as_line, Keys.Remembers, Keys.number_of, Keys.told_again};
+ghost use Rattle.catalogue.specs.{Keys.told_of_key, Keys.what_is_again, Keys.with_key};
 
 use crate::declarations::begin_of;
 use crate::files::Line;

@@ -1,12 +1,9 @@
 //! Keys that lack a form which the rule of their file can choose.
 
 ghost use Rattle.std.specs.Prelude.{◌≡◌, List, IfErr, IfOk, OnOk, map, string_bytes};
-ghost use Rattle.std.specs.List.{concat};
-ghost use Rattle.std.specs.Option.{option_map};
-ghost use Rattle.std.specs.Path.{rsplit_once};
+ghost use Rattle.std.specs.{List.concat, Option.option_map, Path.rsplit_once};
 ghost use Rattle.interpolator.specs.Faults.{answer_of, no_memory};
-ghost use Rattle.plurals.specs.Trees.{tree_of};
-ghost use Rattle.plurals.specs.Values.{forms};
+ghost use Rattle.plurals.specs.{Trees.tree_of, Values.forms};
 ghost use Rattle.words.specs.Items.{texts_of};
 ghost use Rattle.catalogue.specs.Files.{Line as PlainLine, as_line, page_of};
 ghost use Rattle.catalogue.specs.Forms.{key_of_form};

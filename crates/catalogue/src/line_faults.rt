@@ -2,11 +2,9 @@
 
 ghost use Rattle.std.specs.Prelude.{◌≡◌, ℕ, List, IfOk, IfErr, map, string_bytes};
 ghost use Rattle.interpolator.specs.Faults.{answer_of, no_memory};
-ghost use Rattle.catalogue.specs.Declarations.{declared_by};
-ghost use Rattle.catalogue.specs.Files.{as_line};
-ghost use Rattle.catalogue.specs.Keys.{Remembers};
 ghost use Rattle.catalogue.specs.Told.{told_of_fault, told_of_faults, told_of_message};
 ghost use Rattle.catalogue.specs.Told.{told_of_rule};
+ghost use Rattle.catalogue.specs.{Declarations.declared_by, Files.as_line, Keys.Remembers};
 
 use crate::declarations::Heading;
 use crate::examples::faults_of;

@@ -1,14 +1,12 @@
 //! The lines of a file, and the key that is looked up in them.
 
 ghost use Rattle.std.specs.Prelude.{◌≡◌, IfOk, IfSome, MatchOption, is_some};
-ghost use Rattle.std.specs.Option.{option_map};
-ghost use Rattle.std.specs.Str.{bytes_eq};
-ghost use Rattle.words.specs.Items.{texts_of};
+ghost use Rattle.std.specs.{Option.option_map, Str.bytes_eq};
+ghost use Rattle.words.specs.{Items.texts_of, Words.HasEquals};
 ghost use Rattle.catalogue.specs.Forms.{as_choice, as_sought};
 ghost use Rattle.catalogue.specs.Lines.{has_message, head_of, is_comment, is_passed_over, is_under};
 ghost use Rattle.catalogue.specs.Lines.{opens};
 ghost use Rattle.catalogue.specs.Sought.{choice_for, has_key, sought};
-ghost use Rattle.words.specs.Words.{HasEquals};
 
 use crate::declarations::key_in;
 use crate::entries::Object;

@@ -1,24 +1,16 @@
 //! The message under a key of files that are sound.
 
 ghost use Rattle.std.specs.Prelude.{◌≡◌, IfOk, IfErr, None, map, string_bytes};
-ghost use Rattle.std.specs.List.{All};
-ghost use Rattle.std.specs.Option.{option_map};
-ghost use Rattle.std.specs.Str.{chars};
-ghost use Rattle.interpolator.specs.At.{outermost};
-ghost use Rattle.interpolator.specs.Contexts.{found_by_pairs};
-ghost use Rattle.interpolator.specs.Faults.{answer_of, no_memory};
-ghost use Rattle.interpolator.specs.Meaning.Environments.{environment};
-ghost use Rattle.interpolator.specs.Meaning.Meanings.{means};
-ghost use Rattle.interpolator.specs.Meaning.Outcomes.{Formats};
+ghost use Rattle.std.specs.{List.All, Option.option_map, Str.chars};
+ghost use Rattle.interpolator.specs.{At.outermost, Contexts.found_by_pairs, Faults.answer_of};
+ghost use Rattle.interpolator.specs.{Faults.no_memory, Meaning.Environments.environment};
+ghost use Rattle.interpolator.specs.{Meaning.Meanings.means, Meaning.Outcomes.Formats};
 ghost use Rattle.interpolator_escapes.specs.Formats.{escaped_shows};
-ghost use Rattle.catalogue.specs.Declarations.{declared_by};
-ghost use Rattle.catalogue.specs.Entries.{held_by_entry};
-ghost use Rattle.catalogue.specs.Examples.{view_shows};
 ghost use Rattle.catalogue.specs.Files.{as_line, as_page, page_of};
 ghost use Rattle.catalogue.specs.Messages.{Answers, IsMadeOrTold, Replies, escaped_by, given};
-ghost use Rattle.catalogue.specs.Sound.{IsSoundOver};
 ghost use Rattle.catalogue.specs.Told.{told_absent, told_of_absent};
-ghost use Rattle.catalogue.specs.Objects.{IsGiven};
+ghost use Rattle.catalogue.specs.{Declarations.declared_by, Entries.held_by_entry};
+ghost use Rattle.catalogue.specs.{Examples.view_shows, Sound.IsSoundOver, Objects.IsGiven};
 ghost use Rattle.words.specs.Declarations.{as_declaration};
 
 use crate::checks::{Found, Verdict, checked};

@@ -5,8 +5,7 @@ ghost use Rattle.std.specs.Prelude.{string_bytes};
 ghost use Rattle.std.specs.List.{AllZip};
 ghost use Rattle.interpolator.specs.Faults.{answer_of, no_memory};
 ghost use Rattle.interpolator.specs.Views.{nothing_implemented, shown_as_value};
-ghost use Rattle.words.specs.Items.{items_of, texts_of};
-ghost use Rattle.words.specs.Words.{IsGood};
+ghost use Rattle.words.specs.{Items.items_of, Items.texts_of, Words.IsGood};
 ghost use Rattle.words.specs.declared.Kind.TheVariants as kinds;
 ghost use Rattle.catalogue.specs.Objects.{Gives, IsFirstBad, shown_of, texts_show};
 

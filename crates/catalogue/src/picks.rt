@@ -1,14 +1,12 @@
 //! The values that a format gets: for each name that its line declares, that of the last word.
 
-ghost use Rattle.std.specs.Prelude.{◌≡◌, ◌↔◌, IfOk, IfErr, IsTrue, MatchOption, map};
-ghost use Rattle.std.specs.Prelude.{string_bytes};
+ghost use Rattle.std.specs.Prelude.{◌≡◌, ◌↔◌, IfOk, IfErr, IsTrue, MatchOption, map, string_bytes};
 ghost use Rattle.std.specs.Option.{option_copied};
 ghost use Rattle.interpolator.specs.Faults.{answer_of, no_memory};
-ghost use Rattle.catalogue.specs.Declarations.{declared_by, these};
+ghost use Rattle.catalogue.specs.Picks.{HasPick, IsPicked, IsPickedOrLacks, last_named, shape_of};
+ghost use Rattle.catalogue.specs.Picks.{told_of_lacking};
+ghost use Rattle.catalogue.specs.{Declarations.declared_by, Declarations.these, Files.as_line};
 ghost use Rattle.words.specs.Declarations.{as_declaration};
-ghost use Rattle.catalogue.specs.Files.{as_line};
-ghost use Rattle.catalogue.specs.Picks.{HasPick, IsPicked, IsPickedOrLacks, last_named};
-ghost use Rattle.catalogue.specs.Picks.{shape_of, told_of_lacking};
 
 use crate::declarations::Heading;
 use crate::entries::{Entry, Object, entries_of, entry_of};

@@ -1,10 +1,8 @@
 //! What is reported at a byte of a PO file.
 
 ghost use Rattle.std.specs.Prelude.{◌≡◌, IfErr, IfOk, string_bytes};
-ghost use Rattle.interpolator.specs.Faults.{answer_of, no_memory};
-ghost use Rattle.interpolator.specs.Positions.{line_at};
-ghost use Rattle.catalogue.specs.Reported.{IsToldAt};
-ghost use Rattle.catalogue.specs.Translations.{TellsFault};
+ghost use Rattle.interpolator.specs.{Faults.answer_of, Faults.no_memory, Positions.line_at};
+ghost use Rattle.catalogue.specs.{Reported.IsToldAt, Translations.TellsFault};
 
 use crate::files::{File, Line};
 use crate::reports::told_at;

@@ -1,16 +1,15 @@
 //! What is wrong with the messages of a PO file, as `msgfmt -c` tells it of `%s`.
 
-ghost use Rattle.std.specs.Prelude.{◌≡◌, ◌==◌, IfErr, IfOk, is_some, length, map};
-ghost use Rattle.std.specs.Prelude.{string_bytes};
+ghost use Rattle.std.specs.Prelude.{◌≡◌, ◌==◌, IfErr, IfOk, is_some, length, map, string_bytes};
 ghost use Rattle.interpolator.specs.Faults.{answer_of, no_memory};
 ghost use Rattle.interpolator_syntax.specs.Arguments.{argument_of};
 ghost use Rattle.po.specs.Entries.{as_entry, lists_of};
 ghost use Rattle.po.specs.Sections.{text_of, token_text};
 ghost use Rattle.catalogue.specs.Reported.{Each, When};
-ghost use Rattle.catalogue.specs.Translations.{TellsCount, TellsTwice, has_other_count};
-ghost use Rattle.catalogue.specs.Translations.{TellsFault, TellsFormat, TellsFormats, TellsPlaces};
-ghost use Rattle.catalogue.specs.Translations.{TellsSingle, TellsText, TellsTexts, is_empty};
-ghost use Rattle.catalogue.specs.Translations.{arguments_in, is_head, is_translated};
+ghost use Rattle.catalogue.specs.Translations.{TellsCount, TellsTwice, has_other_count, TellsFault};
+ghost use Rattle.catalogue.specs.Translations.{TellsFormat, TellsFormats, TellsPlaces, TellsSingle};
+ghost use Rattle.catalogue.specs.Translations.{TellsText, TellsTexts, is_empty, arguments_in};
+ghost use Rattle.catalogue.specs.Translations.{is_head, is_translated};
 
 use crate::arguments::{told_of_lacking, told_of_others};
 use crate::declarations::Heading;

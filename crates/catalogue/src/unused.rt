@@ -1,22 +1,17 @@
 //! Words that no message uses.
 
-ghost use Rattle.std.specs.Prelude.{◌≡◌, ◌||◌, IfErr, IfOk, OnOk, filter, map, not};
-ghost use Rattle.std.specs.Prelude.{string_bytes};
-ghost use Rattle.std.specs.List.{concat, list_any};
-ghost use Rattle.std.specs.Option.{option_map};
-ghost use Rattle.std.specs.Str.{bytes_eq, chars};
+ghost use Rattle.std.specs.Prelude.{◌≡◌, ◌||◌, IfErr, IfOk, OnOk, filter, map, not, string_bytes};
+ghost use Rattle.std.specs.{List.concat, List.list_any, Option.option_map, Str.bytes_eq, Str.chars};
 ghost use Rattle.interpolator.specs.Faults.{answer_of, no_memory};
 ghost use Rattle.interpolator_pieces.specs.NodeNames.{name_texts};
 ghost use Rattle.plurals.specs.Trees.{tree_of};
-ghost use Rattle.words.specs.Declarations.{as_declaration};
-ghost use Rattle.words.specs.Items.{texts_of};
+ghost use Rattle.words.specs.{Declarations.as_declaration, Items.texts_of};
 ghost use Rattle.catalogue.specs.Declarations.{declared_by, declared_in, is_among};
 ghost use Rattle.catalogue.specs.Files.{as_line, lines_of, page_of};
-ghost use Rattle.catalogue.specs.Formats.{format_of};
-ghost use Rattle.catalogue.specs.Lacks.{each_once, is_one_of};
 ghost use Rattle.catalogue.specs.Unused.{asks, declares, first_name, format_asks, is_in, is_used};
 ghost use Rattle.catalogue.specs.Unused.{name_of, names_of, rule_asks, told_of_unused, told_unused};
 ghost use Rattle.catalogue.specs.Unused.{uses, with_name};
+ghost use Rattle.catalogue.specs.{Formats.format_of, Lacks.each_once, Lacks.is_one_of};
 
 use crate::declarations::{Heading, heading_of};
 use crate::files::{File, Line, lines_of, page_of};

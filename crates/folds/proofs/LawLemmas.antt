@@ -1,12 +1,8 @@
 -- A text without marks is written as it is.
-use Rattle.std.proofs.Common.{◌≡◌, ap, refl, arith, ℕ, ◌-◌, ◌==◌, true, false, List, [], ◌∷◌}
-use Rattle.std.proofs.Common.{None, Ok, length, map}
-use Rattle.std.proofs.lemmas.Bool.{and_parts}
-use Rattle.std.proofs.lemmas.Bool.Decides.{nat_tests}
-use Rattle.std.proofs.lemmas.Str.{encodes-chars}
-use Rattle.std.specs.Char.{len_utf8}
-use Rattle.std.specs.List.{list_all}
-use Rattle.std.specs.Str.{IsUtf8, chars}
+use Rattle.std.proofs.Common.{◌≡◌, ap, refl, arith, ℕ, ◌-◌, ◌==◌, true, false, List, [], ◌∷◌, None}
+use Rattle.std.proofs.Common.{Ok, length, map}
+use Rattle.std.proofs.lemmas.{Bool.and_parts, Bool.Decides.nat_tests, Str.encodes-chars}
+use Rattle.std.specs.{Char.len_utf8, List.list_all, Str.IsUtf8, Str.chars}
 use Rattle.folds.specs.Spellings.{is_slash, spelled, stands_alone, text_in}
 use Rattle.folds.specs.declared.spelling.After.{After}
 use Rattle.folds.specs.declared.spelling.After.TheVariants.{Start, Text, Slash}

@@ -1,16 +1,13 @@
 -- What is left of a text, character by character.
 use Rattle.std.proofs.Common.{◌≡◌, ◌∙◌, ap, sym, refl, arith, ℕ, ◌+◌, ◌-◌, ◌<◌, ◌≤◌, true, false}
 use Rattle.std.proofs.Common.{List, [], ◌∷◌, ◌++◌, Option, None, Some, Ok, Err, append_assoc}
-use Rattle.std.proofs.Common.{append-nil}
-use Rattle.std.proofs.Common.{drop, get_or, length}
-use Rattle.std.proofs.lemmas.Bool.Decides.{nat_tests}
-use Rattle.std.proofs.lemmas.List.{at_drop_all, at_drop_more}
+use Rattle.std.proofs.Common.{append-nil, drop, get_or, length}
+use Rattle.std.proofs.lemmas.{Bool.Decides.nat_tests, List.at_drop_all, List.at_drop_more}
 use Rattle.std.specs.Str.{chars}
 use Rattle.folds.specs.Spellings.{Spelling, and_meant, begin_of, by_step, byte_after, bytes_of}
 use Rattle.folds.specs.Spellings.{bytes_of_one, is_open, left_at, passed, spelled, spelling, step}
 use Rattle.folds.specs.Spellings.{text_in}
-use Rattle.folds.specs.declared.spelling.After.{After}
-use Rattle.folds.specs.declared.spelling.At.{At}
+use Rattle.folds.specs.{declared.spelling.After.After, declared.spelling.At.At}
 
 -- a character is the next of some
 abbrev pub IsNext : List ℕ → ℕ → ℕ → Type 0

@@ -1,8 +1,7 @@
 -- The lines on which a text stands. Texts are bytes.
-use Rattle.std.specs.Prelude.{ℕ, Bool, not, ◌==◌, ◌&&◌, ◌||◌, ◌+◌, ◌-◌, nat_lt}
-use Rattle.std.specs.Prelude.{List, [], ◌∷◌, ◌++◌, if◌then◌else◌, length}
-use Rattle.std.specs.List.{slice_index}
-use Rattle.std.specs.Str.{trim, trim_start}
+use Rattle.std.specs.Prelude.{ℕ, Bool, not, ◌==◌, ◌&&◌, ◌||◌, ◌+◌, ◌-◌, nat_lt, List, [], ◌∷◌, ◌++◌}
+use Rattle.std.specs.Prelude.{if◌then◌else◌, length}
+use Rattle.std.specs.{List.slice_index, Str.trim, Str.trim_start}
 use Rattle.folds.specs.declared.lines.Spot.{Spot as LentSpot}
 
 -- a line has only white space

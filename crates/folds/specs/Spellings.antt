@@ -1,15 +1,11 @@
 -- What is written for the characters of a text.
-use Rattle.std.specs.Prelude.{◌≡◌, ⊤, ℕ, Bool, true, false, not, ◌==◌, ◌||◌, ◌-◌, nat_lt}
-use Rattle.std.specs.Prelude.{List, [], ◌∷◌, if◌then◌else◌, length, map, encode_utf8, string_bytes}
-use Rattle.std.specs.Prelude.{Option, None, Some, Result, Ok, Err}
-use Rattle.std.specs.Char.{len_utf8}
-use Rattle.std.specs.Str.{chars, encode_utf8_all}
-use Rattle.std.specs.declared.string.String.{String}
-use Rattle.folds.specs.declared.spelling.After.{After}
+use Rattle.std.specs.Prelude.{◌≡◌, ⊤, ℕ, Bool, true, false, not, ◌==◌, ◌||◌, ◌-◌, nat_lt, List, []}
+use Rattle.std.specs.Prelude.{◌∷◌, if◌then◌else◌, length, map, encode_utf8, string_bytes, Option}
+use Rattle.std.specs.Prelude.{None, Some, Result, Ok, Err}
+use Rattle.std.specs.{Char.len_utf8, Str.chars, Str.encode_utf8_all, declared.string.String.String}
 use Rattle.folds.specs.declared.spelling.After.TheVariants.{Start, Text, Slash}
-use Rattle.folds.specs.declared.spelling.At.{At}
-use Rattle.folds.specs.declared.spelling.ReadError.{ReadError}
 use Rattle.folds.specs.declared.spelling.ReadError.TheVariants.{Broken, NoMemory}
+use Rattle.folds.specs.declared.{spelling.After.After, spelling.At.At, spelling.ReadError.ReadError}
 
 -- what a text ends with after a character, and the character that this means, if it means one
 abbrev pub Step : Type 0

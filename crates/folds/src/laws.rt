@@ -1,8 +1,7 @@
 //! Laws of what is written for a text.
 
 ghost use Rattle.std.specs.Prelude.{◌≡◌, ℕ, List, Ok, true};
-ghost use Rattle.std.specs.List.{list_all};
-ghost use Rattle.std.specs.Str.{IsUtf8, chars};
+ghost use Rattle.std.specs.{List.list_all, Str.IsUtf8, Str.chars};
 ghost use Rattle.folds.specs.Spellings.{stands_alone, text_in};
 
 /// A text without backslashes and line ends is written as it is.

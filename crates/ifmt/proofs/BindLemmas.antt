@@ -1,28 +1,19 @@
 -- What the words bind, one after the other.
-use Rattle.std.proofs.Common.{◌≡◌, ◌∙◌, refl, ap, subst, ℕ, ◌+◌, ◌<◌, List, [], ◌∷◌, ◌++◌, take, length}
-use Rattle.std.proofs.Common.{get_or, map, string_bytes, Option, None, Some}
-use Rattle.std.proofs.Math.Path.{fun_ext}
-use Rattle.std.specs.List.{AllZip, FoldsTo}
-use Rattle.std.specs.Option.{option_map, unwrap_or, MatchOption}
-use Rattle.std.specs.declared.string.String.{String}
-use Rattle.std.proofs.lemmas.List.{take_more}
+use Rattle.std.proofs.Common.{◌≡◌, ◌∙◌, refl, ap, subst, ℕ, ◌+◌, ◌<◌, List, [], ◌∷◌, ◌++◌, take}
+use Rattle.std.proofs.Common.{length, get_or, map, string_bytes, Option, None, Some}
 use Rattle.std.proofs.lemmas.List.Elements.{All-head, All-tail}
-use Rattle.std.proofs.lemmas.Slice.Zip.{all_zipped_more}
-use Rattle.interpolator.specs.declared.View.{View}
-use Rattle.interpolator.specs.declared.Formattable.{Formattable}
-use Rattle.interpolator.specs.declared.NameMap.{NameMap}
+use Rattle.std.proofs.{Math.Path.fun_ext, lemmas.List.take_more, lemmas.Slice.Zip.all_zipped_more}
+use Rattle.std.specs.Option.{option_map, unwrap_or, MatchOption}
+use Rattle.std.specs.{List.AllZip, List.FoldsTo, declared.string.String.String}
 use Rattle.interpolator.specs.NameMaps.{under, stored_slots, HasPut, IsEntry}
-use Rattle.interpolator.specs.Slots.{Slots, slots_of, empty_slots}
-use Rattle.interpolator.specs.Views.{shown_as_value}
-use Rattle.words.specs.declared.Word.{Word}
+use Rattle.interpolator.specs.declared.{View.View, Formattable.Formattable, NameMap.NameMap}
+use Rattle.interpolator.specs.{Slots.Slots, Slots.slots_of, Slots.empty_slots, Views.shown_as_value}
 use Rattle.words.specs.declared.Word.TheVariants.{Text, Number, Decimal as DecimalWord}
-use Rattle.words.specs.declared.Word.TheVariants.{Float as FloatWord}
-use Rattle.words.specs.declared.Word.TheVariants.{List as ListWord, Bad}
-use Rattle.ifmt.specs.declared.binding.Object.{Object}
-use Rattle.ifmt.specs.declared.binding.Entry.{Entry}
-use Rattle.words.specs.Words.{IsGood, Classifies}
-use Rattle.ifmt.specs.Binding.{Binds, Changes, Fills, HasObject, Lends}
-use Rattle.ifmt.specs.Binding.{items_show, item_slots, object_shows}
+use Rattle.words.specs.declared.Word.TheVariants.{Float as FloatWord, List as ListWord, Bad}
+use Rattle.words.specs.{declared.Word.Word, Words.IsGood, Words.Classifies}
+use Rattle.ifmt.specs.Binding.{Binds, Changes, Fills, HasObject, Lends, items_show, item_slots}
+use Rattle.ifmt.specs.Binding.{object_shows}
+use Rattle.ifmt.specs.{declared.binding.Object.Object, declared.binding.Entry.Entry}
 use Rattle.ifmt.specs.Command.{AllGood}
 
 module _ {X : Type 0} (IsDefault : Formattable X → Type 0)

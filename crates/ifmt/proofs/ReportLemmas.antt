@@ -1,13 +1,11 @@
 -- What a format gave, reported, is what a run has to do.
 use Rattle.std.proofs.Common.{◌≡◌, ℕ, List, Option, None, Some, option_map, Result, Ok, Err}
-use Rattle.std.proofs.Common.{MatchResult, string_bytes, encode_utf8_all, inl, inr, refl}
-use Rattle.std.proofs.Common.{sym, ap, ◌∙◌}
-use Rattle.std.specs.declared.string.String.{String}
+use Rattle.std.proofs.Common.{MatchResult, string_bytes, encode_utf8_all, inl, inr, refl, sym, ap}
+use Rattle.std.proofs.Common.{◌∙◌}
 use Rattle.std.proofs.lemmas.Str.{encodes-chars, IsUtf8-string_bytes}
-use Rattle.interpolator.specs.declared.Error.{Error}
-use Rattle.interpolator.specs.At.{text_of}
+use Rattle.std.specs.declared.string.String.{String}
 use Rattle.interpolator.specs.Faults.{Answer, Fault, fault, answer_of}
-use Rattle.interpolator.specs.Meaning.Meanings.{Meaning}
+use Rattle.interpolator.specs.{declared.Error.Error, At.text_of, Meaning.Meanings.Meaning}
 use Rattle.interpolator.specs.Meaning.Outcomes.{Formats}
 use Rattle.ifmt.specs.Run.{Prints, Tells, Runs, printed, told, wanted_memory}
 

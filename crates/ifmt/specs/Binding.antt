@@ -1,25 +1,17 @@
 -- What the words of a command line put under their names, one after the other.
 use Rattle.std.specs.Prelude.{◌≡◌, ◌≢◌, ℕ, List, [], map, Option, None, Some, string_bytes}
-use Rattle.std.specs.Option.{unwrap_or}
-use Rattle.std.specs.Float.{binary64}
-use Rattle.std.specs.List.{FoldsTo}
-use Rattle.std.specs.Str.{chars}
+use Rattle.std.specs.{Option.unwrap_or, Float.binary64, List.FoldsTo, Str.chars}
 use Rattle.std.specs.declared.string.String.{String}
-use Rattle.interpolator.specs.declared.View.{View}
-use Rattle.interpolator.specs.declared.Bits.TheVariants.{B128}
 use Rattle.interpolator.specs.Slots.{Slots, slots_of, empty_slots, with_debug_display, with_integer}
 use Rattle.interpolator.specs.Slots.{with_float, with_iter}
 use Rattle.interpolator.specs.Views.{Shown, shown_as_value, some_text, signed_number}
 use Rattle.interpolator.specs.Views.{decimal_number, float_number, nothing_implemented}
-use Rattle.words.specs.declared.Word.{Word}
+use Rattle.interpolator.specs.{declared.View.View, declared.Bits.TheVariants.B128}
 use Rattle.words.specs.declared.Word.TheVariants.{Text, Number, Decimal as DecimalWord}
-use Rattle.words.specs.declared.Word.TheVariants.{Float as FloatWord}
-use Rattle.words.specs.declared.Word.TheVariants.{List as ListWord, Bad}
-use Rattle.ifmt.specs.declared.binding.Object.{Object}
-use Rattle.ifmt.specs.declared.binding.Entry.{Entry}
-use Rattle.words.specs.Items.{items_of}
-use Rattle.words.specs.Words.{Assignment, text, number, decimal, float, list, Means}
-use Rattle.words.specs.Words.{Classifies}
+use Rattle.words.specs.declared.Word.TheVariants.{Float as FloatWord, List as ListWord, Bad}
+use Rattle.words.specs.Words.{Assignment, text, number, decimal, float, list, Means, Classifies}
+use Rattle.words.specs.{declared.Word.Word, Items.items_of}
+use Rattle.ifmt.specs.{declared.binding.Object.Object, declared.binding.Entry.Entry}
 
 -- the name of an assignment, by its characters
 abbrev pub assigned_name : Assignment → List ℕ

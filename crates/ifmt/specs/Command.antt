@@ -1,14 +1,8 @@
 -- What the program does with a command line.
 use Rattle.std.specs.Prelude.{◌≡◌, ◌⊎◌, ℕ, List, [], ◌∷◌, All, Option, string_bytes}
-use Rattle.std.specs.Str.{chars}
-use Rattle.std.specs.Io.KnownBytes.{Keeps}
-use Rattle.std.specs.declared.string.String.{String}
-use Rattle.interpolator.specs.declared.View.{View}
-use Rattle.interpolator.specs.At.{outermost}
-use Rattle.interpolator.specs.Meaning.Environments.{environment}
-use Rattle.interpolator.specs.Faults.{no_memory}
-use Rattle.interpolator.specs.Meaning.Meanings.{means}
-use Rattle.interpolator.specs.Slots.{Slots}
+use Rattle.std.specs.{Str.chars, Io.KnownBytes.Keeps, declared.string.String.String}
+use Rattle.interpolator.specs.{declared.View.View, At.outermost, Meaning.Environments.environment}
+use Rattle.interpolator.specs.{Faults.no_memory, Meaning.Meanings.means, Slots.Slots}
 use Rattle.interpolator.specs.Views.{shown_as_value}
 use Rattle.words.specs.Words.{IsGood}
 use Rattle.ifmt.specs.Binding.{AreBound}

@@ -2,10 +2,8 @@
 use Rattle.std.specs.Prelude.{◌≡◌, ℕ, List, [], ◌∷◌, ◌++◌, codes, encode_utf8_all, Option, None}
 use Rattle.std.specs.Prelude.{Some, ◌⊎◌}
 use Rattle.std.specs.Io.KnownBytes.{Appends, Keeps}
-use Rattle.interpolator.specs.At.{text_of}
 use Rattle.interpolator.specs.Faults.{Answer, Fault, fault, no_memory}
-use Rattle.interpolator.specs.FaultTexts.{answer_text}
-use Rattle.interpolator.specs.Meaning.Meanings.{Meaning}
+use Rattle.interpolator.specs.{At.text_of, FaultTexts.answer_text, Meaning.Meanings.Meaning}
 
 -- a text and a newline
 abbrev pub line : List ℕ → List ℕ

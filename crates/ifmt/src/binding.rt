@@ -2,13 +2,11 @@
 
 ghost use Rattle.std.specs.Prelude.{◌≡◌, IfErr, IfOk, OnOk, List, map, string_bytes};
 ghost use Rattle.std.specs.List.{AllZip};
-ghost use Rattle.interpolator.specs.Views.{shown_as_value};
-ghost use Rattle.interpolator.specs.Slots.{slots_of};
-ghost use Rattle.interpolator.specs.NameMaps.{stored_slots};
+ghost use Rattle.interpolator.specs.{Views.shown_as_value, Slots.slots_of, NameMaps.stored_slots};
 ghost use Rattle.interpolator.specs.declared.Error.TheVariants.{NoMemory};
 ghost use Rattle.words.specs.Items.{texts_of};
-ghost use Rattle.ifmt.specs.Binding.{Fills, HasObject, Lends, item_slots, items_show};
-ghost use Rattle.ifmt.specs.Binding.{object_shows, texts_show};
+ghost use Rattle.ifmt.specs.Binding.{Fills, HasObject, Lends, item_slots, items_show, object_shows};
+ghost use Rattle.ifmt.specs.Binding.{texts_show};
 
 use interpolator::{Bits, ContextMap, Error, Formattable, View};
 use std::alloc::Global;

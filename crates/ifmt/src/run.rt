@@ -1,13 +1,9 @@
 //! Runs a format, and writes the lines of the program.
 
 ghost use Rattle.std.specs.Prelude.{◌≡◌, MatchResult, OnOk, string_bytes};
-ghost use Rattle.std.specs.Str.{chars};
-ghost use Rattle.std.specs.Io.KnownBytes.{Appends};
-ghost use Rattle.interpolator.specs.At.{outermost};
-ghost use Rattle.interpolator.specs.Meaning.Environments.{environment};
-ghost use Rattle.interpolator.specs.Faults.{answer_of};
-ghost use Rattle.interpolator.specs.FaultTexts.{error_text};
-ghost use Rattle.interpolator.specs.Meaning.Meanings.{means};
+ghost use Rattle.std.specs.{Str.chars, Io.KnownBytes.Appends};
+ghost use Rattle.interpolator.specs.Meaning.{Environments.environment, Meanings.means};
+ghost use Rattle.interpolator.specs.{At.outermost, Faults.answer_of, FaultTexts.error_text};
 ghost use Rattle.ifmt.specs.Run.{Prints, Puts, Runs, Tells, complaint, line, usage_line};
 
 use interpolator::{Context, Error};

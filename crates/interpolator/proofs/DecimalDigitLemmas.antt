@@ -1,13 +1,11 @@
 -- Digits, one after another: what their number is, and when it is in range.
 use Rattle.std.proofs.Common.{◌≡◌, ◌≢◌, ℕ, ◌+◌, ◌*◌, ◌^◌, ◌<◌, ◌≤◌, Bool, true, List, [], ◌∷◌, ◌++◌}
 use Rattle.std.proofs.Common.{length, get_or, drop, Option, refl, arith}
-use Rattle.std.specs.Bool.{Decides}
-use Rattle.std.specs.Char.{digit_value, is_ascii_digit}
-use Rattle.std.specs.List.{list_all}
-use Rattle.std.specs.Option.{SomeIff}
-use Rattle.std.specs.Str.Parse.{IsNumeral, digits_value, digits_value_after}
 use Rattle.std.proofs.lemmas.List.{drop_more, drop_all}
 use Rattle.std.proofs.lemmas.Str.Parse.{IsNumeralModel, numerals_by_value}
+use Rattle.std.specs.Char.{digit_value, is_ascii_digit}
+use Rattle.std.specs.Str.Parse.{IsNumeral, digits_value, digits_value_after}
+use Rattle.std.specs.{Bool.Decides, List.list_all, Option.SomeIff}
 
 -- ---- which bytes are digits
 

@@ -1,19 +1,16 @@
 -- The text of a decimal, read back.
-use Rattle.std.proofs.Common.{◌≡◌, ℕ, false, true, List, ◌++◌, refl, sym, subst, ap, ◌∙◌}
-use Rattle.std.proofs.Common.{arith, append-nil, inl, inr, None, Bool, ℤ, pos, negsuc}
+use Rattle.std.proofs.Common.{◌≡◌, ℕ, false, true, List, ◌++◌, refl, sym, subst, ap, ◌∙◌, arith}
+use Rattle.std.proofs.Common.{append-nil, inl, inr, None, Bool, ℤ, pos, negsuc}
 use Rattle.std.proofs.lemmas.Int.{ints}
-use Rattle.interpolator_render.specs.declared.view.Alignment.{Alignment}
 use Rattle.interpolator_render.specs.declared.view.Alignment.TheVariants.{Center, Left, Right}
 use Rattle.interpolator_render.specs.declared.view.Alignment.TheVariants.{Unset}
-use Rattle.interpolator_render.specs.declared.view.Sign.{Sign}
+use Rattle.interpolator_render.specs.{declared.view.Alignment.Alignment, declared.view.Sign.Sign}
 use Rattle.interpolator_render.specs.declared.view.Sign.TheVariants as signs
-use Rattle.interpolator_render.specs.declared.view.Spec.{Spec}
-use Rattle.interpolator_render.specs.declared.view.Trait.TheVariants.{Display}
-use Rattle.interpolator_digits.specs.Decimals.{decimal_text}
 use Rattle.interpolator_render.specs.Numbers.{distance_from_zero, is_negative, sign_text}
-use Rattle.interpolator_render.specs.Padding.{fill_before, padded_number}
-use Rattle.interpolator_render.specs.Texts.{has_text, view_text}
-use Rattle.interpolator_render.specs.Views.{decimal_number}
+use Rattle.interpolator_render.specs.declared.{view.Spec.Spec, view.Trait.TheVariants.Display}
+use Rattle.interpolator_render.specs.{Padding.fill_before, Padding.padded_number, Texts.has_text}
+use Rattle.interpolator_render.specs.{Texts.view_text, Views.decimal_number}
+use Rattle.interpolator_digits.specs.Decimals.{decimal_text}
 use Rattle.interpolator_render.proofs.DecimalLawLemmas.{plain_spelled}
 use Rattle.interpolator.specs.DecimalTexts.{HasSign, SpellsDecimal, signed}
 

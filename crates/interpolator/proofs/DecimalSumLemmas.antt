@@ -1,17 +1,14 @@
 -- Products with a unit, and where sums leave the range.
-use Rattle.std.proofs.Common.{◌≡◌, ◌≢◌, ◌+◌, ◌-◌, ◌*◌, ◌^◌, ◌<◌, ◌≤◌, ◌∙◌, ℕ, zero, suc}
-use Rattle.std.proofs.Common.{◌⊎◌, inl, inr, refl, sym, ap, subst, arith, pow-add}
-use Rattle.std.proofs.Common.{ℤ, pos, negsuc, ◌+ℤ◌, ◌-ℤ◌, ◌*ℤ◌, ◌≤ℤ◌, ◌<ℤ◌, neg_ℤ}
+use Rattle.std.proofs.Common.{◌≡◌, ◌≢◌, ◌+◌, ◌-◌, ◌*◌, ◌^◌, ◌<◌, ◌≤◌, ◌∙◌, ℕ, zero, suc, ◌⊎◌, inl}
+use Rattle.std.proofs.Common.{inr, refl, sym, ap, subst, arith, pow-add, ℤ, pos, negsuc, ◌+ℤ◌, ◌-ℤ◌}
+use Rattle.std.proofs.Common.{◌*ℤ◌, ◌≤ℤ◌, ◌<ℤ◌, neg_ℤ}
 use Rattle.std.proofs.Math.IntN.{suc_ℤ, suc_ℤ-*ℤ, zero-*ℤ}
 use Rattle.std.proofs.Math.Nat.{le-mul_of_pos_right, mod-lt, mul_assoc, mul-le-mul_left}
-use Rattle.std.proofs.lemmas.Nat.{div-add-mod'}
-use Rattle.std.proofs.lemmas.Bool.{cases_lt}
-use Rattle.std.proofs.lemmas.Int.{ints, by_lt_z}
+use Rattle.std.proofs.lemmas.{Nat.div-add-mod', Bool.cases_lt, Int.ints, Int.by_lt_z}
 use Rattle.std.specs.Int.{int_div_euclid, int_rem_euclid, int_pow, w128}
 use Rattle.std.specs.Prelude.{◌↔◌, FitsSigned, MatchOption, Option, None, Some, SomeIff}
 use Rattle.interpolator.specs.DecimalSums.{HaveSameValue, IsRescaled}
-use Rattle.interpolator.specs.DecimalTexts.{decimal_of}
-use Rattle.interpolator.specs.declared.decimal.Decimal.{Decimal}
+use Rattle.interpolator.specs.{DecimalTexts.decimal_of, declared.decimal.Decimal.Decimal}
 
 -- ---- products
 

@@ -2,19 +2,17 @@
 use Rattle.std.proofs.Common.{◌≡◌, ◌≢◌, ◌↔◌, ℕ, ℤ, ◌<◌, Bool, false, List, [], ◌∷◌, ◌++◌, length}
 use Rattle.std.proofs.Common.{get_or, Option, None, Some, Result, Ok, Bor, MatchOption, IfErr}
 use Rattle.std.proofs.Common.{arith, append-nil, lit<, if◌then◌else◌}
-use Rattle.std.specs.Bool.{Decides, then_some}
-use Rattle.std.specs.Char.{digit_value}
-use Rattle.std.specs.Int.{IsInRange as IsBetween}
-use Rattle.std.specs.Option.{SomeIff, ok_or}
-use Rattle.std.specs.Str.Parse.{AllDigits, IsNumeral, digits_value}
 use Rattle.std.proofs.lemmas.Str.Parse.{digit_from_value, digit_at}
 use Rattle.std.proofs.lemmas.Str.Pattern.{IsSplitOnceResult, split_after, split_parts}
+use Rattle.std.specs.Str.Parse.{AllDigits, IsNumeral, digits_value}
+use Rattle.std.specs.{Bool.Decides, Bool.then_some, Char.digit_value, Int.IsInRange as IsBetween}
+use Rattle.std.specs.{Option.SomeIff, Option.ok_or}
 use Rattle.interpolator_syntax.specs.declared.error.NumberError.{NumberError}
 use Rattle.interpolator_syntax.specs.declared.error.NumberError.TheVariants.{NegOverflow}
 use Rattle.interpolator_syntax.specs.declared.error.NumberError.TheVariants.{PosOverflow}
 use Rattle.interpolator_digits.specs.Decimals.{after_point}
-use Rattle.interpolator.specs.DecimalTexts.{AreParts, Explains, HasSign, IsInRange}
-use Rattle.interpolator.specs.DecimalTexts.{IsTooLong, Spells, SpellsDecimal, decimal_of, signed}
+use Rattle.interpolator.specs.DecimalTexts.{AreParts, Explains, HasSign, IsInRange, IsTooLong}
+use Rattle.interpolator.specs.DecimalTexts.{Spells, SpellsDecimal, decimal_of, signed}
 use Rattle.interpolator.specs.declared.decimal.Decimal.{Decimal}
 
 -- ---- the point

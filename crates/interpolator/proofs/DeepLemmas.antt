@@ -1,26 +1,22 @@
 -- A text with deeply nested groups is long: a group in another has fewer signs than the outer one.
 use Rattle.std.proofs.Common.{◌≡◌, ◌≢◌, refl, ap, arith, ℕ, zero, suc, ◌+◌, ◌*◌, ◌<◌, ◌≤◌, List}
 use Rattle.std.proofs.Common.{◌∷◌, ◌++◌, length, append_assoc, Option, Some, None, Result, ◌-◌}
+use Rattle.std.proofs.{lemmas.Bool.cases_lt, lemmas.List.length-append}
 use native.Mathlib.Numerals.{unary_clauses}
-use Rattle.std.proofs.lemmas.Bool.{cases_lt}
-use Rattle.std.proofs.lemmas.List.{length-append}
 use Rattle.std.specs.Prelude.{max}
-use Rattle.interpolator_syntax.specs.At.{At}
-use Rattle.interpolator_syntax.specs.Arguments.{Argument, argument_at}
-use Rattle.interpolator_syntax.specs.Classes.{hash}
-use Rattle.interpolator_syntax.specs.Faults.{Fault}
-use Rattle.interpolator_syntax.specs.Groups.{Group, inside}
 use Rattle.interpolator_syntax.specs.GroupGrammar.{sign_text, open_text, close_text, IsGroup}
 use Rattle.interpolator_syntax.specs.Pieces.{argument_from, argument_or_broken, argument_step}
 use Rattle.interpolator_syntax.specs.Tokens.{Token, first_token, past_token}
+use Rattle.interpolator_syntax.specs.Nodes.{as_forest, piece_node, token_node, nodes}
+use Rattle.interpolator_syntax.specs.{At.At, Arguments.Argument, Arguments.argument_at}
+use Rattle.interpolator_syntax.specs.{Classes.hash, Faults.Fault, Groups.Group, Groups.inside}
 use Rattle.interpolator_syntax.proofs.GrammarGroupLemmas.{sign_length}
 use Rattle.interpolator_syntax.proofs.GuardLemmas.{GroupAfter, KindAfter, argument_after}
 use Rattle.interpolator_syntax.proofs.LocalityLemmas.{Takes, takes_then}
-use Rattle.interpolator_pieces.specs.NodeExtents.{node_depth, forest_depth}
-use Rattle.interpolator_syntax.specs.Nodes.{as_forest, piece_node, token_node, nodes}
 use Rattle.interpolator_syntax.proofs.TokenLemmas.{token_shorter, scan_shorter}
 use Rattle.interpolator_syntax.proofs.NodeLemmas.{by_length, nodes_first, nodes_none}
 use Rattle.interpolator_syntax.proofs.TokenTextLemmas.{takes_token, scan_taken}
+use Rattle.interpolator_pieces.specs.NodeExtents.{node_depth, forest_depth}
 
 -- ---- what closes a group
 

@@ -1,24 +1,19 @@
 -- Doubled braces: how they are appended, and what a text with doubled braces means.
-use Rattle.std.proofs.lemmas.Grind.{common_steps}
 use Rattle.std.proofs.Common.{◌≡◌, ℕ, zero, suc, ◌≤◌, true, List, [], ◌∷◌, ◌++◌, map, length, arith}
 use Rattle.std.proofs.Common.{refl, ap, ◌∙◌, sym, Option, Some, append_assoc, append-nil}
+use Rattle.std.proofs.{lemmas.Grind.common_steps, lemmas.Str.chars-nil, lemmas.Bool.eqb-true}
 use Rattle.std.specs.Str.{chars}
-use Rattle.std.proofs.lemmas.Str.{chars-nil}
-use Rattle.std.proofs.lemmas.Bool.{eqb-true}
-use Rattle.interpolator_render.specs.declared.view.Trait.{Trait}
-use Rattle.interpolator_render.specs.declared.view.Spec.{Spec}
+use Rattle.interpolator_render.specs.{declared.view.Trait.Trait, declared.view.Spec.Spec}
 use Rattle.interpolator_render.specs.Views.{Shown}
-use Rattle.interpolator_syntax.specs.At.{At, outermost}
 use Rattle.interpolator_syntax.specs.Classes.{front_of, after_of, in_class, is_brace}
 use Rattle.interpolator_syntax.specs.Pieces.{PieceKind, Piece, piece_from, past, pieces}
-use Rattle.interpolator_eval.specs.Meaning.Environments.{Environment}
-use Rattle.interpolator_eval.specs.Meaning.Meanings.{means}
+use Rattle.interpolator_syntax.specs.{At.At, At.outermost, declared.class.Class.TheVariants.Literal}
+use Rattle.interpolator_eval.specs.{Meaning.Environments.Environment, Meaning.Meanings.means}
 use Rattle.interpolator.specs.Escaping.{braces_doubled, plain_character, ArePlain, SaysAlone}
-use Rattle.interpolator_syntax.specs.declared.class.Class.TheVariants.{Literal}
 use Rattle.interpolator_syntax.proofs.PieceLemmas.{piece_within, pieces_none, pieces_next}
 use Rattle.interpolator_syntax.proofs.PieceLemmas.{literal_step}
-use Rattle.interpolator_eval.proofs.MeaningLemmas.MeaningLemmas.{means_none, means_next}
 use Rattle.interpolator_syntax.proofs.CaseLemmas.{head_same, tail_same, some_same}
+use Rattle.interpolator_eval.proofs.MeaningLemmas.MeaningLemmas.{means_none, means_next}
 
 -- ---- appended
 

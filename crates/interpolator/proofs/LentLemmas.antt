@@ -1,10 +1,8 @@
 -- What is under a name after the last value written to an entry is back in the map.
 use Rattle.std.proofs.Common.{◌≡◌, ◌≢◌, ◌∙◌, ap, arith, ℕ, Bool, List, Option, Some}
-use Rattle.std.specs.Prelude.{MatchOption, unwrap_or, if◌then◌else◌}
-use Rattle.std.specs.Bool.{Decides}
-use Rattle.std.specs.Option.{option_map}
-use Rattle.std.specs.Str.{bytes_eq}
 use Rattle.std.proofs.lemmas.Slice.Eq.{bytes_eq-Decides}
+use Rattle.std.specs.Prelude.{MatchOption, unwrap_or, if◌then◌else◌}
+use Rattle.std.specs.{Bool.Decides, Option.option_map, Str.bytes_eq}
 use Rattle.interpolator_eval.specs.NameMaps.{HasPut, IsEntry, stored_slots, under}
 use Rattle.interpolator_eval.specs.Slots.{Slots, slots_of, empty_slots}
 use Rattle.interpolator_eval.specs.declared.slots.Formattable.{Formattable}

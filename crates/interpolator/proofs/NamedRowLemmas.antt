@@ -1,14 +1,9 @@
 -- Named values in the order of a format's names are a row of them.
 use Rattle.std.proofs.Common.{◌≡◌, arith, ℕ, ◌-◌, ◌<◌, Bool, List, [], ◌∷◌, length, reverse, cond}
 use Rattle.std.proofs.Common.{Option, Some, None, IsSome, option_map}
-use Rattle.std.proofs.Math.Path.{fun_ext}
-use Rattle.std.proofs.lemmas.List.{reverse-append}
-use Rattle.std.proofs.lemmas.List.Folds.{find-append}
-use Rattle.std.specs.Borrow.{Bor}
-use Rattle.std.specs.List.{find}
-use Rattle.std.specs.Option.{option_and_then, option_or}
-use Rattle.std.specs.Prelude.{⊤, slice_get}
-use Rattle.std.specs.Str.{bytes_eq}
+use Rattle.std.proofs.{Math.Path.fun_ext, lemmas.List.reverse-append, lemmas.List.Folds.find-append}
+use Rattle.std.specs.{Borrow.Bor, List.find, Option.option_and_then, Option.option_or, Prelude.⊤}
+use Rattle.std.specs.{Prelude.slice_get, Str.bytes_eq}
 use Rattle.interpolator_eval.specs.Contexts.{last_under}
 use Rattle.interpolator_prepared.specs.Rows.{InOrder, last_position, later_or_first, pair_names}
 use Rattle.interpolator.specs.NamedValues.{found_by_values, named_at, pairs_of}

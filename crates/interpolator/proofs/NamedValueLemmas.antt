@@ -1,9 +1,7 @@
 -- The last of some named values stands for what the last of the pairs does that they are.
 use Rattle.std.proofs.Common.{◌≡◌, refl, sym, arith, ℕ, Bool, List, [], ◌∷◌, map, reverse, Option}
 use Rattle.std.proofs.lemmas.List.{map-append, reverse-append}
-use Rattle.std.specs.List.{find}
-use Rattle.std.specs.Option.{option_map}
-use Rattle.std.specs.Str.{bytes_eq}
+use Rattle.std.specs.{List.find, Option.option_map, Str.bytes_eq}
 use Rattle.interpolator_eval.specs.Contexts.{last_under}
 use Rattle.interpolator.specs.NamedValues.{named_slots, pair_of}
 use Rattle.interpolator.specs.declared.values.NamedValue.{NamedValue}

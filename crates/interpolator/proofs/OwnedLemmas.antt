@@ -2,8 +2,7 @@
 use Rattle.std.proofs.Common.{◌≡◌, ◌∙◌, ℕ, List, [], ◌++◌, Option, None, Some, IfSome, ap}
 use Rattle.std.proofs.Common.{string_bytes}
 use Rattle.std.proofs.lemmas.Fmt.{contents_after_writes}
-use Rattle.std.specs.Fmt.{WritesText}
-use Rattle.std.specs.Str.{chars}
+use Rattle.std.specs.{Fmt.WritesText, Str.chars}
 use Rattle.interpolator_render.specs.Views.{some_text}
 use Rattle.interpolator.specs.declared.owned_view.Draft.{Draft}
 

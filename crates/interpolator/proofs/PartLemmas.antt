@@ -2,35 +2,27 @@
 use Rattle.std.proofs.Common.{◌≡◌, ◌≢◌, ℕ, ◌+◌, List, [], ◌∷◌, ◌++◌, length, arith, ◌∙◌, sym}
 use Rattle.std.proofs.Common.{Option, Some, None, append_assoc, append-nil, ◌<◌, drop, get_or}
 use Rattle.std.proofs.lemmas.List.{drop_more}
-use Rattle.std.specs.Borrow.{Bor}
-use Rattle.std.specs.Str.{chars}
-use Rattle.interpolator_render.specs.declared.view.Trait.{Trait}
-use Rattle.interpolator_render.specs.declared.view.Spec.{Spec}
-use Rattle.interpolator_render.specs.Views.{Shown}
-use Rattle.interpolator_syntax.specs.At.{At, size, outermost}
-use Rattle.interpolator_syntax.specs.Pieces.{PieceKind, Piece}
-use Rattle.interpolator_syntax.specs.Nodes.{nodes, piece_node}
+use Rattle.std.specs.{Borrow.Bor, Str.chars}
+use Rattle.interpolator_render.specs.{declared.view.Trait.Trait, declared.view.Spec.Spec}
+use Rattle.interpolator_render.specs.{Views.Shown, Written.Written}
+use Rattle.interpolator_syntax.specs.{At.At, At.size, At.outermost, Pieces.PieceKind, Pieces.Piece}
+use Rattle.interpolator_syntax.specs.{Nodes.nodes, Nodes.piece_node, Faults.Answer}
 use Rattle.interpolator.specs.Seams.{kind_ending, piece_ending, last_ending, ending}
-use Rattle.interpolator_syntax.specs.Faults.{Answer}
-use Rattle.interpolator_eval.specs.Meaning.Environments.{Environment}
-use Rattle.interpolator_eval.specs.Meaning.Meanings.{Meaning, chain, node_means, pieces_mean, means}
 use Rattle.interpolator.specs.Meaning.Parts.{joined_text, texts_of, parts_mean, CleanBehind, Clean}
 use Rattle.interpolator.specs.Meaning.Parts.{FrontsClose}
-use Rattle.interpolator_eval.specs.Meaning.Outcomes.{Outcome}
+use Rattle.interpolator.specs.{declared.parts.Ending.Ending, declared.parts.Ending.TheVariants.Open}
+use Rattle.interpolator_eval.specs.Meaning.Meanings.{Meaning, chain, node_means, pieces_mean, means}
 use Rattle.interpolator_eval.specs.Meaning.Sinks.{Writes, taken_by}
-use Rattle.interpolator.specs.declared.parts.Ending.{Ending}
-use Rattle.interpolator.specs.declared.parts.Ending.TheVariants.{Open}
+use Rattle.interpolator_eval.specs.{Meaning.Environments.Environment, Meaning.Outcomes.Outcome}
 use Rattle.interpolator_eval.specs.declared.evaluate.sink.Sink.{Sink}
 use Rattle.interpolator_syntax.proofs.LocalityLemmas.{stands, size-append}
-use Rattle.interpolator_syntax.proofs.CaseLemmas.{none_some}
-use Rattle.interpolator_syntax.proofs.PieceLemmas.{pieces_none}
+use Rattle.interpolator_syntax.proofs.{CaseLemmas.none_some, PieceLemmas.pieces_none}
 use Rattle.interpolator.proofs.SeamLemmas.{Leaves, pieces_append, both_close}
-use Rattle.interpolator_eval.proofs.MeaningLemmas.MeaningLemmas.{joined_assoc, means_none, joined_none}
-use Rattle.interpolator_eval.proofs.MeaningLemmas.MeaningLemmas.{means_pieces}
+use Rattle.interpolator_eval.proofs.MeaningLemmas.MeaningLemmas.{joined_assoc, means_none}
+use Rattle.interpolator_eval.proofs.MeaningLemmas.MeaningLemmas.{joined_none, means_pieces}
 use Rattle.interpolator_eval.proofs.MeaningLemmas.MeaningLemmas.{nothing_last, pieces_mean_append}
 use Rattle.interpolator_eval.proofs.MeaningLemmas.SinkLemmas.{and_then, fault_first, nothing_done}
 use Rattle.interpolator_eval.proofs.MeaningLemmas.SinkLemmas.{same_end}
-use Rattle.interpolator_render.specs.Written.{Written}
 
 pub zero_and : (n : ℕ) → 0 + n ≡ n
 zero_and n = omega arith

@@ -1,18 +1,17 @@
 -- The characters of a text, read one after the other: where they end, those that begin before a
 -- byte, and the last line.
 use Rattle.std.proofs.Common.{◌≡◌, ◌≢◌, ℕ, ◌<◌, ◌≤◌, ◌+◌, ◌-◌, not, cond, List, [], ◌∷◌, ◌++◌}
-use Rattle.std.proofs.Common.{length, take, drop, refl, sym, ◌∙◌, ap, arith, append-nil, append_assoc}
-use native.Mathlib.Numerals.{unary_clauses}
-use Rattle.std.specs.Prelude.{◌==◌, reverse, encode_utf8}
-use Rattle.std.specs.Char.{len_utf8}
-use Rattle.std.specs.Str.{chars, IsUtf8, IsCharBoundary}
-use Rattle.std.proofs.Math.Seq.{take-add}
+use Rattle.std.proofs.Common.{length, take, drop, refl, sym, ◌∙◌, ap, arith, append-nil}
+use Rattle.std.proofs.Common.{append_assoc}
 use Rattle.std.proofs.lemmas.List.{append_cancel_right, drop-drop, length-reverse, length-take}
 use Rattle.std.proofs.lemmas.List.{nil_from_length, reverse-append, take-append-drop}
-use Rattle.std.proofs.lemmas.List.Sums.{take_while-cons}
-use Rattle.std.proofs.lemmas.Str.{IsCharBoundary-past_char, IsCharBoundary-start, IsUtf8-drop, IsUtf8-take}
-use Rattle.std.proofs.lemmas.Str.{chars-append, chars-nil, chars_past_char, drop_past_char}
-use Rattle.std.proofs.lemmas.Str.{encodes-chars, length-le-encodes}
+use Rattle.std.proofs.lemmas.Str.{IsCharBoundary-past_char, IsCharBoundary-start, IsUtf8-drop}
+use Rattle.std.proofs.lemmas.Str.{IsUtf8-take, chars-append, chars-nil, chars_past_char}
+use Rattle.std.proofs.lemmas.Str.{drop_past_char, encodes-chars, length-le-encodes}
+use Rattle.std.proofs.{Math.Seq.take-add, lemmas.List.Sums.take_while-cons}
+use native.Mathlib.Numerals.{unary_clauses}
+use Rattle.std.specs.Prelude.{◌==◌, reverse, encode_utf8}
+use Rattle.std.specs.{Char.len_utf8, Str.chars, Str.IsUtf8, Str.IsCharBoundary}
 use Rattle.interpolator.specs.Positions.{begun_before, line_end, last_line}
 
 -- `count` characters were read, as far as the byte `end`; the bytes `rest` are still to come

@@ -3,35 +3,30 @@ use Rattle.std.proofs.Common.{◌≡◌, ℕ, ◌+◌, ◌<◌, ◌≤◌, Bool,
 use Rattle.std.proofs.Common.{arith, refl, Option, Some, None, Result, Ok, Err, if◌then◌else◌}
 use Rattle.std.proofs.Common.{chars, IsUtf8}
 use Rattle.std.specs.Prelude.{⊤}
-use Rattle.interpolator_render.specs.declared.view.Spec.{Spec}
-use Rattle.interpolator_render.specs.declared.view.Trait.{Trait}
+use Rattle.interpolator_render.specs.{declared.view.Spec.Spec, declared.view.Trait.Trait}
 use Rattle.interpolator_render.specs.declared.view.Trait.TheVariants.{Display}
-use Rattle.interpolator_syntax.specs.Arguments.{Argument, argument_at}
 use Rattle.interpolator_syntax.specs.At.{At, outermost, size, strip}
-use Rattle.interpolator_syntax.specs.Classes.{close_brace}
-use Rattle.interpolator_syntax.specs.Faults.{Fault}
-use Rattle.interpolator_syntax.specs.Groups.{Group, inside}
 use Rattle.interpolator_syntax.specs.Nodes.{Node, node, Branch, no_branch, branch, Forest, no_nodes}
 use Rattle.interpolator_syntax.specs.Nodes.{nodes_and, as_forest, nodes, text_content}
 use Rattle.interpolator_syntax.specs.Nodes.{argument_content, fault_content, group_branch}
 use Rattle.interpolator_syntax.specs.Nodes.{item_branch, join_branch, piece_node, token_node}
 use Rattle.interpolator_syntax.specs.Nodes.{target_value, target_list}
 use Rattle.interpolator_syntax.specs.Pieces.{argument_from, argument_or_broken, argument_step}
-use Rattle.interpolator_syntax.specs.SpecTexts.{Kind, plain_spec}
 use Rattle.interpolator_syntax.specs.Tokens.{Token, argument, first_token, past_token}
-use Rattle.interpolator_syntax.proofs.CharacterLemmas.{size-chars}
-use Rattle.interpolator_syntax.proofs.LocalityLemmas.{takes_reaches}
+use Rattle.interpolator_syntax.specs.{Arguments.Argument, Arguments.argument_at}
+use Rattle.interpolator_syntax.specs.{Classes.close_brace, Faults.Fault, Groups.Group}
+use Rattle.interpolator_syntax.specs.{Groups.inside, SpecTexts.Kind, SpecTexts.plain_spec}
 use Rattle.interpolator_syntax.proofs.NodeLemmas.{by_length, nodes_first, nodes_none}
 use Rattle.interpolator_syntax.proofs.SizeLemmas.{GroupIfIn, KindIn, argument_in}
 use Rattle.interpolator_syntax.proofs.TokenLemmas.{token_shorter, scan_shorter}
 use Rattle.interpolator_syntax.proofs.TokenTextLemmas.{WrittenSize, takes_token, scan_taken}
-use Rattle.interpolator_escapes.specs.Csv.{ends_field}
+use Rattle.interpolator_syntax.proofs.{CharacterLemmas.size-chars, LocalityLemmas.takes_reaches}
 use Rattle.interpolator_escapes.specs.RecordFormats.{Spot, in_state, field_end, after_literal}
 use Rattle.interpolator_escapes.specs.RecordFormats.{after_value, after_node, after_item}
 use Rattle.interpolator_escapes.specs.RecordFormats.{after_join, after_forest, after_record}
 use Rattle.interpolator_escapes.specs.RecordFormats.{and_then, covers, is_field_place, list_end}
 use Rattle.interpolator_escapes.specs.RecordFormats.{is_quoted_place, record_answer}
-use Rattle.interpolator_escapes.specs.declared.ending.Ending.{Ending}
+use Rattle.interpolator_escapes.specs.{Csv.ends_field, declared.ending.Ending.Ending}
 use Rattle.interpolator_escapes.specs.declared.misplaced.Misplaced.{Misplaced}
 use Rattle.interpolator_escapes.specs.declared.misplaced.PlaceError.{PlaceError}
 use Rattle.interpolator_escapes.specs.declared.misplaced.PlaceError.TheVariants as errors

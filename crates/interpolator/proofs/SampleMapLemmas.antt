@@ -1,16 +1,12 @@
 -- A map of pairs finds what the pairs do.
 use Rattle.std.proofs.Common.{◌≡◌, refl, sym, ap, ℕ, Bool, true, false, cond, List, [], ◌∷◌, ◌++◌}
 use Rattle.std.proofs.Common.{Option, Some, option_map, reverse, length, take, get_or, ◌+◌, ◌<◌}
-use Rattle.std.proofs.Math.Path.{fun_ext}
 use Rattle.std.proofs.lemmas.List.{reverse-append, take_more}
-use Rattle.std.proofs.lemmas.Slice.Eq.{bytes_eq-Decides}
-use Rattle.std.specs.Borrow.{Bor}
-use Rattle.std.specs.HashMap.{HashMap, get_by}
-use Rattle.std.specs.List.{find}
-use Rattle.std.specs.Str.{bytes_eq, encode_utf8_all}
+use Rattle.std.proofs.{Math.Path.fun_ext, lemmas.Slice.Eq.bytes_eq-Decides}
+use Rattle.std.specs.{Borrow.Bor, HashMap.HashMap, HashMap.get_by, List.find, Str.bytes_eq}
+use Rattle.std.specs.Str.{encode_utf8_all}
 use Rattle.interpolator_eval.specs.Contexts.{found_by_pairs, found_by_str, last_under}
-use Rattle.interpolator_eval.specs.Slots.{slots_of}
-use Rattle.interpolator_eval.specs.declared.slots.Formattable.{Formattable}
+use Rattle.interpolator_eval.specs.{Slots.slots_of, declared.slots.Formattable.Formattable}
 use Rattle.interpolator.specs.SampleMaps.{HasLast, HasOneMore}
 
 -- two tests that pass each other's way are the same

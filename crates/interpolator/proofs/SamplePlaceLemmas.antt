@@ -1,18 +1,14 @@
 -- The faults that a text has against a sample lie in it.
-use Rattle.std.proofs.Common.{◌≡◌, ℕ, ◌≤◌, List, [], ◌∷◌, ◌++◌, length}
-use Rattle.std.proofs.Common.{arith, map, Option, Some, None}
+use Rattle.std.proofs.Common.{◌≡◌, ℕ, ◌≤◌, List, [], ◌∷◌, ◌++◌, length, arith, map, Option, Some}
+use Rattle.std.proofs.Common.{None}
 use Rattle.std.proofs.lemmas.List.Elements.{All-cons, All-map, All-nil}
-use Rattle.std.specs.List.{All}
-use Rattle.std.specs.Prelude.{⊤}
-use Rattle.std.specs.Str.{chars, IsUtf8}
-use Rattle.interpolator_render.specs.Views.{Shown}
-use Rattle.interpolator_render.specs.declared.view.Spec.{Spec}
+use Rattle.std.specs.{List.All, Prelude.⊤, Str.chars, Str.IsUtf8}
+use Rattle.interpolator_render.specs.{Views.Shown, declared.view.Spec.Spec}
 use Rattle.interpolator_render.specs.declared.view.Trait.{Trait}
-use Rattle.interpolator_syntax.specs.At.{outermost}
 use Rattle.interpolator_syntax.specs.Faults.{Fault, Answer, fault, fault_place, PlaceWithin}
 use Rattle.interpolator_syntax.specs.Nodes.{Node, node, Branch, no_branch, branch, Forest, no_nodes}
 use Rattle.interpolator_syntax.specs.Nodes.{nodes_and, as_forest, nodes, Content}
-use Rattle.interpolator_syntax.specs.declared.piece_kind.PieceKind.{PieceKind}
+use Rattle.interpolator_syntax.specs.{At.outermost, declared.piece_kind.PieceKind.PieceKind}
 use Rattle.interpolator_eval.specs.Slots.{Slots}
 use Rattle.interpolator_eval.specs.Meaning.Samples.{Sample, sample, bind_each}
 use Rattle.interpolator_pieces.specs.NodeChecks.{fault_list, own_fault, end_fault}

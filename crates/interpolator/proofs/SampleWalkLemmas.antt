@@ -3,19 +3,13 @@ use Rattle.std.proofs.Common.{◌≡◌, ap, arith, ℕ, ◌+◌, ◌*◌, ◌^�
 use Rattle.std.proofs.Common.{Option}
 use Rattle.std.proofs.lemmas.Str.{length-le-encodes, encodes-chars}
 use Rattle.std.specs.Str.{chars, IsUtf8}
-use Rattle.interpolator_render.specs.Views.{Shown}
-use Rattle.interpolator_render.specs.declared.view.Spec.{Spec}
+use Rattle.interpolator_render.specs.{Views.Shown, declared.view.Spec.Spec}
 use Rattle.interpolator_render.specs.declared.view.Trait.{Trait}
-use Rattle.interpolator_syntax.specs.At.{outermost}
-use Rattle.interpolator_syntax.specs.Faults.{Answer}
-use Rattle.interpolator_syntax.specs.Nodes.{as_forest, nodes}
-use Rattle.interpolator_eval.specs.Slots.{Slots}
-use Rattle.interpolator_eval.specs.Meaning.Samples.{Sample, sample}
-use Rattle.interpolator_pieces.specs.NodeExtents.{forest_depth}
-use Rattle.interpolator_pieces.specs.NodeSamples.{forest_faults_in, faults_over}
-use Rattle.interpolator_pieces.specs.Stored.{nodes_of, forest_whole}
-use Rattle.interpolator_pieces.specs.Collecting.{Collects}
-use Rattle.interpolator_pieces.specs.declared.piece.Piece.{Piece}
+use Rattle.interpolator_syntax.specs.{At.outermost, Faults.Answer, Nodes.as_forest, Nodes.nodes}
+use Rattle.interpolator_eval.specs.{Slots.Slots, Meaning.Samples.Sample, Meaning.Samples.sample}
+use Rattle.interpolator_pieces.specs.{NodeExtents.forest_depth, NodeSamples.forest_faults_in}
+use Rattle.interpolator_pieces.specs.{NodeSamples.faults_over, Stored.nodes_of, Stored.forest_whole}
+use Rattle.interpolator_pieces.specs.{Collecting.Collects, declared.piece.Piece.Piece}
 use Rattle.interpolator_pieces.specs.declared.fault_collector.FaultCollector.{FaultCollector}
 use Rattle.interpolator.proofs.DeepLemmas.{deep_is_long}
 use Rattle.interpolator_pieces.proofs.WholeLemmas.{nodes_whole}

@@ -1,25 +1,23 @@
 -- The pieces of a text that another text follows.
-use Rattle.std.proofs.Common.{◌≡◌, ◌≢◌, ℕ, zero, suc, ◌+◌, ◌-◌, ◌≤◌, true, List, []}
-use Rattle.std.proofs.Common.{◌∷◌, ◌++◌, length, take, arith, refl, ◌∙◌, subst, Result, Ok}
-use Rattle.std.proofs.Common.{Err, Option, Some, None, length-append}
+use Rattle.std.proofs.Common.{◌≡◌, ◌≢◌, ℕ, zero, suc, ◌+◌, ◌-◌, ◌≤◌, true, List, [], ◌∷◌, ◌++◌}
+use Rattle.std.proofs.Common.{length, take, arith, refl, ◌∙◌, subst, Result, Ok, Err, Option, Some}
+use Rattle.std.proofs.Common.{None, length-append}
+use Rattle.std.proofs.lemmas.List.{take-append-le}
 use native.Mathlib.Numerals.{unary_clauses}
 use Rattle.std.specs.Char.{len_utf8}
-use Rattle.std.proofs.lemmas.List.{take-append-le}
 use Rattle.interpolator_syntax.specs.At.{At, size, strip, strip_of}
-use Rattle.interpolator_syntax.specs.Classes.{open_brace, close_brace}
-use Rattle.interpolator_syntax.specs.Arguments.{Argument, argument_at}
-use Rattle.interpolator_syntax.specs.Faults.{Fault}
 use Rattle.interpolator_syntax.specs.Pieces.{Piece, Step, argument_step, argument_or_broken}
 use Rattle.interpolator_syntax.specs.Pieces.{argument_from, piece_from, past, pieces}
+use Rattle.interpolator_syntax.specs.{Classes.open_brace, Classes.close_brace, Arguments.Argument}
+use Rattle.interpolator_syntax.specs.{Arguments.argument_at, Faults.Fault}
 use Rattle.interpolator.specs.Seams.{piece_ending, last_ending, ending, may_follow}
 use Rattle.interpolator.specs.declared.parts.Ending.{Ending}
 use Rattle.interpolator.specs.declared.parts.Ending.TheVariants.{Settled, Open}
-use Rattle.interpolator_syntax.proofs.CaseLemmas.{none_some}
 use Rattle.interpolator_syntax.proofs.LocalityLemmas.{stands, with_more}
 use Rattle.interpolator_syntax.proofs.ReaderLemmas.{argument_takes, argument_same}
-use Rattle.interpolator_syntax.proofs.GrammarPieceLemmas.{step_reaches}
 use Rattle.interpolator_syntax.proofs.PieceLemmas.{piece_within, pieces_none, pieces_next}
 use Rattle.interpolator_syntax.proofs.PieceLemmas.{strip_after}
+use Rattle.interpolator_syntax.proofs.{CaseLemmas.none_some, GrammarPieceLemmas.step_reaches}
 
 -- a text that follows one that ends so leaves the pieces of that one as they are
 abbrev pub Leaves : Ending → List ℕ → Type 0

@@ -1,8 +1,7 @@
 -- What the sum and the difference of two decimals are, and which decimals are the same number.
 use Rattle.std.specs.Prelude.{◌≡◌, ◌+ℤ◌, ◌-ℤ◌, ◌*ℤ◌, ◌-◌, ℕ, ℤ, pos, max, FitsSigned}
 use Rattle.std.specs.Int.{int_pow, w128}
-use Rattle.interpolator.specs.DecimalTexts.{decimal_of}
-use Rattle.interpolator.specs.declared.decimal.Decimal.{Decimal}
+use Rattle.interpolator.specs.{DecimalTexts.decimal_of, declared.decimal.Decimal.Decimal}
 
 -- the units of a number, counted at a scale that is not less
 abbrev pub units_at : (scale : ℕ) → Decimal → ℤ

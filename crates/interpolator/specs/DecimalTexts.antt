@@ -1,8 +1,7 @@
 -- Which texts spell a decimal, and why the others spell none.
-use Rattle.std.specs.Prelude.{◌≡◌, ◌≢◌, ◌⊎◌, ℕ, ℤ, pos, neg_ℤ, ◌^◌, ◌<◌, Bool, true, false}
-use Rattle.std.specs.Prelude.{List, [], ◌++◌, length, codes, FitsSigned}
-use Rattle.std.specs.Int.{w128}
-use Rattle.std.specs.Str.Parse.{AllDigits, IsNumeral, digits_value}
+use Rattle.std.specs.Prelude.{◌≡◌, ◌≢◌, ◌⊎◌, ℕ, ℤ, pos, neg_ℤ, ◌^◌, ◌<◌, Bool, true, false, List}
+use Rattle.std.specs.Prelude.{[], ◌++◌, length, codes, FitsSigned}
+use Rattle.std.specs.{Int.w128, Str.Parse.AllDigits, Str.Parse.IsNumeral, Str.Parse.digits_value}
 use Rattle.interpolator_digits.specs.Decimals.{after_point}
 use Rattle.interpolator_syntax.specs.declared.error.NumberError.{NumberError}
 use Rattle.interpolator_syntax.specs.declared.error.NumberError.TheVariants.{Empty, InvalidDigit}

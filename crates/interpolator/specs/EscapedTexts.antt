@@ -1,19 +1,14 @@
 -- What a call owes that makes the text of a format whose values are escaped.
 use Rattle.std.specs.Prelude.{◌≡◌, ◌⊎◌, ◌<◌, ℕ, List, length, Option, Result, Ok, Err}
-use Rattle.std.specs.Str.{chars}
-use Rattle.std.specs.declared.string.String.{String}
-use Rattle.interpolator_render.specs.Views.{Shown}
-use Rattle.interpolator_render.specs.declared.view.Spec.{Spec}
+use Rattle.std.specs.{Str.chars, declared.string.String.String}
+use Rattle.interpolator_render.specs.{Views.Shown, declared.view.Spec.Spec}
 use Rattle.interpolator_render.specs.declared.view.Trait.{Trait}
-use Rattle.interpolator_syntax.specs.At.{outermost}
 use Rattle.interpolator_syntax.specs.Faults.{answer_of, no_memory}
-use Rattle.interpolator_syntax.specs.FaultTexts.{error_text}
+use Rattle.interpolator_syntax.specs.{At.outermost, FaultTexts.error_text}
 use Rattle.interpolator_syntax.specs.declared.error.Error.TheVariants.{NoMemory}
 use Rattle.interpolator_eval.specs.Slots.{Slots}
-use Rattle.interpolator_escapes.specs.Formats.{escaped_shows}
-use Rattle.interpolator_escapes.specs.Placing.{FailsFor, StandsFor}
-use Rattle.interpolator_escapes.specs.PlaceTexts.{misplaced_text}
-use Rattle.interpolator_escapes.specs.declared.escape.Escape.{Escape}
+use Rattle.interpolator_escapes.specs.{Formats.escaped_shows, Placing.FailsFor, Placing.StandsFor}
+use Rattle.interpolator_escapes.specs.{PlaceTexts.misplaced_text, declared.escape.Escape.Escape}
 use Rattle.interpolator_escapes.specs.declared.misplaced.PlaceError.{PlaceError}
 use Rattle.interpolator_escapes.specs.declared.misplaced.PlaceError.TheVariants as places
 use Rattle.interpolator_pieces.specs.Calls.{MakesText}

@@ -2,19 +2,14 @@
 -- and `~` under the rest of its argument.
 use Rattle.std.specs.Prelude.{ℕ, ◌+◌, ◌-◌, ◌^◌, ◌==◌, min, nat_lt, if◌then◌else◌, List, [], ◌∷◌}
 use Rattle.std.specs.Prelude.{◌++◌, length, get_or, codes, Option, None, Some, unwrap_or}
-use Rattle.std.specs.Borrow.{Bor}
-use Rattle.std.specs.Fmt.{decimal}
-use Rattle.std.specs.Str.{chars}
-use Rattle.std.specs.Str.Lines.{lines}
-use Rattle.interpolator_syntax.specs.At.{outermost}
+use Rattle.std.specs.{Borrow.Bor, Fmt.decimal, Str.chars, Str.Lines.lines}
 use Rattle.interpolator_syntax.specs.Faults.{Answer, answer_place, fault, missing_value}
-use Rattle.interpolator_syntax.specs.FaultTexts.{answer_text}
 use Rattle.interpolator_syntax.specs.Nodes.{as_forest, nodes}
+use Rattle.interpolator_syntax.specs.{At.outermost, FaultTexts.answer_text}
 use Rattle.interpolator.specs.Excerpts.{Excerpt, excerpt_of, gap, picture}
-use Rattle.interpolator.specs.Naming.{told_names}
 use Rattle.interpolator.specs.Positions.{line_at, column_at, position_text}
+use Rattle.interpolator.specs.{Naming.told_names, declared.explaining.Source.Source}
 use Rattle.interpolator_pieces.specs.NodePlaces.{argument_among}
-use Rattle.interpolator.specs.declared.explaining.Source.{Source}
 
 -- the sum, or the greatest `usize` if it is greater
 abbrev pub usize_sum : ℕ → ℕ → ℕ

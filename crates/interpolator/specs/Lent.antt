@@ -1,12 +1,10 @@
 -- What is under a name in a map, after names that lend a value or a list were added to it.
 use Rattle.std.specs.Prelude.{ℕ, if◌then◌else◌, List, map, Option, Some, None, unwrap_or}
-use Rattle.std.specs.Borrow.{Bor}
-use Rattle.std.specs.Str.{bytes_eq, chars}
+use Rattle.std.specs.{Borrow.Bor, Str.bytes_eq, Str.chars}
 use Rattle.interpolator_render.specs.declared.view.Trait.{Trait}
 use Rattle.interpolator_eval.specs.Slots.{Slots, slots_of, empty_slots, with_iter}
 use Rattle.interpolator_eval.specs.declared.slots.Formattable.{Formattable}
-use Rattle.interpolator.specs.NamedValues.{with_traits}
-use Rattle.interpolator.specs.declared.lent.Lent.{Lent}
+use Rattle.interpolator.specs.{NamedValues.with_traits, declared.lent.Lent.Lent}
 
 module _ {V : Type 0} where
   -- the tree with a list, if there is one, or else with a value in the slots of these traits

@@ -1,18 +1,13 @@
 -- What named values stand for, and what a row of them finds under a name.
 use Rattle.std.specs.Prelude.{ℕ, List, [], ◌∷◌, map, min, take, Option, Some, None, option_map}
 use Rattle.std.specs.Prelude.{slice_get}
-use Rattle.std.specs.Borrow.{Bor}
-use Rattle.interpolator_render.specs.declared.view.Trait.{Trait}
-use Rattle.interpolator_render.specs.declared.view.View.{View}
-use Rattle.interpolator_render.specs.declared.view.Spec.{Spec}
+use Rattle.std.specs.{Borrow.Bor, Str.encode_utf8_all}
 use Rattle.interpolator_render.specs.Views.{Shown, shown_as_value}
-use Rattle.interpolator_eval.specs.Contexts.{last_under}
-use Rattle.std.specs.Str.{encode_utf8_all}
+use Rattle.interpolator_render.specs.declared.{view.Trait.Trait, view.View.View, view.Spec.Spec}
 use Rattle.interpolator_eval.specs.Slots.{Slots, slots_of, empty_slots, with_iter, with_trait}
-use Rattle.interpolator_eval.specs.declared.slots.Formattable.{Formattable}
+use Rattle.interpolator_eval.specs.{Contexts.last_under, declared.slots.Formattable.Formattable}
 use Rattle.interpolator.specs.declared.values.NamedValue.{NamedValue}
-use Rattle.interpolator.specs.declared.values.NamedView.{NamedView}
-use Rattle.interpolator.specs.declared.values.Values.{Values}
+use Rattle.interpolator.specs.{declared.values.NamedView.NamedView, declared.values.Values.Values}
 
 module _ {X : Type 0} where
   -- the tree with the slots of these traits filled

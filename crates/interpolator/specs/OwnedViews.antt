@@ -1,10 +1,9 @@
 -- What a value shows that owns its text.
 use Rattle.std.specs.Prelude.{if◌then◌else◌, string_bytes}
-use Rattle.std.specs.Float.{binary32, binary64}
-use Rattle.std.specs.Str.{chars}
+use Rattle.std.specs.{Float.binary32, Float.binary64, Str.chars}
 use Rattle.interpolator_render.specs.Views.{Shown, signed_number, unsigned_number, truth_value}
-use Rattle.interpolator_render.specs.Views.{decimal_number, float_number, one_character, some_text, failure}
-use Rattle.interpolator_render.specs.Views.{fits_signed}
+use Rattle.interpolator_render.specs.Views.{decimal_number, float_number, one_character, some_text}
+use Rattle.interpolator_render.specs.Views.{failure, fits_signed}
 use Rattle.interpolator.specs.declared.owned_view.OwnedView.{OwnedView}
 use Rattle.interpolator.specs.declared.owned_view.OwnedView.TheVariants as owned
 

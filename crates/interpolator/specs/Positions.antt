@@ -1,10 +1,7 @@
 -- The line and the column of a byte of a text, by the characters that begin before it.
 use Rattle.std.specs.Prelude.{ℕ, not, if◌then◌else◌, ◌+◌, ◌-◌, ◌==◌, List, [], ◌∷◌, length, reverse}
 use Rattle.std.specs.Prelude.{◌++◌, codes, count_by}
-use Rattle.std.specs.Char.{len_utf8}
-use Rattle.std.specs.Fmt.{decimal}
-use Rattle.std.specs.List.{take_while}
-use Rattle.std.specs.Str.{chars}
+use Rattle.std.specs.{Char.len_utf8, Fmt.decimal, List.take_while, Str.chars}
 
 -- the characters of a text that begin before a byte
 abbrev pub begun_before : ℕ → List ℕ → List ℕ

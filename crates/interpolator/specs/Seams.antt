@@ -1,11 +1,10 @@
 -- How a text ends, and which text may follow it: none that would double a lone brace at its end.
 use Rattle.std.specs.Prelude.{◌≢◌, ℕ, Bool, true, false, not, ◌==◌, List, [], ◌∷◌}
-use Rattle.interpolator_syntax.specs.At.{At, outermost}
-use Rattle.interpolator_syntax.specs.Classes.{close_brace}
 use Rattle.interpolator_syntax.specs.Pieces.{PieceKind, Piece, literal, doubled, lone_close, closed}
 use Rattle.interpolator_syntax.specs.Pieces.{unclosed, broken, pieces, argument_from}
-use Rattle.interpolator_syntax.specs.Tokens.{Token, literals, argument}
-use Rattle.interpolator_syntax.specs.Tokens.{doubled as doubled_token, lone_close as lone_token}
+use Rattle.interpolator_syntax.specs.Tokens.{Token, literals, argument, doubled as doubled_token}
+use Rattle.interpolator_syntax.specs.Tokens.{lone_close as lone_token}
+use Rattle.interpolator_syntax.specs.{At.At, At.outermost, Classes.close_brace}
 use Rattle.interpolator.specs.declared.parts.Ending.{Ending}
 use Rattle.interpolator.specs.declared.parts.Ending.TheVariants.{Settled, LoneClose, Open}
 

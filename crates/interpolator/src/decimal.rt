@@ -1,18 +1,15 @@
 //! Decimals: amounts and measures, exactly.
 ghost use Rattle.std.specs.Prelude.{◌≡◌, ◌↔◌, ℕ, ◌+◌, ◌*◌, ◌^◌, ◌<◌, Bool, List, ◌∷◌, ◌++◌, length};
 ghost use Rattle.std.specs.Prelude.{FitsSigned, IfErr, MatchOption, Ok, if◌then◌else◌};
-ghost use Rattle.std.specs.Bool.{Decides};
-ghost use Rattle.std.specs.Char.{digit_value, is_ascii_digit};
-ghost use Rattle.std.specs.Int.{IsInRange as IsBetween, w128};
-ghost use Rattle.std.specs.List.{list_all};
-ghost use Rattle.std.specs.Option.{SomeIff};
 ghost use Rattle.std.specs.Str.Parse.{AllDigits, IsNumeral, digits_value, digits_value_after};
+ghost use Rattle.std.specs.{Bool.Decides, Char.digit_value, Char.is_ascii_digit};
+ghost use Rattle.std.specs.{Int.IsInRange as IsBetween, Int.w128, List.list_all, Option.SomeIff};
 ghost use Rattle.interpolator_render.specs.Views.{decimal_number, shown_by};
 ghost use Rattle.interpolator.specs.DecimalTexts.{AreParts, Explains, HasSign, IsInRange, Spells};
 ghost use Rattle.interpolator.specs.DecimalTexts.{decimal_of, signed};
+ghost use Rattle.interpolator.specs.declared.decimal.Decimal.{Decimal};
 ghost use Rattle.interpolator_syntax.specs.declared.error.NumberError.TheVariants.{NegOverflow};
 ghost use Rattle.interpolator_syntax.specs.declared.error.NumberError.TheVariants.{PosOverflow};
-ghost use Rattle.interpolator.specs.declared.decimal.Decimal.{Decimal};
 
 use interpolator_render::{Spec, Trait, Value, View};
 use interpolator_syntax::NumberError;

@@ -7,14 +7,12 @@
 //! the whole units in `low` are added to `high` first, and what is left of `low` is added to a
 //! product that is no further from zero than the sum.
 
-ghost use Rattle.std.specs.Prelude.{◌≡◌, ◌↔◌, ◌+ℤ◌, ◌-ℤ◌, ◌*ℤ◌, ◌≤ℤ◌, ◌<ℤ◌, ℤ, pos};
-ghost use Rattle.std.specs.Prelude.{FitsSigned, MatchOption, Some, SomeIff};
-ghost use Rattle.std.specs.Bool.{Decides};
-ghost use Rattle.std.specs.Int.{int_pow, w128};
+ghost use Rattle.std.specs.Prelude.{◌≡◌, ◌↔◌, ◌+ℤ◌, ◌-ℤ◌, ◌*ℤ◌, ◌≤ℤ◌, ◌<ℤ◌, ℤ, pos, FitsSigned};
+ghost use Rattle.std.specs.Prelude.{MatchOption, Some, SomeIff};
+ghost use Rattle.std.specs.{Bool.Decides, Int.int_pow, Int.w128};
 ghost use Rattle.interpolator.specs.DecimalSums.{HaveSameValue, IsRescaled, exact_difference};
 ghost use Rattle.interpolator.specs.DecimalSums.{exact_sum};
-ghost use Rattle.interpolator.specs.DecimalTexts.{decimal_of};
-ghost use Rattle.interpolator.specs.declared.decimal.Decimal.{Decimal};
+ghost use Rattle.interpolator.specs.{DecimalTexts.decimal_of, declared.decimal.Decimal.Decimal};
 
 use crate::decimal::Decimal;
 

@@ -1,14 +1,12 @@
 //! Prepared formats whose values are written escaped.
 ghost use Rattle.std.specs.Prelude.{◌≡◌, length, IfErr, IfOk, Some, None, ◌⊎◌};
 ghost use Rattle.std.specs.Str.{chars};
-ghost use Rattle.interpolator_syntax.specs.At.{outermost};
-ghost use Rattle.interpolator_syntax.specs.Faults.{answer_of, result_answer, no_memory, PlaceWithin};
-ghost use Rattle.interpolator_eval.specs.Meaning.Environments.{environment};
-ghost use Rattle.interpolator_eval.specs.Meaning.Meanings.{means};
+ghost use Rattle.interpolator_syntax.specs.{At.outermost, Faults.answer_of, Faults.result_answer};
+ghost use Rattle.interpolator_syntax.specs.{Faults.no_memory, Faults.PlaceWithin};
+ghost use Rattle.interpolator_eval.specs.{Meaning.Environments.environment, Meaning.Meanings.means};
 ghost use Rattle.interpolator_eval.specs.Meaning.Outcomes.{Outcome};
 ghost use Rattle.interpolator_escapes.specs.Formats.{escaped_shows};
-ghost use Rattle.interpolator_pieces.specs.NodeSamples.{faults_over};
-ghost use Rattle.interpolator_pieces.specs.Collecting.{AnswersFirst};
+ghost use Rattle.interpolator_pieces.specs.{NodeSamples.faults_over, Collecting.AnswersFirst};
 ghost use Rattle.interpolator_prepared.specs.Rows.{found_by_row, pair_names, row_at};
 ghost use Rattle.interpolator.specs.NamedValues.{found_by_values, pairs_of, view_shows};
 

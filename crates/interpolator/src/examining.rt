@@ -1,24 +1,17 @@
 //! What is known of a template before it is written: names, arguments, faults, extent and cost.
 ghost use Rattle.std.specs.Prelude.{◌≡◌, ◌+◌, Some, length, map, option_map, IfErr, IfOk};
-ghost use Rattle.std.specs.List.{All};
-ghost use Rattle.std.specs.Str.{chars, IsUtf8};
-ghost use Rattle.interpolator_syntax.specs.Arguments.{argument_of};
-ghost use Rattle.interpolator_syntax.specs.At.{outermost};
-ghost use Rattle.interpolator_syntax.specs.Faults.{answer_of, result_answer, fault, no_memory};
-ghost use Rattle.interpolator_syntax.specs.Faults.{PlaceWithin};
-ghost use Rattle.interpolator_eval.specs.Meaning.AskedNames.{asked_names};
-ghost use Rattle.interpolator_eval.specs.Meaning.Environments.{environment};
-ghost use Rattle.interpolator_pieces.specs.AllArguments.{arguments_of};
+ghost use Rattle.std.specs.{List.All, Str.chars, Str.IsUtf8};
+ghost use Rattle.interpolator_syntax.specs.{Arguments.argument_of, At.outermost, Faults.answer_of};
+ghost use Rattle.interpolator_syntax.specs.{Faults.result_answer, Faults.fault, Faults.no_memory};
+ghost use Rattle.interpolator_syntax.specs.{Faults.PlaceWithin, Nodes.as_forest, Nodes.nodes};
+ghost use Rattle.interpolator_eval.specs.Meaning.{AskedNames.asked_names, Environments.environment};
 ghost use Rattle.interpolator_pieces.specs.NodeChecks.{first_fault, text_faults};
 ghost use Rattle.interpolator_pieces.specs.NodeCosts.{usize_cost, text_cost};
 ghost use Rattle.interpolator_pieces.specs.NodeExtents.{forest_depth, forest_extent};
-ghost use Rattle.interpolator_pieces.specs.declared.cost.Limits.{Limits};
-ghost use Rattle.interpolator_pieces.specs.NodeNames.{name_texts};
-ghost use Rattle.interpolator_pieces.specs.NodePlaces.{argument_among};
-ghost use Rattle.interpolator_pieces.specs.NodeSamples.{faults_over};
-ghost use Rattle.interpolator_pieces.specs.Collecting.{AnswersFirst};
-ghost use Rattle.interpolator_syntax.specs.Nodes.{as_forest, nodes};
 ghost use Rattle.interpolator_pieces.specs.Visits.{Walks, text_visits};
+ghost use Rattle.interpolator_pieces.specs.{AllArguments.arguments_of, declared.cost.Limits.Limits};
+ghost use Rattle.interpolator_pieces.specs.{NodeNames.name_texts, NodePlaces.argument_among};
+ghost use Rattle.interpolator_pieces.specs.{NodeSamples.faults_over, Collecting.AnswersFirst};
 
 use crate::template::Template;
 use interpolator_eval::{Context, SampleEnvironment};

@@ -1,14 +1,11 @@
 //! Formats as methods of a context.
 ghost use Rattle.std.specs.Prelude.{◌≡◌, length, map, IfErr, IfOk, Some};
-ghost use Rattle.std.specs.List.{All};
-ghost use Rattle.std.specs.Str.{chars};
-ghost use Rattle.interpolator_syntax.specs.At.{outermost};
-ghost use Rattle.interpolator_syntax.specs.Faults.{answer_of, result_answer, fault, no_memory};
-ghost use Rattle.interpolator_syntax.specs.Faults.{PlaceWithin};
+ghost use Rattle.std.specs.{List.All, Str.chars};
+ghost use Rattle.interpolator_syntax.specs.{At.outermost, Faults.answer_of, Faults.result_answer};
+ghost use Rattle.interpolator_syntax.specs.{Faults.fault, Faults.no_memory, Faults.PlaceWithin};
 ghost use Rattle.interpolator_escapes.specs.Formats.{escaped_shows};
-ghost use Rattle.interpolator_pieces.specs.NodeSamples.{faults_over};
-ghost use Rattle.interpolator_pieces.specs.Collecting.{AnswersFirst};
 ghost use Rattle.interpolator_pieces.specs.Calls.{MakesText, WritesLine, WritesText};
+ghost use Rattle.interpolator_pieces.specs.{NodeSamples.faults_over, Collecting.AnswersFirst};
 ghost use Rattle.interpolator.specs.EscapedTexts.{MakesEscaped};
 
 use crate::escaped_template::EscapedTemplate;

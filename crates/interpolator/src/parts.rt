@@ -2,18 +2,15 @@
 ghost use Rattle.std.specs.Prelude.{◌≡◌, ◌+◌, ◌^◌, ◌<◌, length, IfOk};
 ghost use Rattle.std.specs.Str.{chars};
 ghost use Rattle.interpolator_syntax.specs.At.{at, size, outermost};
-ghost use Rattle.interpolator_syntax.specs.Pieces.{pieces, argument_from};
-ghost use Rattle.interpolator_syntax.specs.Tokens.{token_of, past_token};
+ghost use Rattle.interpolator_syntax.specs.{Pieces.pieces, Pieces.argument_from, Tokens.token_of};
+ghost use Rattle.interpolator_syntax.specs.{Tokens.past_token, Grammar.from_place};
+ghost use Rattle.interpolator_syntax.specs.{Faults.result_answer, Faults.PlaceWithin};
 ghost use Rattle.interpolator.specs.Seams.{ending, piece_ending, seam_of, token_ending};
-ghost use Rattle.interpolator_syntax.specs.Grammar.{from_place};
-ghost use Rattle.interpolator_syntax.specs.Faults.{result_answer, PlaceWithin};
-ghost use Rattle.interpolator_eval.specs.Meaning.Environments.{environment};
-ghost use Rattle.interpolator_eval.specs.Meaning.Meanings.{means};
-ghost use Rattle.interpolator_eval.specs.Meaning.Outcomes.{Outcome};
 ghost use Rattle.interpolator.specs.Meaning.Parts.{joined_text, texts_of, bytes_of, parts_mean};
 ghost use Rattle.interpolator.specs.Meaning.Parts.{Clean, FrontsClose};
-ghost use Rattle.interpolator_eval.specs.Meaning.CodeEnvironments.{environment_of};
-ghost use Rattle.interpolator_eval.specs.Meaning.Sinks.{Writes};
+ghost use Rattle.interpolator_eval.specs.Meaning.{Environments.environment, Meanings.means};
+ghost use Rattle.interpolator_eval.specs.Meaning.Outcomes.{Outcome};
+ghost use Rattle.interpolator_eval.specs.Meaning.{CodeEnvironments.environment_of, Sinks.Writes};
 
 use interpolator_eval::{Context, Environment, Sink, Unescaped, write_uncounted};
 use interpolator_render::TextWrite;

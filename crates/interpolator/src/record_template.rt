@@ -1,12 +1,10 @@
 //! Formats of records of CSV, whose values are whole fields.
 ghost use Rattle.std.specs.Prelude.{◌≡◌, ◌<◌, Err, IfErr, IfOk, length};
 ghost use Rattle.std.specs.Str.{chars};
-ghost use Rattle.interpolator_syntax.specs.At.{outermost};
-ghost use Rattle.interpolator_syntax.specs.Faults.{result_answer};
-ghost use Rattle.interpolator_escapes.specs.Fields.{record_shows};
-ghost use Rattle.interpolator_escapes.specs.Placing.{IfMisplaced};
+ghost use Rattle.interpolator_syntax.specs.{At.outermost, Faults.result_answer};
 ghost use Rattle.interpolator_escapes.specs.RecordFormats.{StandsAsRecord, after_record};
 ghost use Rattle.interpolator_escapes.specs.RecordFormats.{record_answer};
+ghost use Rattle.interpolator_escapes.specs.{Fields.record_shows, Placing.IfMisplaced};
 ghost use Rattle.interpolator_pieces.specs.Calls.{MakesText, WritesText};
 
 use crate::template::Template;

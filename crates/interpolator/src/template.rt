@@ -1,24 +1,18 @@
 //! Formats that are read once and written many times.
 ghost use Rattle.std.specs.Prelude.{◌≡◌, ◌+◌, ◌≤◌, ◌⊎◌, None, Some, length, IfErr, IfOk};
 ghost use Rattle.std.specs.Str.{chars};
-ghost use Rattle.interpolator_syntax.specs.At.{outermost};
 ghost use Rattle.interpolator_syntax.specs.Faults.{answer_of, result_answer, fault, no_memory};
 ghost use Rattle.interpolator_syntax.specs.Faults.{PlaceWithin};
-ghost use Rattle.interpolator_eval.specs.Escaping.{shows_by};
-ghost use Rattle.interpolator_eval.specs.Meaning.AskedNames.{asked_names};
-ghost use Rattle.interpolator_eval.specs.Meaning.Environments.{environment};
-ghost use Rattle.interpolator_eval.specs.Meaning.Limits.{IsWithin};
-ghost use Rattle.interpolator_eval.specs.Meaning.Work.{text_work};
-ghost use Rattle.interpolator_eval.specs.Contexts.{found_by_pairs};
+ghost use Rattle.interpolator_syntax.specs.{At.outermost, Nodes.nodes};
+ghost use Rattle.interpolator_eval.specs.Meaning.{AskedNames.asked_names, Environments.environment};
+ghost use Rattle.interpolator_eval.specs.Meaning.{Limits.IsWithin, Work.text_work};
+ghost use Rattle.interpolator_eval.specs.{Escaping.shows_by, Contexts.found_by_pairs};
 ghost use Rattle.interpolator_prepared.specs.Rows.{pair_names};
-ghost use Rattle.interpolator_pieces.specs.NodeCosts.{text_cost};
-ghost use Rattle.interpolator_pieces.specs.declared.cost.Limits.{Limits};
-ghost use Rattle.interpolator_pieces.specs.NodeSamples.{faults_over};
-ghost use Rattle.interpolator_pieces.specs.Collecting.{AnswersFirst};
-ghost use Rattle.interpolator_syntax.specs.Nodes.{nodes};
+ghost use Rattle.interpolator_pieces.specs.Calls.{MakesText, WritesLine, WritesText};
+ghost use Rattle.interpolator_pieces.specs.{NodeCosts.text_cost, declared.cost.Limits.Limits};
+ghost use Rattle.interpolator_pieces.specs.{NodeSamples.faults_over, Collecting.AnswersFirst};
 ghost use Rattle.interpolator_pieces.specs.Stored.{nodes_of};
 ghost use Rattle.interpolator.specs.NamedValues.{found_by_values, pairs_of, view_shows};
-ghost use Rattle.interpolator_pieces.specs.Calls.{MakesText, WritesLine, WritesText};
 
 use crate::interpolate::Interpolate;
 use crate::sample_map::map_of;

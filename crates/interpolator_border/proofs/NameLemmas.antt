@@ -1,10 +1,8 @@
 -- Names that are compared by their two ends.
-use Rattle.std.specs.Bool.{Decides}
-use Rattle.std.specs.Str.{bytes_eq}
+use Rattle.std.specs.{Bool.Decides, Str.bytes_eq}
 use Rattle.std.proofs.Common.{arith, ◌≡◌, ◌∙◌, ap, sym, refl, ℕ, ◌-◌, ◌≤◌, ◌+◌, Bool, true, false}
 use Rattle.std.proofs.Common.{List, ◌++◌, take, drop}
-use Rattle.std.proofs.lemmas.List.{drop-drop, take-append-drop}
-use Rattle.std.proofs.lemmas.Slice.Eq.{bytes_eq-Decides}
+use Rattle.std.proofs.lemmas.{List.drop-drop, List.take-append-drop, Slice.Eq.bytes_eq-Decides}
 
 -- what decides the same is the same
 decided : {P Q : Type 0} (a b : Bool) → Decides a P → Decides b Q → (P → Q) → (Q → P) → a ≡ b

@@ -10,15 +10,11 @@ use Rattle.interpolator_syntax.specs.Faults.{unsupported_option, ParseFault, unc
 use Rattle.interpolator_syntax.specs.Faults.{invalid_width, invalid_precision, fill, iter, range_bound}
 use Rattle.interpolator_syntax.specs.declared.error.NumberError.{NumberError}
 use Rattle.interpolator_syntax.specs.declared.error.NumberError.TheVariants as numbers
-use Rattle.interpolator_syntax.specs.FaultTexts.{answer_text}
-use Rattle.interpolator_syntax.specs.At.{Placed, outermost, text_of}
-use Rattle.interpolator_render.specs.Views.{Shown}
-use Rattle.interpolator_render.specs.Written.{Written, byte_count}
-use Rattle.interpolator_render.specs.declared.view.Spec.{Spec}
-use Rattle.interpolator_render.specs.declared.view.Trait.{Trait}
-use Rattle.interpolator_eval.specs.Slots.{Slots}
-use Rattle.interpolator_eval.specs.Meaning.Environments.{environment}
+use Rattle.interpolator_syntax.specs.{FaultTexts.answer_text, At.Placed, At.outermost, At.text_of}
+use Rattle.interpolator_render.specs.{Views.Shown, Written.Written, Written.byte_count}
+use Rattle.interpolator_render.specs.{declared.view.Spec.Spec, declared.view.Trait.Trait}
 use Rattle.interpolator_eval.specs.Meaning.Meanings.{Meaning, means}
+use Rattle.interpolator_eval.specs.{Slots.Slots, Meaning.Environments.environment}
 use Rattle.interpolator_eval.specs.Meaning.Outcomes.{Outcome}
 use Rattle.interpolator_border.specs.Requests.{slot_code}
 use Rattle.interpolator_border.specs.Fields.{AreTrees, field_shows, found_in, lists_lie}

@@ -1,14 +1,10 @@
 -- The arguments of a format, as they are told.
 use Rattle.std.specs.Prelude.{◌≡◌, ◌⊎◌, ℕ, ◌+◌, List, map, length, true, false, Option, None, Some}
 use Rattle.std.specs.Str.{chars, is_utf8}
-use Rattle.interpolator_render.specs.Lengths.{usize_count}
-use Rattle.interpolator_render.specs.Written.{byte_count}
-use Rattle.interpolator_render.specs.declared.view.Trait.{Trait}
-use Rattle.interpolator_render.specs.declared.view.Trait.TheVariants.{Iter}
-use Rattle.interpolator_syntax.specs.Arguments.{Argument}
-use Rattle.interpolator_syntax.specs.At.{outermost}
-use Rattle.interpolator_syntax.specs.Groups.{Group}
+use Rattle.interpolator_render.specs.declared.{view.Trait.Trait, view.Trait.TheVariants.Iter}
+use Rattle.interpolator_render.specs.{Lengths.usize_count, Written.byte_count}
 use Rattle.interpolator_syntax.specs.SpecTexts.{Kind, of_value, of_list}
+use Rattle.interpolator_syntax.specs.{Arguments.Argument, At.outermost, Groups.Group}
 use Rattle.interpolator.specs.Template.AllArguments.{arguments_of}
 use Rattle.interpolator_border.specs.Answers.{FillsFront, bare_answer, text_answer}
 use Rattle.interpolator_border.specs.Requests.{request_of}

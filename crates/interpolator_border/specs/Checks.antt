@@ -1,19 +1,14 @@
 -- What is wrong with a format, by itself or over a row of examples.
 use Rattle.std.specs.Prelude.{◌≡◌, ◌⊎◌, ℕ, List, None, Some, Option, Bool, true, false, length, map}
 use Rattle.std.specs.Prelude.{Result, Ok, Err, MatchOption, option_map, slice_get, string_bytes}
-use Rattle.std.specs.declared.string.String.{String}
-use Rattle.std.specs.declared.vec.Vec.{Vec}
-use Rattle.std.specs.Str.{chars, is_utf8}
-use Rattle.interpolator_syntax.specs.At.{outermost}
+use Rattle.std.specs.{declared.string.String.String, declared.vec.Vec.Vec, Str.chars, Str.is_utf8}
 use Rattle.interpolator_syntax.specs.Faults.{Answer, Fault, fault, no_memory, answer_of}
-use Rattle.interpolator_syntax.specs.declared.error.Error.{Error}
-use Rattle.interpolator_eval.specs.Slots.{Slots}
-use Rattle.interpolator_eval.specs.Meaning.AskedNames.{asked_names}
+use Rattle.interpolator_syntax.specs.{At.outermost, declared.error.Error.Error}
+use Rattle.interpolator_eval.specs.{Slots.Slots, Meaning.AskedNames.asked_names}
 use Rattle.interpolator_eval.specs.Meaning.Environments.{environment}
 use Rattle.interpolator_eval.specs.Meaning.Resembling.{ResemblesOn}
-use Rattle.interpolator.specs.Explained.{explanation_of}
-use Rattle.interpolator.specs.declared.explaining.Source.{Source}
 use Rattle.interpolator.specs.Template.NodeChecks.{first_fault, text_faults}
+use Rattle.interpolator.specs.{Explained.explanation_of, declared.explaining.Source.Source}
 use Rattle.interpolator.specs.Template.NodeSamples.{faults_over}
 use Rattle.interpolator_border.specs.Answers.{CodedAside, FillsFront, Told, ToldAlone, ToldAside}
 use Rattle.interpolator_border.specs.Answers.{ToldNoMemory, ToldNotUtf8, fault_answer}

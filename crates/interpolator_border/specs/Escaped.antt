@@ -3,14 +3,12 @@ use Rattle.std.specs.Prelude.{◌≡◌, ◌⊎◌, ◌==◌, ℕ, true, List, O
 use Rattle.std.specs.Prelude.{if◌then◌else◌}
 use Rattle.std.specs.Str.{chars, is_utf8}
 use Rattle.interpolator_syntax.specs.At.{outermost}
-use Rattle.interpolator_escapes.specs.Formats.{escaped_shows}
 use Rattle.interpolator_escapes.specs.Placing.{FailsFor, StandsFor}
-use Rattle.interpolator_escapes.specs.PlaceTexts.{why_text}
-use Rattle.interpolator_escapes.specs.declared.escape.Escape.{Escape}
 use Rattle.interpolator_escapes.specs.declared.escape.Escape.TheVariants.{Line, Html, Csv, Json}
 use Rattle.interpolator_escapes.specs.declared.escape.Escape.TheVariants.{Shell}
-use Rattle.interpolator_escapes.specs.declared.misplaced.Misplaced.{Misplaced}
+use Rattle.interpolator_escapes.specs.declared.{escape.Escape.Escape, misplaced.Misplaced.Misplaced}
 use Rattle.interpolator_escapes.specs.declared.misplaced.PlaceError.{PlaceError}
+use Rattle.interpolator_escapes.specs.{Formats.escaped_shows, PlaceTexts.why_text}
 use Rattle.interpolator_escapes.specs.declared.misplaced.PlaceError.TheVariants as errors
 use Rattle.interpolator_escapes.specs.declared.misplaced.Why.{Why}
 use Rattle.interpolator_escapes.specs.declared.misplaced.Why.TheVariants.{Value, Item, Join, Fill}

@@ -1,28 +1,22 @@
 -- What a field that C passes shows, and what it stands for.
-use Rattle.std.specs.Prelude.{◌≡◌, ℕ, ◌+◌, ◌*◌, ◌^◌, ℤ, pos, ◌+ℤ◌, ◌*ℤ◌, Bool, ◌==◌, not, ◌&&◌, ◌||◌}
-use Rattle.std.specs.Prelude.{zero, suc, true, false, nat_lt, if◌then◌else◌, List, [], ◌∷◌, map, take, drop, reverse, length}
-use Rattle.std.specs.Prelude.{Option, None, Some}
-use Rattle.std.specs.List.{find, list_all}
-use Rattle.std.specs.Option.{option_map}
-use Rattle.std.specs.Float.{binary32, binary64}
-use Rattle.std.specs.Int.Bits.{bit_and}
-use Rattle.std.specs.Str.{chars, is_utf8, bytes_eq, encode_utf8_all}
+use Rattle.std.specs.Prelude.{◌≡◌, ℕ, ◌+◌, ◌*◌, ◌^◌, ℤ, pos, ◌+ℤ◌, ◌*ℤ◌, Bool, ◌==◌, not, ◌&&◌}
+use Rattle.std.specs.Prelude.{◌||◌, zero, suc, true, false, nat_lt, if◌then◌else◌, List, [], ◌∷◌}
+use Rattle.std.specs.Prelude.{map, take, drop, reverse, length, Option, None, Some}
+use Rattle.std.specs.{List.find, List.list_all, Option.option_map, Float.binary32, Float.binary64}
+use Rattle.std.specs.{Int.Bits.bit_and, Str.chars, Str.is_utf8, Str.bytes_eq, Str.encode_utf8_all}
 use Rattle.interpolator_render.specs.Views.{Shown, signed_number, unsigned_number, truth_value}
 use Rattle.interpolator_render.specs.Views.{one_character, some_text, plain_text, fits_signed}
-use Rattle.interpolator_render.specs.Views.{decimal_number, float_number}
-use Rattle.interpolator_render.specs.Views.{nothing_implemented, failure}
-use Rattle.interpolator_render.specs.declared.view.Bits.{Bits}
+use Rattle.interpolator_render.specs.Views.{decimal_number, float_number, nothing_implemented}
+use Rattle.interpolator_render.specs.Views.{failure}
 use Rattle.interpolator_render.specs.declared.view.Bits.TheVariants.{B8, B16, B32, B64, B128}
-use Rattle.interpolator_render.specs.declared.view.Spec.{Spec}
-use Rattle.interpolator_render.specs.declared.view.Trait.{Trait}
 use Rattle.interpolator_render.specs.declared.view.Trait.TheVariants.{Binary, Debug, Display}
 use Rattle.interpolator_render.specs.declared.view.Trait.TheVariants.{LowerExp, LowerHex, Octal}
 use Rattle.interpolator_render.specs.declared.view.Trait.TheVariants.{UpperExp, UpperHex}
+use Rattle.interpolator_render.specs.declared.{view.Bits.Bits, view.Spec.Spec, view.Trait.Trait}
 use Rattle.interpolator_eval.specs.Slots.{Slots, empty_slots, with_debug_display, with_integer}
 use Rattle.interpolator_eval.specs.Slots.{with_float, with_iter, with_trait}
 use Rattle.interpolator_border.specs.Requests.{is_request, request_of}
-use Rattle.interpolator_border.specs.declared.field.Field.{Field}
-use Rattle.interpolator_border.specs.declared.field.Lent.{Lent}
+use Rattle.interpolator_border.specs.{declared.field.Field.Field, declared.field.Lent.Lent}
 
 -- ---- what a field shows
 

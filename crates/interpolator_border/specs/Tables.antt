@@ -1,24 +1,18 @@
 -- A table: a format over each of its rows.
-use Rattle.std.specs.Prelude.{◌≡◌, ◌≢◌, ◌<◌, ◌⊎◌, ⊤, ℕ, zero, suc, ◌*◌, List, [], ◌∷◌, ◌++◌}
-use Rattle.std.specs.Prelude.{map, length, take, drop, slice_get, None, Some, true, false, option_map, Option}
-use Rattle.std.specs.Prelude.{Bool, Result, MatchResult, IsSomeAnd, Ok, Err, encode_utf8_all}
-use Rattle.std.specs.List.{list_all}
-use Rattle.std.specs.Str.{chars, is_utf8}
-use Rattle.std.specs.Borrow.{Bor}
-use Rattle.std.specs.declared.vec.Vec.{Vec}
+use Rattle.std.specs.Prelude.{◌≡◌, ◌≢◌, ◌<◌, ◌⊎◌, ⊤, ℕ, zero, suc, ◌*◌, List, [], ◌∷◌, ◌++◌, map}
+use Rattle.std.specs.Prelude.{length, take, drop, slice_get, None, Some, true, false, option_map}
+use Rattle.std.specs.Prelude.{Option, Bool, Result, MatchResult, IsSomeAnd, Ok, Err}
+use Rattle.std.specs.Prelude.{encode_utf8_all}
+use Rattle.std.specs.{List.list_all, Str.chars, Str.is_utf8, Borrow.Bor, declared.vec.Vec.Vec}
 use Rattle.interpolator_render.specs.Written.{Buffered, byte_count}
 use Rattle.interpolator_syntax.specs.At.{outermost, text_of}
 use Rattle.interpolator_syntax.specs.Faults.{Answer, Fault, fault, no_memory, answer_of}
-use Rattle.interpolator_syntax.specs.FaultTexts.{answer_text}
-use Rattle.interpolator_syntax.specs.declared.error.Error.{Error}
-use Rattle.interpolator_eval.specs.Contexts.{found_by_pairs}
-use Rattle.interpolator_eval.specs.Meaning.Environments.{environment}
-use Rattle.interpolator_eval.specs.Meaning.Meanings.{Meaning, means}
-use Rattle.interpolator_eval.specs.Slots.{Slots, slots_of}
-use Rattle.interpolator_eval.specs.declared.slots.Formattable.{Formattable}
+use Rattle.interpolator_syntax.specs.{FaultTexts.answer_text, declared.error.Error.Error}
+use Rattle.interpolator_eval.specs.{Contexts.found_by_pairs, Meaning.Environments.environment}
+use Rattle.interpolator_eval.specs.{Meaning.Meanings.Meaning, Meaning.Meanings.means, Slots.Slots}
+use Rattle.interpolator_eval.specs.{Slots.slots_of, declared.slots.Formattable.Formattable}
 use Rattle.interpolator.specs.Prepared.Rows.{PreparedFormat, found_by_row, pair_names}
-use Rattle.interpolator.specs.Template.NodeChecks.{first_fault}
-use Rattle.interpolator.specs.Template.NodeSamples.{faults_over}
+use Rattle.interpolator.specs.{Template.NodeChecks.first_fault, Template.NodeSamples.faults_over}
 use Rattle.interpolator.specs.Template.Collecting.{AnswersFirst}
 use Rattle.interpolator_border.specs.Answers.{Told, ToldAlone, ToldLists, ToldNoMemory, ToldNotUtf8}
 use Rattle.interpolator_border.specs.Answers.{ToldTable, fault_answer, text_answer}
@@ -26,8 +20,7 @@ use Rattle.interpolator_border.specs.Fields.{all_within, field_shows, field_slot
 use Rattle.interpolator_border.specs.declared.answer.Answer.{Answer as Told_answer}
 use Rattle.interpolator_border.specs.declared.answer.Failure.{Failure}
 use Rattle.interpolator_border.specs.declared.answer.Failure.TheVariants as failure
-use Rattle.interpolator_border.specs.declared.field.Field.{Field}
-use Rattle.interpolator_border.specs.declared.table.RowFault.{RowFault}
+use Rattle.interpolator_border.specs.{declared.field.Field.Field, declared.table.RowFault.RowFault}
 
 -- ---- the columns
 

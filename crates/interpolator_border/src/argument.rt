@@ -1,13 +1,11 @@
 //! The arguments of a format.
 ghost use Rattle.std.specs.Prelude.{◌≡◌, ◌+◌, IfErr, IfOk, length, map, option_map};
 ghost use Rattle.std.specs.Str.{chars};
-ghost use Rattle.interpolator_render.specs.Lengths.{usize_count};
-ghost use Rattle.interpolator_render.specs.Written.{byte_count};
-ghost use Rattle.interpolator_syntax.specs.Arguments.{argument_of};
+ghost use Rattle.interpolator_render.specs.{Lengths.usize_count, Written.byte_count};
 ghost use Rattle.interpolator_syntax.specs.Faults.{answer_of, no_memory};
-ghost use Rattle.interpolator_syntax.specs.Groups.{group_of};
-ghost use Rattle.interpolator_border.specs.Arguments.{ArgumentAnswers, group_end};
-ghost use Rattle.interpolator_border.specs.Arguments.{group_first, told_argument, told_arguments};
+ghost use Rattle.interpolator_syntax.specs.{Arguments.argument_of, Groups.group_of};
+ghost use Rattle.interpolator_border.specs.Arguments.{ArgumentAnswers, group_end, group_first};
+ghost use Rattle.interpolator_border.specs.Arguments.{told_argument, told_arguments};
 ghost use Rattle.interpolator_border.specs.Requests.{request_of};
 
 use crate::answer::{Answer, NOT_UTF8, bare, put_front, well};

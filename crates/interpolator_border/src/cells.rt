@@ -1,7 +1,6 @@
 //! The cells of a row of a table as a row of a prepared format.
 ghost use Rattle.interpolator.specs.Prepared.Rows.{found_by_row};
-ghost use Rattle.interpolator_border.specs.Fields.{field_slots};
-ghost use Rattle.interpolator_border.specs.Tables.{cell_at};
+ghost use Rattle.interpolator_border.specs.{Fields.field_slots, Tables.cell_at};
 ghost use Rattle.interpolator_eval.specs.Slots.{slots_of};
 ghost use Rattle.std.specs.Prelude.{◌≡◌, []};
 

@@ -4,8 +4,7 @@ ghost use Rattle.interpolator_border.specs.Answers.{FormatAnswers, Told, ToldCod
 ghost use Rattle.interpolator_border.specs.Escaped.{EscapedBy, TellsPlace, escape_numbered};
 ghost use Rattle.interpolator_border.specs.Escaped.{misplaced_answer, no_escape_sentence, why_code};
 ghost use Rattle.interpolator_border.specs.Fields.{field_shows};
-ghost use Rattle.interpolator_escapes.specs.Formats.{escaped_shows};
-ghost use Rattle.interpolator_escapes.specs.PlaceTexts.{why_text};
+ghost use Rattle.interpolator_escapes.specs.{Formats.escaped_shows, PlaceTexts.why_text};
 
 use crate::answer::{Answer, coded};
 use crate::bytes::text_of;

@@ -1,8 +1,6 @@
 //! A value as C passes it.
 ghost use Rattle.std.specs.Prelude.{◌≡◌, ◌+◌, ◌*◌};
-ghost use Rattle.std.specs.Option.{option_copied};
-ghost use Rattle.std.specs.List.{find};
-ghost use Rattle.std.specs.Str.{IsAscii};
+ghost use Rattle.std.specs.{Option.option_copied, List.find, Str.IsAscii};
 ghost use Rattle.interpolator_render.specs.Views.{IsInRange, shown_by, some_text, plain_text};
 ghost use Rattle.interpolator_border.specs.Requests.{is_request, request_of};
 ghost use Rattle.interpolator_border.specs.Fields.{character_shows, field_shows, lent_shows};

@@ -1,13 +1,12 @@
 //! A row written into a room.
 ghost use Rattle.std.specs.Prelude.{◌≡◌, ◌≤◌, drop, length, map, MatchResult, Ok, Err};
 ghost use Rattle.interpolator_border.specs.declared.answer.Failure.TheVariants.{Fault};
-ghost use Rattle.interpolator_eval.specs.Escaping.{shows_by};
-ghost use Rattle.interpolator_eval.specs.Slots.{slots_of};
 ghost use Rattle.interpolator_border.specs.Answers.{TellsFault, TellsResult, WriteAnswers};
 ghost use Rattle.interpolator_border.specs.Answers.{WritesKnown, WritesRow};
-ghost use Rattle.interpolator_syntax.specs.Faults.{answer_of};
 ghost use Rattle.interpolator_border.specs.Fields.{field_shows, field_slots, lie_in_levels};
 ghost use Rattle.interpolator_border.specs.Fields.{lists_lie};
+ghost use Rattle.interpolator_eval.specs.{Escaping.shows_by, Slots.slots_of};
+ghost use Rattle.interpolator_syntax.specs.Faults.{answer_of};
 
 use crate::answer::{Answer, Failure, put, told_failure, told_fault, told_full, well};
 use crate::bytes::text_of;

@@ -3,13 +3,11 @@
 
 ghost use Rattle.std.specs.Prelude.{◌≡◌, ◌<◌, IfSome};
 ghost use Rattle.interpolator_border.specs.Answers.{FormatAnswers, ToldCode, WriteAnswers};
-ghost use Rattle.interpolator_border.specs.Arguments.{ArgumentAnswers};
 ghost use Rattle.interpolator_border.specs.Checks.{AloneAnswers, CheckAnswers, ExplainAnswers};
 ghost use Rattle.interpolator_border.specs.Checks.{FaultsAnswers, NeverFails};
-ghost use Rattle.interpolator_border.specs.Costs.{CostAnswers};
 ghost use Rattle.interpolator_border.specs.Escaped.{EscapedBy, escape_numbered, no_escape_sentence};
-ghost use Rattle.interpolator_border.specs.Fields.{field_shows};
-ghost use Rattle.interpolator_border.specs.Layouts.{layout_of_c};
+ghost use Rattle.interpolator_border.specs.{Arguments.ArgumentAnswers, Costs.CostAnswers};
+ghost use Rattle.interpolator_border.specs.{Fields.field_shows, Layouts.layout_of_c};
 ghost use Rattle.interpolator_border.specs.Tables.{RowsAnswers};
 
 use interpolator_border::{

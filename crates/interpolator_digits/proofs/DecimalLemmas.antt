@@ -1,15 +1,13 @@
 -- Decimals: rounded to a power of ten, split at the point, and filled with zeros.
-use Rattle.std.proofs.lemmas.Grind.{common_steps}
 use Rattle.std.proofs.Common.{◌≡◌, ℕ, ◌<◌, ◌≤◌, ◌-◌, ◌+◌, ◌*◌, ◌/◌, ◌%◌, ◌^◌, false, [], ◌++◌}
 use Rattle.std.proofs.Common.{length, replicate, refl, arith, append_assoc, append-nil}
 use Rattle.std.proofs.Common.{length-append, nat_lt, None, Some, eq-zero-or-pos, pow-add}
 use Rattle.std.proofs.lemmas.List.{length-replicate, replicate-append-replicate}
-use Rattle.std.proofs.Math.Arith.{mod-mul}
 use Rattle.std.proofs.Math.Nat.{div-div-eq-div-mul, mul-div_cancel, mul-mod_left, div-eq_of_lt}
 use Rattle.std.proofs.Math.Nat.{mod-eq_of_lt, pow-le-pow_right}
+use Rattle.std.proofs.{lemmas.Grind.common_steps, Math.Arith.mod-mul}
 use Rattle.interpolator_digits.specs.Decimals.{placed, units_text, decimal_text, split_text}
-use Rattle.interpolator_digits.specs.Digits.{digit_text}
-use Rattle.interpolator_digits.specs.Exponent.{nearest, with_zeros}
+use Rattle.interpolator_digits.specs.{Digits.digit_text, Exponent.nearest, Exponent.with_zeros}
 use Rattle.interpolator_digits.proofs.DigitLemmas.{digit_text_zero, length-digit_text-le}
 use Rattle.interpolator_digits.proofs.ExponentLemmas.{pow_some, pow_more, digit_text_scaled}
 

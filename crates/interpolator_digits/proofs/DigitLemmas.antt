@@ -1,18 +1,15 @@
 -- The digits of a number in a buffer, written from its end: one, two or four more.
 use Rattle.std.proofs.Common.{◌≡◌, ◌≢◌, ℕ, ◌<◌, ◌≤◌, ◌+◌, ◌-◌, ◌/◌, ◌%◌, ◌^◌, Bool, false, List, []}
 use Rattle.std.proofs.Common.{◌∷◌, ◌++◌, length, take, drop, map, set, get_or, refl, sym, ◌∙◌, ap}
-use Rattle.std.proofs.Common.{arith, append_assoc, length-append, length-drop, length-set}
-use Rattle.std.proofs.Common.{inl, inr, take-take, IsAscii, mod-eq_of_lt}
-use Rattle.std.proofs.Common.{eq-zero-or-pos, le-div_iff_mul-le, append-nil}
-use Rattle.std.specs.Fmt.{digit_glyph}
-use Rattle.std.specs.Int.Digits.{digits_of, AllBelowBase}
+use Rattle.std.proofs.Common.{arith, append_assoc, length-append, length-drop, length-set, inl, inr}
+use Rattle.std.proofs.Common.{take-take, IsAscii, mod-eq_of_lt, eq-zero-or-pos, le-div_iff_mul-le}
+use Rattle.std.proofs.Common.{append-nil}
 use Rattle.std.proofs.lemmas.Int.Digits.{length-digits_of-le, digits_of_step, length-digits_of_step}
 use Rattle.std.proofs.lemmas.Int.Digits.{all_below_base_digits_of}
 use Rattle.std.proofs.lemmas.List.{map-append, drop-set, length-map, take-set, take-set-le}
-use Rattle.std.proofs.lemmas.Bool.Decides.{nat_tests}
-use Rattle.std.proofs.lemmas.Str.{IsUtf8-from_ascii}
-use Rattle.std.proofs.Math.Nat.{pow-le-pow_left, div-eq_of_lt}
-use Rattle.std.proofs.Math.Seq.{drop-length}
+use Rattle.std.proofs.{lemmas.Bool.Decides.nat_tests, lemmas.Str.IsUtf8-from_ascii}
+use Rattle.std.proofs.{Math.Nat.pow-le-pow_left, Math.Nat.div-eq_of_lt, Math.Seq.drop-length}
+use Rattle.std.specs.{Fmt.digit_glyph, Int.Digits.digits_of, Int.Digits.AllBelowBase}
 use Rattle.interpolator_digits.specs.Digits.{digit_text}
 
 -- ---- the text of a number

@@ -1,19 +1,16 @@
 -- Exponent form as it is defined: powers of ten, zeros at the end and after.
-use Rattle.std.proofs.lemmas.Grind.{common_steps}
 use Rattle.std.proofs.Common.{◌≡◌, ◌≢◌, ℕ, zero, suc, ◌<◌, ◌≤◌, ◌-◌, ◌+◌, ◌*◌, ◌/◌, ◌%◌, ◌^◌, true}
 use Rattle.std.proofs.Common.{false, List, [], ◌∷◌, ◌++◌, length, map, replicate, refl, sym, ◌∙◌}
 use Rattle.std.proofs.Common.{ap, arith, rules, append_assoc, append-nil, length-append, ◌==◌, inl}
 use Rattle.std.proofs.Common.{inr, None, Some, nat_lt, pow-suc, mul_assoc, mul-le-mul_left}
 use Rattle.std.proofs.Common.{eq-zero-or-pos}
-use Rattle.std.specs.Fmt.{digit_glyph}
-use Rattle.std.specs.Int.Digits.{digits_of}
 use Rattle.std.proofs.lemmas.Int.Digits.{all_below_base_digits_of, digits_of_step}
-use Rattle.std.proofs.lemmas.Int.Digits.{length-digits_of-le, length-digits_of_step, number_digits_of}
-use Rattle.std.proofs.lemmas.Int.Digits.{number_lt}
+use Rattle.std.proofs.lemmas.Int.Digits.{length-digits_of-le, length-digits_of_step}
+use Rattle.std.proofs.lemmas.Int.Digits.{number_digits_of, number_lt}
 use Rattle.std.proofs.lemmas.List.{length-map, map-append, replicate-append-replicate}
 use Rattle.std.proofs.lemmas.List.{length-replicate}
-use Rattle.std.proofs.Math.Nat.{one-le-pow}
-use Rattle.std.proofs.Math.Bool.{and-false}
+use Rattle.std.proofs.{lemmas.Grind.common_steps, Math.Nat.one-le-pow, Math.Bool.and-false}
+use Rattle.std.specs.{Fmt.digit_glyph, Int.Digits.digits_of}
 use Rattle.interpolator_digits.specs.Digits.{digit_text}
 use Rattle.interpolator_digits.specs.Exponent.{exponent_of, less_zeros, significant_digits}
 use Rattle.interpolator_digits.specs.Exponent.{with_zeros, scientific, rounding}

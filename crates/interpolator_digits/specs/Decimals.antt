@@ -1,12 +1,11 @@
 -- Decimals, which are units of a power of ten below 1: how they are rounded, and their text.
-use Rattle.std.specs.Prelude.{◌≡◌, ◌+◌, ◌-◌, ◌*◌, ◌/◌, ◌%◌, ◌^◌, ℕ, Bool, false, List, []}
-use Rattle.std.specs.Prelude.{◌∷◌, ◌++◌, length, replicate, Option, Some, None, unwrap_or, codes}
+use Rattle.std.specs.Prelude.{◌≡◌, ◌+◌, ◌-◌, ◌*◌, ◌/◌, ◌%◌, ◌^◌, ℕ, Bool, false, List, [], ◌∷◌}
+use Rattle.std.specs.Prelude.{◌++◌, length, replicate, Option, Some, None, unwrap_or, codes}
 use Rattle.std.specs.Prelude.{if◌then◌else◌, ◌==◌, nat_lt}
 use Rattle.std.specs.Str.Parse.{AllDigits, IsNumeral, digits_value}
-use Rattle.interpolator_digits.specs.Characters.{point, zero_digit}
-use Rattle.interpolator_digits.specs.Digits.{digit_text}
 use Rattle.interpolator_digits.specs.Exponent.{exponent_of, exponent_tail, mark, nearest}
 use Rattle.interpolator_digits.specs.Exponent.{scientific, with_point, with_zeros}
+use Rattle.interpolator_digits.specs.{Characters.point, Characters.zero_digit, Digits.digit_text}
 
 -- a number below 10 ^ places by exactly `places` digits
 abbrev pub placed : (places part : ℕ) → List ℕ

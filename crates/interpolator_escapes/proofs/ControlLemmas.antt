@@ -6,43 +6,36 @@ use Rattle.std.specs.Prelude.{⊤}
 use Rattle.std.proofs.lemmas.List.Elements.{filter-append}
 use Rattle.interpolator_render.specs.declared.view.Trait.{Trait}
 use Rattle.interpolator_render.specs.declared.view.Trait.TheVariants as traits
-use Rattle.interpolator_render.specs.declared.view.Spec.{Spec}
-use Rattle.interpolator_render.specs.Padding.{fill_of}
 use Rattle.interpolator_render.specs.Texts.{ViewText, has_text, has_no_text, has_failed, view_text}
-use Rattle.interpolator_render.specs.Views.{Shown}
-use Rattle.interpolator_syntax.specs.Arguments.{Argument, argument_at}
-use Rattle.interpolator_syntax.specs.At.{At, text_of}
-use Rattle.interpolator_syntax.specs.Faults.{Fault}
-use Rattle.interpolator_syntax.specs.Groups.{Group, inside}
+use Rattle.interpolator_render.specs.{declared.view.Spec.Spec, Padding.fill_of, Views.Shown}
 use Rattle.interpolator_syntax.specs.Nodes.{Node, node, Branch, no_branch, branch, Forest, no_nodes}
 use Rattle.interpolator_syntax.specs.Nodes.{nodes_and, as_forest, nodes, Content, text_content}
 use Rattle.interpolator_syntax.specs.Nodes.{argument_content, fault_content, group_branch}
 use Rattle.interpolator_syntax.specs.Nodes.{item_branch, join_branch, piece_node, token_node}
 use Rattle.interpolator_syntax.specs.Nodes.{target_value, target_list}
 use Rattle.interpolator_syntax.specs.Pieces.{argument_from, argument_or_broken, argument_step}
-use Rattle.interpolator_syntax.specs.SpecTexts.{Kind, plain_spec}
 use Rattle.interpolator_syntax.specs.Tokens.{Token, literals, doubled, lone_close, argument}
 use Rattle.interpolator_syntax.specs.Tokens.{first_token, past_token}
+use Rattle.interpolator_syntax.specs.{Arguments.Argument, Arguments.argument_at, At.At, At.text_of}
+use Rattle.interpolator_syntax.specs.{Faults.Fault, Groups.Group, Groups.inside, SpecTexts.Kind}
+use Rattle.interpolator_syntax.specs.SpecTexts.{plain_spec}
 use Rattle.interpolator_syntax.proofs.GrammarArgumentLemmas.{broken_is}
 use Rattle.interpolator_syntax.proofs.NodeLemmas.{by_length, nodes_first, nodes_none}
 use Rattle.interpolator_syntax.proofs.SizeLemmas.{GroupIfIn, KindIn, argument_in}
 use Rattle.interpolator_syntax.proofs.TokenLemmas.{token_shorter, scan_shorter}
 use Rattle.interpolator_syntax.proofs.TokenTextLemmas.{written_text, takes_token, scan_taken}
 use Rattle.interpolator_eval.specs.Slots.{Slots, values_of, items, slot_at}
-use Rattle.interpolator_eval.specs.Meaning.Choices.{chosen_items}
 use Rattle.interpolator_eval.specs.Meaning.Environments.{Environment, slots_under, bind}
-use Rattle.interpolator_eval.specs.Meaning.Meanings.{means}
-use Rattle.interpolator_escapes.specs.Escapes.{is_control, line_escape}
-use Rattle.interpolator_escapes.specs.Lines.{control_step, everywhere}
-use Rattle.interpolator_escapes.specs.Parts.{Part, literal, assembled}
-use Rattle.interpolator_escapes.specs.Formats.{Stays, FillStays, NodeStands, ItemStands}
-use Rattle.interpolator_escapes.specs.Formats.{JoinStands, ForestStands, Stands, escaped_shows}
+use Rattle.interpolator_eval.specs.{Meaning.Choices.chosen_items, Meaning.Meanings.means}
+use Rattle.interpolator_escapes.specs.Formats.{Stays, FillStays, NodeStands, ItemStands, JoinStands}
+use Rattle.interpolator_escapes.specs.Formats.{ForestStands, Stands, escaped_shows}
 use Rattle.interpolator_escapes.specs.FormatParts.{view_parts, found_parts, parts_after}
-use Rattle.interpolator_escapes.specs.FormatParts.{items_parts, list_parts}
-use Rattle.interpolator_escapes.specs.FormatParts.{value_parts, node_parts, join_parts, item_parts}
-use Rattle.interpolator_escapes.specs.FormatParts.{forest_parts, escaped_value}
-use Rattle.interpolator_escapes.specs.Wholes.{escaped_text}
-use Rattle.interpolator_escapes.specs.declared.escape.Escape.TheVariants.{Line}
+use Rattle.interpolator_escapes.specs.FormatParts.{items_parts, list_parts, value_parts, node_parts}
+use Rattle.interpolator_escapes.specs.FormatParts.{join_parts, item_parts, forest_parts}
+use Rattle.interpolator_escapes.specs.FormatParts.{escaped_value}
+use Rattle.interpolator_escapes.specs.{Escapes.is_control, Escapes.line_escape, Lines.control_step}
+use Rattle.interpolator_escapes.specs.{Lines.everywhere, Parts.Part, Parts.literal, Parts.assembled}
+use Rattle.interpolator_escapes.specs.{Wholes.escaped_text, declared.escape.Escape.TheVariants.Line}
 use Rattle.interpolator_escapes.proofs.FormatLemmas.{copies_stay, fill_stays}
 use Rattle.interpolator_escapes.proofs.FormatPartLemmas.{whole-append, escaped_parts}
 use Rattle.interpolator_escapes.proofs.KeepLemmas.{control_read, control_stays, value_controls}

@@ -2,8 +2,7 @@
 use Rattle.std.proofs.Common.{◌≡◌, ◌≤◌, ℕ, ◌<◌, Bool, true, false, ◌||◌, ◌&&◌, not, zero, suc}
 use Rattle.std.proofs.Common.{arith, refl, ◌-◌, ◌+◌, List, get_or, leb, le-leb, max, subst, T, inl}
 use Rattle.std.proofs.Common.{inr, eq-zero-or-pos}
-use Rattle.std.proofs.Math.Nat.{le-max_left, le-max_right}
-use Rattle.std.proofs.lemmas.Bool.{cases_lt}
+use Rattle.std.proofs.{Math.Nat.le-max_left, Math.Nat.le-max_right, lemmas.Bool.cases_lt}
 use lib.Ieee.Fits.{and_l, and_r}
 use Rattle.interpolator_escapes.specs.Search.{ArePlain, may_begin_escaped, doubt, most_plain}
 use Rattle.interpolator_escapes.specs.declared.escape.Escape.{Escape}

@@ -1,22 +1,18 @@
 -- What a writer that escapes has taken, and what the writer below has got.
-use Rattle.std.proofs.Common.{◌≡◌, ℕ, ◌<◌, List, [], ◌∷◌, length, Result, refl, sym, ap, arith}
-use Rattle.std.proofs.Common.{◌∙◌, true, false, nat_lt, ◌==◌, ◌||◌, zero, suc, Option, Some, None}
+use Rattle.std.proofs.Common.{◌≡◌, ℕ, ◌<◌, List, [], ◌∷◌, length, Result, refl, sym, ap, arith, ◌∙◌}
+use Rattle.std.proofs.Common.{true, false, nat_lt, ◌==◌, ◌||◌, zero, suc, Option, Some, None}
 use Rattle.std.proofs.lemmas.Bool.Decides.{nat_tests}
 use Rattle.interpolator_render.specs.Written.{Written, Origin, Layer}
 use Rattle.interpolator_render.specs.Texts.{ViewText, Renders, view_text}
 use Rattle.interpolator_render.specs.declared.view.RenderFault.{RenderFault}
-use Rattle.interpolator_render.specs.declared.view.Trait.{Trait}
-use Rattle.interpolator_render.specs.declared.view.Spec.{Spec}
+use Rattle.interpolator_render.specs.{declared.view.Trait.Trait, declared.view.Spec.Spec}
 use Rattle.interpolator_escapes.specs.Escapes.{escape_of, escaped, line_escape, json_escape}
 use Rattle.interpolator_escapes.specs.Escapes.{is_control}
-use Rattle.interpolator_escapes.specs.Wholes.{escaped_text}
-use Rattle.interpolator_escapes.specs.Passing.{layers, or_refused}
-use Rattle.interpolator_escapes.specs.EscapingWriters.{escaping_written}
-use Rattle.interpolator_escapes.specs.Rooms.{way_of}
-use Rattle.interpolator_escapes.specs.declared.escape.Escape.{Escape}
 use Rattle.interpolator_escapes.specs.declared.escape.Escape.TheVariants.{Line, Html, Csv, Json}
 use Rattle.interpolator_escapes.specs.declared.escape.Escape.TheVariants.{Shell}
-use Rattle.interpolator_escapes.specs.declared.escaping.Escaping.{Escaping}
+use Rattle.interpolator_escapes.specs.declared.{escape.Escape.Escape, escaping.Escaping.Escaping}
+use Rattle.interpolator_escapes.specs.{Wholes.escaped_text, Passing.layers, Passing.or_refused}
+use Rattle.interpolator_escapes.specs.{EscapingWriters.escaping_written, Rooms.way_of}
 use Rattle.interpolator_escapes.proofs.KeepLemmas.{choose}
 use Rattle.interpolator_escapes.proofs.PassingLemmas.{PassedOn, renders_keep, taken}
 

@@ -4,20 +4,17 @@ use Rattle.std.proofs.Common.{Option, Some, None, is_some, if◌then◌else◌}
 use Rattle.std.specs.Float.{Float, Format, nan, inf, fin, float_is_finite}
 use Rattle.interpolator_render.specs.declared.view.Trait.{Trait}
 use Rattle.interpolator_render.specs.declared.view.Trait.TheVariants as traits
-use Rattle.interpolator_render.specs.declared.view.Spec.{Spec}
 use Rattle.interpolator_render.specs.Texts.{ViewText, has_text, has_no_text, has_failed, view_text}
-use Rattle.interpolator_render.specs.Forms.{float_body}
 use Rattle.interpolator_render.specs.Texts.{padded_float}
 use Rattle.interpolator_render.specs.Views.{Shown, signed_number, unsigned_number, truth_value}
 use Rattle.interpolator_render.specs.Views.{decimal_number, float_number, one_character, some_text}
 use Rattle.interpolator_render.specs.Views.{plain_text, nothing_implemented, failure}
-use Rattle.interpolator_syntax.specs.At.{At, text_of}
-use Rattle.interpolator_syntax.specs.Faults.{Fault}
+use Rattle.interpolator_render.specs.{declared.view.Spec.Spec, Forms.float_body}
 use Rattle.interpolator_syntax.specs.Nodes.{Node, node, Branch, no_branch, branch, as_forest}
-use Rattle.interpolator_syntax.specs.Nodes.{Forest, no_nodes, nodes_and, nodes}
-use Rattle.interpolator_syntax.specs.Nodes.{text_content, argument_content, fault_content}
-use Rattle.interpolator_syntax.specs.Nodes.{target_value, target_list}
-use Rattle.interpolator_syntax.specs.SpecTexts.{plain_spec}
+use Rattle.interpolator_syntax.specs.Nodes.{Forest, no_nodes, nodes_and, nodes, text_content}
+use Rattle.interpolator_syntax.specs.Nodes.{argument_content, fault_content, target_value}
+use Rattle.interpolator_syntax.specs.Nodes.{target_list}
+use Rattle.interpolator_syntax.specs.{At.At, At.text_of, Faults.Fault, SpecTexts.plain_spec}
 use Rattle.interpolator_syntax.specs.declared.piece_kind.PieceKind.{PieceKind}
 use Rattle.interpolator_syntax.specs.declared.piece_kind.PieceKind.TheVariants as kinds
 use Rattle.interpolator_syntax.specs.declared.range.Range.{Range}
@@ -27,18 +24,17 @@ use Rattle.interpolator_eval.specs.Meaning.Environments.{Environment, slots_unde
 use Rattle.interpolator_eval.specs.Meaning.Meanings.{Meaning, chain, value_means, view_means}
 use Rattle.interpolator_eval.specs.Meaning.Meanings.{forbids_list, buffered_means, padded_list}
 use Rattle.interpolator_eval.specs.Meaning.Meanings.{items_after, items_mean, under_name}
-use Rattle.interpolator_eval.specs.Meaning.Meanings.{listed_means}
-use Rattle.interpolator_eval.specs.Meaning.Meanings.{and_closed, node_means, join_branch_means}
-use Rattle.interpolator_eval.specs.Meaning.Meanings.{item_branch_means, forest_means, means}
+use Rattle.interpolator_eval.specs.Meaning.Meanings.{listed_means, and_closed, node_means}
+use Rattle.interpolator_eval.specs.Meaning.Meanings.{join_branch_means, item_branch_means}
+use Rattle.interpolator_eval.specs.Meaning.Meanings.{forest_means, means}
 use Rattle.interpolator_escapes.specs.Escapes.{csv_escape, escape_of, json_escape}
 use Rattle.interpolator_escapes.specs.Fields.{field_text, field_view, record_shows}
-use Rattle.interpolator_escapes.specs.Formats.{escaped_shows}
-use Rattle.interpolator_escapes.specs.Plain.{is_debug}
 use Rattle.interpolator_escapes.specs.Wholes.{escaped_text, is_whole, json_null, whole_text}
 use Rattle.interpolator_escapes.specs.Wholes.{whole_view}
-use Rattle.interpolator_escapes.specs.declared.escape.Escape.{Escape}
 use Rattle.interpolator_escapes.specs.declared.escape.Escape.TheVariants.{Line, Html, Csv, Json}
 use Rattle.interpolator_escapes.specs.declared.escape.Escape.TheVariants.{Shell}
+use Rattle.interpolator_escapes.specs.{Formats.escaped_shows, Plain.is_debug}
+use Rattle.interpolator_escapes.specs.declared.escape.Escape.{Escape}
 use Rattle.interpolator_escapes.proofs.WholeLemmas.{plain_shown}
 
 -- a text is there, or why it is not

@@ -2,21 +2,17 @@
 use Rattle.std.proofs.Common.{◌≡◌, ℕ, Bool, true, false, List, [], ◌∷◌, ◌++◌, refl, ap, ◌∙◌, arith}
 use Rattle.std.proofs.Common.{flat_map, map, inl, append-nil, ◌==◌, if◌then◌else◌, Some}
 use Rattle.std.proofs.lemmas.Bool.Decides.{nat_tests}
-use Rattle.interpolator_render.specs.declared.view.Spec.{Spec}
-use Rattle.interpolator_render.specs.declared.view.Trait.{Trait}
-use Rattle.interpolator_render.specs.Texts.{has_text, view_text}
-use Rattle.interpolator_render.specs.Views.{Shown}
+use Rattle.interpolator_render.specs.{declared.view.Spec.Spec, declared.view.Trait.Trait}
+use Rattle.interpolator_render.specs.{Texts.has_text, Texts.view_text, Views.Shown}
 use Rattle.interpolator_escapes.specs.Csv.{CsvState, field_start, bare, quoted, quote_seen}
 use Rattle.interpolator_escapes.specs.Csv.{csv_step, is_csv_place, ends_field}
-use Rattle.interpolator_escapes.specs.Escapes.{csv_escape}
-use Rattle.interpolator_escapes.specs.Fields.{field_text, field_view}
-use Rattle.interpolator_escapes.specs.Plain.{AllPlain, is_plain}
 use Rattle.interpolator_escapes.specs.Readers.{Token, content, structure, state_after, read}
-use Rattle.interpolator_escapes.specs.RecordFormats.{without_quotes}
-use Rattle.interpolator_escapes.specs.Records.{fields_of, quoted_field}
+use Rattle.interpolator_escapes.specs.{Escapes.csv_escape, Fields.field_text, Fields.field_view}
+use Rattle.interpolator_escapes.specs.{Plain.AllPlain, Plain.is_plain, RecordFormats.without_quotes}
+use Rattle.interpolator_escapes.specs.{Records.fields_of, Records.quoted_field}
 use Rattle.interpolator_escapes.proofs.KeepLemmas.{csv_keeps, csv_plain, plain_other}
-use Rattle.interpolator_escapes.proofs.ReaderLemmas.{state-append, read-append}
-use Rattle.interpolator_escapes.proofs.ReaderLemmas.{value_state, value_read}
+use Rattle.interpolator_escapes.proofs.ReaderLemmas.{state-append, read-append, value_state}
+use Rattle.interpolator_escapes.proofs.ReaderLemmas.{value_read}
 use Rattle.interpolator_escapes.proofs.WholeLemmas.{plain_shown}
 
 abbrev pub After : CsvState → List ℕ → CsvState

@@ -1,39 +1,29 @@
 -- A list of whole fields, with a comma between two, is a record.
-use Rattle.std.proofs.Common.{◌≡◌, ℕ, List, [], ◌∷◌, ◌++◌, refl, ap, sym, ◌∙◌}
-use Rattle.std.proofs.Common.{append-nil, map, codes, Option, Some, None}
+use Rattle.std.proofs.Common.{◌≡◌, ℕ, List, [], ◌∷◌, ◌++◌, refl, ap, sym, ◌∙◌, append-nil, map}
+use Rattle.std.proofs.Common.{codes, Option, Some, None}
+use Rattle.interpolator_render.specs.Texts.{ViewText, has_text, has_no_text, has_failed}
 use Rattle.interpolator_render.specs.declared.view.Trait.{Trait}
 use Rattle.interpolator_render.specs.declared.view.Trait.TheVariants.{Debug}
-use Rattle.interpolator_render.specs.declared.view.Spec.{Spec}
-use Rattle.interpolator_render.specs.Texts.{ViewText, has_text, has_no_text, has_failed}
-use Rattle.interpolator_render.specs.Views.{Shown}
-use Rattle.interpolator_syntax.specs.Arguments.{argument_at}
-use Rattle.interpolator_syntax.specs.At.{outermost, text_of}
-use Rattle.interpolator_syntax.specs.Groups.{group_at}
-use Rattle.interpolator_syntax.specs.Lists.{list_at}
-use Rattle.interpolator_syntax.specs.Nodes.{nodes}
-use Rattle.interpolator_syntax.specs.Pieces.{argument_from}
-use Rattle.interpolator_syntax.specs.Ranges.{range_at}
+use Rattle.interpolator_render.specs.{declared.view.Spec.Spec, Views.Shown}
 use Rattle.interpolator_syntax.specs.SpecTexts.{spec_from_sign, spec_after, plain_spec}
-use Rattle.interpolator_syntax.specs.Tokens.{first_token}
+use Rattle.interpolator_syntax.specs.{Arguments.argument_at, At.outermost, At.text_of}
+use Rattle.interpolator_syntax.specs.{Groups.group_at, Lists.list_at, Nodes.nodes}
+use Rattle.interpolator_syntax.specs.{Pieces.argument_from, Ranges.range_at, Tokens.first_token}
 use Rattle.interpolator_eval.specs.Slots.{Slots, values_of, items, slot_at}
-use Rattle.interpolator_eval.specs.Meaning.Choices.{chosen_items}
 use Rattle.interpolator_eval.specs.Meaning.Environments.{Environment, slots_under}
-use Rattle.interpolator_eval.specs.Meaning.Meanings.{means}
+use Rattle.interpolator_eval.specs.{Meaning.Choices.chosen_items, Meaning.Meanings.means}
 use Rattle.interpolator_escapes.specs.Csv.{CsvState, field_start, quote_seen}
 use Rattle.interpolator_escapes.specs.Fields.{field_value, record_shows}
 use Rattle.interpolator_escapes.specs.FormatParts.{as_it_is, found_parts, items_parts, parts_after}
 use Rattle.interpolator_escapes.specs.FormatParts.{value_parts, view_parts}
-use Rattle.interpolator_escapes.specs.Languages.{read_by}
 use Rattle.interpolator_escapes.specs.Parts.{Part, literal}
 use Rattle.interpolator_escapes.specs.RecordFormats.{field_end, fields_format, fields_read}
 use Rattle.interpolator_escapes.specs.RecordFormats.{field_shown, item_field, record_parts}
 use Rattle.interpolator_escapes.specs.RecordFormats.{record_values, StandsAsRecord}
 use Rattle.interpolator_escapes.specs.Records.{fields_of, text_or_empty}
-use Rattle.interpolator_escapes.specs.declared.escape.Escape.TheVariants.{Csv}
-use Rattle.interpolator_escapes.proofs.FieldLemmas.{same_fields}
-use Rattle.interpolator_escapes.proofs.RecordFormatLemmas.{record_read}
-use Rattle.interpolator_escapes.proofs.RecordLemmas.{content_first}
-use Rattle.interpolator_escapes.proofs.RowLemmas.{take_all}
+use Rattle.interpolator_escapes.specs.{Languages.read_by, declared.escape.Escape.TheVariants.Csv}
+use Rattle.interpolator_escapes.proofs.{FieldLemmas.same_fields, RecordFormatLemmas.record_read}
+use Rattle.interpolator_escapes.proofs.{RecordLemmas.content_first, RowLemmas.take_all}
 
 row_stands : StandsAsRecord (outermost fields_format)
 unfolding nodes first_token argument_from argument_at spec_after spec_from_sign list_at range_at

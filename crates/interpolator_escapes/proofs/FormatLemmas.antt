@@ -6,18 +6,15 @@ use Rattle.std.proofs.lemmas.List.{map-append}
 use Rattle.std.specs.Char.{len_utf8}
 use Rattle.interpolator_render.specs.declared.view.Trait.{Trait}
 use Rattle.interpolator_render.specs.declared.view.Trait.TheVariants as traits
-use Rattle.interpolator_render.specs.declared.view.Spec.{Spec}
 use Rattle.interpolator_render.specs.Padding.{fill_of, padded_text}
 use Rattle.interpolator_render.specs.Texts.{ViewText, has_text, has_no_text, has_failed, view_text}
-use Rattle.interpolator_render.specs.Views.{Shown}
-use Rattle.interpolator_syntax.specs.At.{At, text_of, placed_at, placed_from}
-use Rattle.interpolator_syntax.specs.Faults.{Fault}
+use Rattle.interpolator_render.specs.{declared.view.Spec.Spec, Views.Shown}
 use Rattle.interpolator_syntax.specs.Nodes.{Node, node, Branch, no_branch, branch, as_forest}
-use Rattle.interpolator_syntax.specs.Nodes.{Forest, no_nodes, nodes_and, nodes}
-use Rattle.interpolator_syntax.specs.Nodes.{text_content, argument_content, fault_content}
-use Rattle.interpolator_syntax.specs.Nodes.{target_value, target_list}
-use Rattle.interpolator_syntax.specs.SpecTexts.{plain_spec}
-use Rattle.interpolator_syntax.specs.declared.piece_kind.PieceKind.{PieceKind}
+use Rattle.interpolator_syntax.specs.Nodes.{Forest, no_nodes, nodes_and, nodes, text_content}
+use Rattle.interpolator_syntax.specs.Nodes.{argument_content, fault_content, target_value}
+use Rattle.interpolator_syntax.specs.Nodes.{target_list}
+use Rattle.interpolator_syntax.specs.{At.At, At.text_of, At.placed_at, At.placed_from, Faults.Fault}
+use Rattle.interpolator_syntax.specs.{SpecTexts.plain_spec, declared.piece_kind.PieceKind.PieceKind}
 use Rattle.interpolator_syntax.specs.declared.piece_kind.PieceKind.TheVariants as kinds
 use Rattle.interpolator_syntax.specs.declared.range.Range.{Range}
 use Rattle.interpolator_eval.specs.Slots.{Slots, values_of, items, slot_at}
@@ -29,14 +26,13 @@ use Rattle.interpolator_eval.specs.Meaning.Meanings.{padded_list, items_after, i
 use Rattle.interpolator_eval.specs.Meaning.Meanings.{under_name, listed_means, and_closed}
 use Rattle.interpolator_eval.specs.Meaning.Meanings.{node_means, join_branch_means}
 use Rattle.interpolator_eval.specs.Meaning.Meanings.{item_branch_means, forest_means, means}
-use Rattle.interpolator_escapes.specs.Escapes.{escape_of}
-use Rattle.interpolator_escapes.specs.Parts.{MayStand}
 use Rattle.interpolator_escapes.specs.Readers.{Token, structure_of, state_after, read, KeepsPlaces}
 use Rattle.interpolator_escapes.specs.Readers.{KeepsPlain}
 use Rattle.interpolator_escapes.specs.Formats.{shows_nothing, Stays, StayInPlaces, FillStays}
 use Rattle.interpolator_escapes.specs.Formats.{NodeStands, ItemStands, JoinStands, ForestStands}
 use Rattle.interpolator_escapes.specs.Formats.{Stands, escaped_shows, structure_from}
 use Rattle.interpolator_escapes.specs.Wholes.{escaped_text, is_whole, whole_text, whole_view}
+use Rattle.interpolator_escapes.specs.{Escapes.escape_of, Parts.MayStand}
 use Rattle.interpolator_escapes.specs.declared.escape.Escape.{Escape}
 use Rattle.interpolator_escapes.proofs.ReaderLemmas.{structure-append, state-append, read-append}
 use Rattle.interpolator_escapes.proofs.ReaderLemmas.{value_state, value_read, structure-content}

@@ -2,24 +2,20 @@
 use Rattle.std.proofs.Common.{◌≡◌, ℕ, Bool, true, false, List, [], ◌∷◌, ◌++◌, refl, ap, sym, ◌∙◌}
 use Rattle.std.proofs.Common.{Option, Some, None, is_some, replicate, arith, flat_map, append-nil}
 use Rattle.std.proofs.Common.{if◌then◌else◌, inl}
+use Rattle.std.proofs.{lemmas.List.map-append, lemmas.List.Concat.flat_map-append}
 use Rattle.std.specs.Float.{float_is_finite}
-use Rattle.std.proofs.lemmas.List.{map-append}
-use Rattle.std.proofs.lemmas.List.Concat.{flat_map-append}
 use Rattle.interpolator_render.specs.declared.view.Trait.{Trait}
 use Rattle.interpolator_render.specs.declared.view.Trait.TheVariants as traits
-use Rattle.interpolator_render.specs.declared.view.Spec.{Spec}
-use Rattle.interpolator_render.specs.Padding.{fill_of, padded_text}
 use Rattle.interpolator_render.specs.Texts.{ViewText, has_text, has_no_text, has_failed, view_text}
 use Rattle.interpolator_render.specs.Views.{Shown, signed_number, unsigned_number, truth_value}
 use Rattle.interpolator_render.specs.Views.{decimal_number, float_number, one_character, some_text}
 use Rattle.interpolator_render.specs.Views.{plain_text, nothing_implemented, failure}
-use Rattle.interpolator_syntax.specs.At.{At, text_of}
-use Rattle.interpolator_syntax.specs.Faults.{Fault}
+use Rattle.interpolator_render.specs.{declared.view.Spec.Spec, Padding.fill_of, Padding.padded_text}
 use Rattle.interpolator_syntax.specs.Nodes.{Node, node, Branch, no_branch, branch, as_forest}
-use Rattle.interpolator_syntax.specs.Nodes.{Forest, no_nodes, nodes_and, nodes}
-use Rattle.interpolator_syntax.specs.Nodes.{text_content, argument_content, fault_content}
-use Rattle.interpolator_syntax.specs.Nodes.{target_value, target_list}
-use Rattle.interpolator_syntax.specs.SpecTexts.{plain_spec}
+use Rattle.interpolator_syntax.specs.Nodes.{Forest, no_nodes, nodes_and, nodes, text_content}
+use Rattle.interpolator_syntax.specs.Nodes.{argument_content, fault_content, target_value}
+use Rattle.interpolator_syntax.specs.Nodes.{target_list}
+use Rattle.interpolator_syntax.specs.{At.At, At.text_of, Faults.Fault, SpecTexts.plain_spec}
 use Rattle.interpolator_syntax.specs.declared.piece_kind.PieceKind.{PieceKind}
 use Rattle.interpolator_syntax.specs.declared.piece_kind.PieceKind.TheVariants as kinds
 use Rattle.interpolator_syntax.specs.declared.range.Range.{Range}
@@ -50,8 +46,7 @@ use Rattle.interpolator_escapes.specs.declared.escape.Escape.TheVariants.{Line, 
 use Rattle.interpolator_escapes.specs.declared.escape.Escape.TheVariants.{Shell}
 use Rattle.interpolator_escapes.proofs.FormatLemmas.{text_of_placed_at, text_of_placed_from}
 use Rattle.interpolator_escapes.proofs.FormatLemmas.{copies_stay, fill_stays}
-use Rattle.interpolator_escapes.proofs.ReaderLemmas.{parts_read}
-use Rattle.interpolator_escapes.proofs.WholeLemmas.{plain_shown}
+use Rattle.interpolator_escapes.proofs.{ReaderLemmas.parts_read, WholeLemmas.plain_shown}
 
 -- ---- the text of a meaning
 

@@ -2,32 +2,27 @@
 use Rattle.std.proofs.Common.{◌≡◌, ℕ, Bool, true, false, List, [], ◌∷◌, refl, sym, ◌∙◌, arith}
 use Rattle.std.proofs.Common.{Option, Some, None, is_some, length, ◌≤◌, ◌*◌, flat_map}
 use Rattle.std.proofs.Common.{length-append, ◌++◌, ◌<◌, ◌+◌, codes, if◌then◌else◌}
-use Rattle.std.proofs.lemmas.Bool.Decides.{nat_tests}
-use Rattle.std.proofs.lemmas.List.{length-map}
+use Rattle.std.proofs.{lemmas.Bool.Decides.nat_tests, lemmas.List.length-map}
 use Rattle.interpolator_render.specs.declared.view.Trait.{Trait}
 use Rattle.interpolator_render.specs.declared.view.Trait.TheVariants as traits
-use Rattle.interpolator_render.specs.declared.view.Spec.{Spec}
 use Rattle.interpolator_render.specs.Texts.{ViewText, has_text, has_no_text, has_failed, view_text}
-use Rattle.std.specs.Float.{Float, Format, nan, inf, fin, float_is_finite}
+use Rattle.interpolator_render.specs.Texts.{padded_float}
 use Rattle.interpolator_render.specs.Characters.{double_quote, single_quote}
-use Rattle.interpolator_render.specs.Forms.{float_body}
-use Rattle.interpolator_render.specs.Numbers.{sign_text}
 use Rattle.interpolator_render.specs.Quoting.{escape_by, escape_letter, quotation}
 use Rattle.interpolator_render.specs.Quoting.{escape_of as quote_escape}
-use Rattle.interpolator_render.specs.Texts.{padded_float}
 use Rattle.interpolator_render.specs.Views.{Shown, signed_number, unsigned_number, truth_value}
 use Rattle.interpolator_render.specs.Views.{decimal_number, float_number, one_character, some_text}
 use Rattle.interpolator_render.specs.Views.{plain_text, nothing_implemented, failure}
-use Rattle.interpolator_syntax.specs.At.{At, text_of}
-use Rattle.interpolator_syntax.specs.Faults.{Fault}
+use Rattle.interpolator_render.specs.{declared.view.Spec.Spec, Forms.float_body, Numbers.sign_text}
+use Rattle.std.specs.Float.{Float, Format, nan, inf, fin, float_is_finite}
 use Rattle.interpolator_syntax.specs.Nodes.{Node, node, Branch, no_branch, branch, as_forest}
-use Rattle.interpolator_syntax.specs.Nodes.{Forest, no_nodes, nodes_and, nodes}
-use Rattle.interpolator_syntax.specs.Nodes.{text_content, argument_content, fault_content}
-use Rattle.interpolator_syntax.specs.Nodes.{target_value, target_list}
-use Rattle.interpolator_syntax.specs.SpecTexts.{plain_spec}
+use Rattle.interpolator_syntax.specs.Nodes.{Forest, no_nodes, nodes_and, nodes, text_content}
+use Rattle.interpolator_syntax.specs.Nodes.{argument_content, fault_content, target_value}
+use Rattle.interpolator_syntax.specs.Nodes.{target_list}
+use Rattle.interpolator_syntax.specs.{At.At, At.text_of, Faults.Fault, SpecTexts.plain_spec}
 use Rattle.interpolator_syntax.specs.declared.piece_kind.PieceKind.{PieceKind}
 use Rattle.interpolator_syntax.specs.declared.piece_kind.PieceKind.TheVariants as kinds
-use Rattle.interpolator_syntax.specs.declared.range.Range.{Range}
+use Rattle.interpolator_syntax.specs.{declared.range.Range.Range, At.placed_at}
 use Rattle.interpolator_eval.specs.Slots.{Slots, values_of, items, slot_at}
 use Rattle.interpolator_eval.specs.Meaning.Choices.{chosen_items}
 use Rattle.interpolator_eval.specs.Meaning.Environments.{Environment, slots_under, bind}
@@ -39,18 +34,15 @@ use Rattle.interpolator_eval.specs.Meaning.Meanings.{join_branch_means, item_bra
 use Rattle.interpolator_eval.specs.Meaning.Meanings.{forest_means, means, or_fault}
 use Rattle.interpolator_render.specs.Padding.{padded_text, padded_number}
 use Rattle.interpolator_render.proofs.LawLemmas.{padded_text_count, padded_number_count}
-use Rattle.interpolator_syntax.specs.At.{placed_at}
 use Rattle.std.proofs.Common.{◌==◌, ◌||◌, nat_lt}
 use Rattle.interpolator_escapes.specs.Escapes.{escape_of, line_escape, json_escape, is_control}
-use Rattle.interpolator_escapes.proofs.KeepLemmas.{choose}
-use Rattle.interpolator_escapes.specs.declared.escape.Escape.{Escape}
 use Rattle.interpolator_escapes.specs.declared.escape.Escape.TheVariants.{Line, Html, Csv, Json}
 use Rattle.interpolator_escapes.specs.declared.escape.Escape.TheVariants.{Shell}
-use Rattle.interpolator_escapes.specs.Formats.{escaped_shows}
 use Rattle.interpolator_escapes.specs.Growth.{in_quotes, with_quotes}
 use Rattle.interpolator_escapes.specs.Wholes.{escaped_text, is_whole, json_null, json_string}
 use Rattle.interpolator_escapes.specs.Wholes.{whole_text, whole_view}
-use Rattle.interpolator_escapes.proofs.FaultLemmas.{debug_is}
+use Rattle.interpolator_escapes.specs.{declared.escape.Escape.Escape, Formats.escaped_shows}
+use Rattle.interpolator_escapes.proofs.{KeepLemmas.choose, FaultLemmas.debug_is}
 use Rattle.interpolator_escapes.proofs.WholeLemmas.{plain_shown}
 
 -- a text of at most six characters
@@ -86,9 +78,6 @@ escape_six Shell c = grind (arith, nat_tests)
 -- the fault is the same, and the text at most six times as long
 abbrev Six : Meaning → Meaning → Type 0
 Six m k = (m.fault ≡ k.fault) × (length m.text ≤ 6 * length k.text)
-
-six_itself : (m : Meaning) → Six m m
-six_itself m = (refl, omega arith)
 
 six_by : (m k n l : Meaning) (o : Option Fault) → m.fault ≡ o → Six m k → Six n l
     → Six (or_fault o m n) (chain k l)

@@ -4,9 +4,8 @@ use seplogic.Ra.Ura.{Ura}
 use mir.Val.{Val, vstruct, vcons, vnil}
 use types.Logic.{Logic}
 use types.Kit.{Goal, Step, step, Item, ‵, ◌$◌, move, fjoin, fpack, feq_i}
-use denote.RattleType.{RattleType, Valss}
-use denote.Steps.{nothing}
-use denote.Struct.Struct.{Struct, within}
+use denote.{RattleType.RattleType, RattleType.Valss, Steps.nothing, Struct.Struct.Struct}
+use denote.Struct.Struct.{within}
 
 -- a struct by its fields alone: what it owns does not read its name
 abbrev pub plainly : List RattleType → RattleType

@@ -1,15 +1,14 @@
 -- References of HTML have no structure, and each phase has states of its own.
-use Rattle.std.proofs.Common.{◌≡◌, ℕ, true, false, List, [], ◌∷◌, ◌++◌, refl, arith, map}
-use Rattle.std.proofs.Common.{sym, ap, ◌∙◌}
-use Rattle.interpolator_escapes.specs.Readers.{Token, content}
-use Rattle.interpolator_escapes.specs.CodeReaders.{has_structure}
-use Rattle.interpolator_escapes.specs.Html.{reference_meaning}
-use Rattle.interpolator_escapes.specs.CodeHtml.{html_state, html_state_in}
-use Rattle.interpolator_escapes.specs.Html.{in_text, in_value, HtmlState, in_base}
-use Rattle.interpolator_escapes.specs.Html.{in_reference, opened, closing, marked, marked_dash}
-use Rattle.interpolator_escapes.specs.Html.{declared, comment, comment_dash, comment_dashes, named}
-use Rattle.interpolator_escapes.specs.Html.{spaced, in_name, after_name, before_value}
-use Rattle.interpolator_escapes.specs.Html.{in_bare_value, in_raw, raw_opened, raw_closing, lost}
+use Rattle.std.proofs.Common.{◌≡◌, ℕ, true, false, List, [], ◌∷◌, ◌++◌, refl, arith, map, sym, ap}
+use Rattle.std.proofs.Common.{◌∙◌}
+use Rattle.interpolator_escapes.specs.Html.{reference_meaning, in_text, in_value, HtmlState}
+use Rattle.interpolator_escapes.specs.Html.{in_base, in_reference, opened, closing, marked}
+use Rattle.interpolator_escapes.specs.Html.{marked_dash, declared, comment, comment_dash}
+use Rattle.interpolator_escapes.specs.Html.{comment_dashes, named, spaced, in_name, after_name}
+use Rattle.interpolator_escapes.specs.Html.{before_value, in_bare_value, in_raw, raw_opened}
+use Rattle.interpolator_escapes.specs.Html.{raw_closing, lost}
+use Rattle.interpolator_escapes.specs.{Readers.Token, Readers.content, CodeReaders.has_structure}
+use Rattle.interpolator_escapes.specs.{CodeHtml.html_state, CodeHtml.html_state_in}
 use Rattle.interpolator_escapes.specs.declared.readers.html.HtmlReader.{HtmlReader}
 use Rattle.interpolator_escapes.specs.declared.readers.html.names.Phase.{Phase}
 use Rattle.interpolator_escapes.specs.declared.readers.html.names.Phase.TheVariants as phases

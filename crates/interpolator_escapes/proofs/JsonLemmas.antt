@@ -2,32 +2,28 @@
 use Rattle.std.proofs.Common.{◌≡◌, ℕ, Bool, true, false, List, [], ◌∷◌, ◌++◌, refl, ◌∙◌, ap, Option}
 use Rattle.std.proofs.Common.{Some, None, append_assoc, flat_map, map, inl, inr, if◌then◌else◌}
 use Rattle.std.specs.Float.{float_is_finite}
-use Rattle.interpolator_render.specs.declared.view.Spec.{Spec}
-use Rattle.interpolator_render.specs.declared.view.Trait.{Trait}
 use Rattle.interpolator_render.specs.declared.view.Trait.TheVariants.{Debug, Display}
 use Rattle.interpolator_render.specs.Texts.{ViewText, has_text, view_text}
 use Rattle.interpolator_render.specs.Views.{Shown, signed_number, unsigned_number, truth_value}
 use Rattle.interpolator_render.specs.Views.{decimal_number, float_number, one_character, some_text}
 use Rattle.interpolator_render.specs.Views.{plain_text, nothing_implemented, failure}
+use Rattle.interpolator_render.specs.{declared.view.Spec.Spec, declared.view.Trait.Trait}
 use Rattle.interpolator_syntax.specs.SpecTexts.{plain_spec}
-use Rattle.interpolator_escapes.specs.Escapes.{json_escape}
-use Rattle.interpolator_escapes.specs.Formats.{Stays}
 use Rattle.interpolator_escapes.specs.FormatParts.{view_parts, string_parts, whole_parts}
 use Rattle.interpolator_escapes.specs.Json.{JsonState, between, in_string, after_slash, in_code}
 use Rattle.interpolator_escapes.specs.Json.{json_step, is_json_place}
 use Rattle.interpolator_escapes.specs.Parts.{Part, value, MayStand}
-use Rattle.interpolator_escapes.specs.Plain.{is_bare}
 use Rattle.interpolator_escapes.specs.Readers.{content, structure_of, state_after, read}
-use Rattle.interpolator_escapes.specs.Wholes.{is_whole, json_null, json_string}
-use Rattle.interpolator_escapes.specs.Wholes.{whole_text, whole_view}
+use Rattle.interpolator_escapes.specs.Wholes.{is_whole, json_null, json_string, whole_text}
+use Rattle.interpolator_escapes.specs.Wholes.{whole_view}
+use Rattle.interpolator_escapes.specs.{Escapes.json_escape, Formats.Stays, Plain.is_bare}
 use Rattle.interpolator_escapes.specs.declared.escape.Escape.TheVariants.{Json}
-use Rattle.interpolator_escapes.proofs.FormatLemmas.{view_quiet}
 use Rattle.interpolator_escapes.proofs.FormatPartLemmas.{Leads, view_leads}
 use Rattle.interpolator_escapes.proofs.KeepLemmas.{json_keeps, json_plain}
 use Rattle.interpolator_escapes.proofs.PlainLemmas.{PlainView, plain_view}
 use Rattle.interpolator_escapes.proofs.ReaderLemmas.{state-append, read-append, structure-append}
 use Rattle.interpolator_escapes.proofs.ReaderLemmas.{structure-content, value_state, value_read}
-use Rattle.interpolator_escapes.proofs.WholeLemmas.{plain_shown}
+use Rattle.interpolator_escapes.proofs.{FormatLemmas.view_quiet, WholeLemmas.plain_shown}
 
 -- ---- places
 

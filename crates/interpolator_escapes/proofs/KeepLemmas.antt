@@ -1,18 +1,15 @@
 -- Each escape keeps the places of its reader.
-use Rattle.std.proofs.Common.{◌≡◌, ℕ, true, false, List, [], ◌∷◌, refl, arith, ◌<◌}
-use Rattle.std.proofs.Common.{◌/◌, ◌%◌, ◌*◌, ◌+◌, ◌==◌, ◌||◌, nat_lt, if◌then◌else◌, Bool}
-use Rattle.std.specs.Char.{digit_value, digit_char}
-use Rattle.std.proofs.Common.{filter, flat_map, ◌∙◌, ◌++◌, ap}
-use Rattle.std.proofs.lemmas.Bool.Decides.{nat_tests}
-use Rattle.std.proofs.lemmas.List.Elements.{filter-append}
+use Rattle.std.proofs.Common.{◌≡◌, ℕ, true, false, List, [], ◌∷◌, refl, arith, ◌<◌, ◌/◌, ◌%◌, ◌*◌}
+use Rattle.std.proofs.Common.{◌+◌, ◌==◌, ◌||◌, nat_lt, if◌then◌else◌, Bool, filter, flat_map, ◌∙◌}
+use Rattle.std.proofs.Common.{◌++◌, ap}
+use Rattle.std.proofs.{lemmas.Bool.Decides.nat_tests, lemmas.List.Elements.filter-append}
 use Rattle.std.proofs.lemmas.Str.{digit_value-digit_char}
+use Rattle.std.specs.Char.{digit_value, digit_char}
 use Rattle.interpolator_escapes.specs.Escapes.{hex_digit, two_digits, four_digits, is_control}
 use Rattle.interpolator_escapes.specs.Escapes.{line_escape, control_escape, html_escape, csv_escape}
 use Rattle.interpolator_escapes.specs.Escapes.{json_escape, shell_escape}
-use Rattle.interpolator_escapes.specs.Plain.{is_plain}
 use Rattle.interpolator_escapes.specs.Readers.{KeepsPlaces, KeepsPlain, state_after, read, content}
 use Rattle.interpolator_escapes.specs.Readers.{Token, structure_of}
-use Rattle.interpolator_escapes.specs.Formats.{Stays}
 use Rattle.interpolator_escapes.specs.Lines.{control_step, line_step, is_line_place, in_line}
 use Rattle.interpolator_escapes.specs.Lines.{after_slash, in_code, code_step}
 use Rattle.interpolator_escapes.specs.Html.{html_step, is_html_place, in_base, in_text, in_value}
@@ -21,14 +18,14 @@ use Rattle.interpolator_escapes.specs.Html.{in_reference, closing, marked, marke
 use Rattle.interpolator_escapes.specs.Html.{comment, comment_dash, comment_dashes, named, spaced}
 use Rattle.interpolator_escapes.specs.Html.{in_name, after_name, before_value, in_bare_value}
 use Rattle.interpolator_escapes.specs.Html.{in_raw, raw_opened, raw_closing, lost}
-use Rattle.interpolator_escapes.specs.Csv.{csv_step, is_csv_place, field_start, bare, quoted}
-use Rattle.interpolator_escapes.specs.Csv.{quote_seen}
 use Rattle.interpolator_escapes.specs.Json.{JsonState, json_step, is_json_place, between, in_string}
 use Rattle.interpolator_escapes.specs.Json.{after_slash as json_slash, in_code as json_code}
 use Rattle.interpolator_escapes.specs.Json.{code_step as json_code_step}
-use Rattle.interpolator_escapes.specs.Shell.{shell_step, is_shell_place, outside}
-use Rattle.interpolator_escapes.specs.Shell.{single_quoted as shell_quoted, elsewhere}
-use Rattle.interpolator_escapes.specs.Shell.{after_slash as shell_slash}
+use Rattle.interpolator_escapes.specs.{Plain.is_plain, Formats.Stays, Csv.csv_step}
+use Rattle.interpolator_escapes.specs.{Csv.is_csv_place, Csv.field_start, Csv.bare, Csv.quoted}
+use Rattle.interpolator_escapes.specs.{Csv.quote_seen, Shell.shell_step, Shell.is_shell_place}
+use Rattle.interpolator_escapes.specs.{Shell.outside, Shell.single_quoted as shell_quoted}
+use Rattle.interpolator_escapes.specs.{Shell.elsewhere, Shell.after_slash as shell_slash}
 
 -- a digit is no control, and reads as its number
 pub digit_read : (n : ℕ) → n < 16

@@ -1,25 +1,19 @@
 -- The reader of each escape keeps the places of its escape.
 use Rattle.std.proofs.Common.{◌≡◌, true, false}
-use Rattle.interpolator_render.specs.declared.view.Spec.{Spec}
-use Rattle.interpolator_render.specs.declared.view.Trait.{Trait}
-use Rattle.interpolator_render.specs.declared.view.Trait.TheVariants.{Display}
-use Rattle.interpolator_render.specs.Views.{Shown}
-use Rattle.interpolator_syntax.specs.At.{At}
-use Rattle.interpolator_syntax.specs.SpecTexts.{plain_spec}
-use Rattle.interpolator_escapes.specs.Escapes.{escape_of}
-use Rattle.interpolator_escapes.specs.FormatParts.{whole_parts}
+use Rattle.interpolator_render.specs.{declared.view.Spec.Spec, declared.view.Trait.Trait}
+use Rattle.interpolator_render.specs.{declared.view.Trait.TheVariants.Display, Views.Shown}
+use Rattle.interpolator_syntax.specs.{At.At, SpecTexts.plain_spec}
 use Rattle.interpolator_escapes.specs.Languages.{language, PairedIn, StandsIn}
-use Rattle.interpolator_escapes.specs.Placing.{StandsFor}
-use Rattle.interpolator_escapes.specs.Readers.{KeepsPlaces, KeepsPlain}
-use Rattle.interpolator_escapes.specs.Wholes.{is_whole}
-use Rattle.interpolator_escapes.specs.declared.escape.Escape.{Escape}
 use Rattle.interpolator_escapes.specs.declared.escape.Escape.TheVariants.{Line, Html, Csv, Json}
 use Rattle.interpolator_escapes.specs.declared.escape.Escape.TheVariants.{Shell}
+use Rattle.interpolator_escapes.specs.{Escapes.escape_of, FormatParts.whole_parts}
+use Rattle.interpolator_escapes.specs.{Placing.StandsFor, Readers.KeepsPlaces, Readers.KeepsPlain}
+use Rattle.interpolator_escapes.specs.{Wholes.is_whole, declared.escape.Escape.Escape}
 use Rattle.interpolator_escapes.proofs.FormatPartLemmas.{Leads}
 use Rattle.interpolator_escapes.proofs.JsonLemmas.{json_inner, whole_leads}
 use Rattle.interpolator_escapes.proofs.KeepLemmas.{line_keeps, html_keeps, csv_keeps, json_keeps}
-use Rattle.interpolator_escapes.proofs.KeepLemmas.{shell_keeps, line_plain, html_plain, csv_plain, json_plain}
-use Rattle.interpolator_escapes.proofs.KeepLemmas.{shell_plain}
+use Rattle.interpolator_escapes.proofs.KeepLemmas.{shell_keeps, line_plain, html_plain, csv_plain}
+use Rattle.interpolator_escapes.proofs.KeepLemmas.{json_plain, shell_plain}
 
 pub keeps : (escape : Escape)
     → KeepsPlaces (language escape).step (language escape).is_place (escape_of escape)

@@ -1,15 +1,13 @@
 -- The marks of a block, computed lane by lane, and how far a block is plain.
-use Rattle.std.proofs.Common.{◌≡◌, ℕ, ◌^◌, ◌%◌, ◌≤◌, ◌<◌, ◌+◌, Bool, true, not, List, []}
-use Rattle.std.proofs.Common.{◌∷◌, map, length, get_or, replicate, arith, refl, ap, ap₂, ◌∙◌, subst}
-use Rattle.std.proofs.Common.{cond, eqb, ltb, leb, bit_or, inl, inr}
-use Rattle.std.specs.List.{prefix_len}
-use Rattle.std.proofs.lemmas.Bool.{agree_below, agree_below_at, cases_lt}
+use Rattle.std.proofs.Common.{◌≡◌, ℕ, ◌^◌, ◌%◌, ◌≤◌, ◌<◌, ◌+◌, Bool, true, not, List, [], ◌∷◌, map}
+use Rattle.std.proofs.Common.{length, get_or, replicate, arith, refl, ap, ap₂, ◌∙◌, subst, cond}
+use Rattle.std.proofs.Common.{eqb, ltb, leb, bit_or, inl, inr}
 use Rattle.std.proofs.lemmas.Simd.{zip2_of_maps, zip2_splat, splat_is_map, mask_l-mod}
 use Rattle.std.proofs.lemmas.Simd.{run_in_chunk_fails, run_in_chunk_stops}
-use Rattle.std.proofs.lemmas.List.{length-map}
+use Rattle.std.proofs.lemmas.{Bool.agree_below, Bool.agree_below_at, Bool.cases_lt, List.length-map}
+use Rattle.std.specs.List.{prefix_len}
 use lib.Lanes.{Each1, zip2, mask_l, top, chunk}
-use mir.Syntax.{w8}
-use mir.Val.{Fits}
+use mir.{Syntax.w8, Val.Fits}
 use Rattle.interpolator_escapes.specs.Search.{may_begin_escaped, ArePlain}
 use Rattle.interpolator_escapes.specs.declared.escape.Escape.{Escape}
 

@@ -1,16 +1,14 @@
 -- Whatever the escape, a format has the same values in its parts.
 use Rattle.std.proofs.Common.{◌≡◌, ℕ, Bool, true, false, List, [], ◌∷◌, ◌++◌, refl, ap, sym, ◌∙◌}
 use Rattle.std.proofs.Common.{Option, Some, None, is_some, append-nil}
-use Rattle.interpolator_render.specs.declared.view.Trait.{Trait}
-use Rattle.interpolator_render.specs.declared.view.Spec.{Spec}
+use Rattle.interpolator_render.specs.{declared.view.Trait.Trait, declared.view.Spec.Spec}
 use Rattle.interpolator_syntax.specs.At.{At}
 use Rattle.interpolator_syntax.specs.Nodes.{Node, node, Branch, no_branch, branch, as_forest}
-use Rattle.interpolator_syntax.specs.Nodes.{Forest, no_nodes, nodes_and, nodes}
-use Rattle.interpolator_syntax.specs.Nodes.{text_content, argument_content, fault_content}
-use Rattle.interpolator_syntax.specs.Nodes.{target_value, target_list}
-use Rattle.interpolator_eval.specs.Slots.{Slots, items}
-use Rattle.interpolator_eval.specs.Meaning.Choices.{chosen_items}
+use Rattle.interpolator_syntax.specs.Nodes.{Forest, no_nodes, nodes_and, nodes, text_content}
+use Rattle.interpolator_syntax.specs.Nodes.{argument_content, fault_content, target_value}
+use Rattle.interpolator_syntax.specs.Nodes.{target_list}
 use Rattle.interpolator_eval.specs.Meaning.Environments.{Environment, slots_under, bind}
+use Rattle.interpolator_eval.specs.{Slots.Slots, Slots.items, Meaning.Choices.chosen_items}
 use Rattle.interpolator_escapes.specs.Parts.{Part, literal, value, values_in}
 use Rattle.interpolator_escapes.specs.FormatParts.{found_parts, parts_after, items_parts}
 use Rattle.interpolator_escapes.specs.FormatParts.{padded_parts, list_parts, node_parts, join_parts}

@@ -2,16 +2,13 @@
 use Rattle.std.proofs.Common.{◌≡◌, ℕ, ◌<◌, Bool, true, false, List, [], ◌∷◌, ◌++◌, length, Result}
 use Rattle.std.proofs.Common.{Ok, Err, refl, sym, ap, ◌∙◌, arith, append_assoc, append-nil}
 use Rattle.std.proofs.Common.{length-append, take, drop, flat_map, inr, take-append-drop}
-use Rattle.std.proofs.lemmas.List.{length-drop}
-use Rattle.std.proofs.lemmas.Grind.{flat_map-append}
+use Rattle.std.proofs.{lemmas.List.length-drop, lemmas.Grind.flat_map-append}
 use Rattle.interpolator_render.specs.Written.{Written, Appends, AppendsBeginning}
 use Rattle.interpolator_render.specs.Texts.{ViewText, has_text, view_text, Renders}
 use Rattle.interpolator_render.specs.declared.view.RenderFault.{RenderFault}
 use Rattle.interpolator_render.specs.declared.view.RenderFault.TheVariants.{Refused}
-use Rattle.interpolator_render.specs.declared.view.Trait.{Trait}
-use Rattle.interpolator_render.specs.declared.view.Spec.{Spec}
-use Rattle.interpolator_render.specs.declared.view.Trait.TheVariants.{Display}
-use Rattle.interpolator_render.specs.Views.{some_text}
+use Rattle.interpolator_render.specs.{declared.view.Trait.Trait, declared.view.Spec.Spec}
+use Rattle.interpolator_render.specs.{declared.view.Trait.TheVariants.Display, Views.some_text}
 use Rattle.interpolator_syntax.specs.SpecTexts.{plain_spec}
 use Rattle.interpolator_render.proofs.LayoutLemmas.{first_size-append}
 use Rattle.interpolator_render.proofs.RenderingLemmas.{plain_text as displayed_plainly}

@@ -1,33 +1,29 @@
 -- The first value that does not stand.
 use Rattle.std.proofs.Common.{◌≡◌, ℕ, suc, Bool, true, false, refl, sym, subst, ap, ◌∙◌, inl, inr}
-use Rattle.std.proofs.Common.{Result, Ok, Err, ◌<◌, arith, length}
-use Rattle.std.proofs.Common.{List, [], ◌∷◌, ◌++◌, Option, Some, None, IsSome, option_map}
+use Rattle.std.proofs.Common.{Result, Ok, Err, ◌<◌, arith, length, List, [], ◌∷◌, ◌++◌, Option}
+use Rattle.std.proofs.Common.{Some, None, IsSome, option_map}
 use Rattle.interpolator_syntax.specs.Nodes.{Node, node, Branch, no_branch, branch, Forest, no_nodes}
 use Rattle.interpolator_syntax.specs.Nodes.{nodes_and, text_content, argument_content}
 use Rattle.interpolator_syntax.specs.Nodes.{fault_content, target_value, target_list, Content}
 use Rattle.interpolator_syntax.specs.Nodes.{Target}
+use Rattle.interpolator_syntax.specs.declared.argument_fault.ArgumentFault.{ArgumentFault}
+use Rattle.interpolator_syntax.specs.declared.{piece_kind.PieceKind.PieceKind, range.Range.Range}
+use Rattle.interpolator_syntax.specs.SpecTexts.{plain_spec}
 use Rattle.interpolator_escapes.specs.Readers.{Token, content, structure, structure_of, state_after}
 use Rattle.interpolator_escapes.specs.CodeReaders.{has_structure}
-use Rattle.interpolator_escapes.specs.Formats.{Stays}
-use Rattle.interpolator_escapes.specs.Formats.{NodeStands, ItemStands, JoinStands, ForestStands}
+use Rattle.interpolator_escapes.specs.Formats.{Stays, NodeStands, ItemStands, JoinStands}
+use Rattle.interpolator_escapes.specs.Formats.{ForestStands}
 use Rattle.interpolator_escapes.specs.Placing.{NodeFails, ItemFails, JoinFails, ForestFails}
 use Rattle.interpolator_escapes.specs.Placing.{NodePlaced, ItemPlaced, JoinPlaced, FillPlaced}
 use Rattle.interpolator_escapes.specs.Placing.{ForestPlaced, IfMisplaced, Placed, ValueFails}
-use Rattle.interpolator_render.specs.declared.view.Spec.{Spec}
-use Rattle.interpolator_render.specs.declared.view.Trait.{Trait}
-use Rattle.interpolator_syntax.specs.SpecTexts.{plain_spec}
+use Rattle.interpolator_render.specs.{declared.view.Spec.Spec, declared.view.Trait.Trait}
 use Rattle.interpolator_render.specs.declared.view.Trait.TheVariants.{Display}
-use Rattle.interpolator_syntax.specs.declared.argument_fault.ArgumentFault.{ArgumentFault}
-use Rattle.interpolator_syntax.specs.declared.piece_kind.PieceKind.{PieceKind}
-use Rattle.interpolator_syntax.specs.declared.range.Range.{Range}
 use Rattle.interpolator_pieces.specs.Stored.{branch_of, content_of, detail_of, node_of}
 use Rattle.interpolator_pieces.specs.Stored.{stored_content}
-use Rattle.interpolator_pieces.specs.StoredLists.{is_list_form}
 use Rattle.interpolator_pieces.specs.StoredMeanings.{stored_name, stored_part}
-use Rattle.interpolator_pieces.specs.declared.piece.Form.{Form}
+use Rattle.interpolator_pieces.specs.{StoredLists.is_list_form, declared.piece.Form.Form}
 use Rattle.interpolator_pieces.specs.declared.piece.Form.TheVariants as forms
-use Rattle.interpolator_pieces.specs.declared.piece.Piece.{Piece}
-use Rattle.interpolator_pieces.specs.declared.piece.Piece.TheViews.{out-Piece}
+use Rattle.interpolator_pieces.specs.declared.{piece.Piece.Piece, piece.Piece.TheViews.out-Piece}
 use Rattle.interpolator_pieces.proofs.RunLemmas.{list_fits, name_fits, name_within, value_fits}
 use Rattle.interpolator_pieces.proofs.StoredLemmas.{node_of_out}
 use Rattle.interpolator_escapes.specs.declared.misplaced.Misplaced.{Misplaced}

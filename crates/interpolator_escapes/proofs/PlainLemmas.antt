@@ -1,14 +1,12 @@
 -- The text of a number or a truth value under debug has plain characters alone.
-use Rattle.std.proofs.Common.{◌≡◌, ℕ, ℤ, zero, suc, ◌<◌, ◌==◌, ◌&&◌, Bool, true, false, List, [], ◌∷◌}
-use Rattle.std.proofs.Common.{◌++◌, Option, Some, None, refl, sym, subst, arith, length, map, take}
-use Rattle.std.proofs.Common.{replicate, ⊎_elim, eq-zero-or-pos, nat_lt, if◌then◌else◌, not}
+use Rattle.std.proofs.Common.{◌≡◌, ℕ, ℤ, zero, suc, ◌<◌, ◌==◌, ◌&&◌, Bool, true, false, List, []}
+use Rattle.std.proofs.Common.{◌∷◌, ◌++◌, Option, Some, None, refl, sym, subst, arith, length, map}
+use Rattle.std.proofs.Common.{take, replicate, ⊎_elim, eq-zero-or-pos, nat_lt, if◌then◌else◌, not}
+use Rattle.std.proofs.{lemmas.Bool.Decides.nat_tests, lemmas.Int.Digits.all_below_base_digits_of}
 use Rattle.std.specs.Float.{Float, Format, nan, inf, fin}
-use Rattle.std.specs.Fmt.{digit_glyph}
-use Rattle.std.specs.Int.Digits.{AllBelowBase, digits_of}
-use Rattle.std.proofs.lemmas.Bool.Decides.{nat_tests}
-use Rattle.std.proofs.lemmas.Int.Digits.{all_below_base_digits_of}
-use Rattle.interpolator_digits.specs.Decimals.{after_point, placed, units_text}
-use Rattle.interpolator_digits.specs.Decimals.{decimal_text, decimal_exponent_text, scaled_tail}
+use Rattle.std.specs.{Fmt.digit_glyph, Int.Digits.AllBelowBase, Int.Digits.digits_of}
+use Rattle.interpolator_digits.specs.Decimals.{after_point, placed, units_text, decimal_text}
+use Rattle.interpolator_digits.specs.Decimals.{decimal_exponent_text, scaled_tail}
 use Rattle.interpolator_digits.specs.Digits.{digit_text}
 use Rattle.interpolator_digits.specs.Exponent.{less_zeros, significant_digits, with_point}
 use Rattle.interpolator_digits.specs.Exponent.{scientific}
@@ -22,22 +20,18 @@ use Rattle.interpolator_render.specs.Numbers.{is_negative, distance_from_zero}
 use Rattle.interpolator_render.specs.Numbers.{has_minus as is_minus}
 use Rattle.interpolator_render.specs.Padding.{fill_of, padded_number, padded_text, between_fill}
 use Rattle.interpolator_render.specs.Padding.{displayed_text}
-use Rattle.interpolator_render.specs.Characters.{cut}
 use Rattle.interpolator_render.specs.Texts.{ViewText, has_text, has_no_text, has_failed, view_text}
 use Rattle.interpolator_render.specs.Texts.{in_form, padded_float, truth_text}
 use Rattle.interpolator_render.specs.Views.{Shown, signed_number, unsigned_number, truth_value}
 use Rattle.interpolator_render.specs.Views.{decimal_number, float_number, one_character, some_text}
 use Rattle.interpolator_render.specs.Views.{plain_text, nothing_implemented, failure}
-use Rattle.interpolator_render.specs.declared.view.Bits.{Bits}
-use Rattle.interpolator_render.specs.declared.view.HexDebug.{HexDebug}
 use Rattle.interpolator_render.specs.declared.view.HexDebug.TheVariants.{No, Lower, Upper}
-use Rattle.interpolator_render.specs.declared.view.Sign.{Sign}
+use Rattle.interpolator_render.specs.{Characters.cut, declared.view.Bits.Bits}
+use Rattle.interpolator_render.specs.{declared.view.HexDebug.HexDebug, declared.view.Sign.Sign}
 use Rattle.interpolator_render.specs.declared.view.Sign.TheVariants as signs
-use Rattle.interpolator_render.specs.declared.view.Spec.{Spec}
-use Rattle.interpolator_render.specs.declared.view.Trait.TheVariants.{Debug}
-use Rattle.interpolator_escapes.specs.Fields.{field_text}
+use Rattle.interpolator_render.specs.declared.{view.Spec.Spec, view.Trait.TheVariants.Debug}
 use Rattle.interpolator_escapes.specs.Plain.{AllPlain, is_plain, is_bare, is_plus, in_base_ten}
-use Rattle.interpolator_escapes.specs.Wholes.{whole_text}
+use Rattle.interpolator_escapes.specs.{Fields.field_text, Wholes.whole_text}
 use Rattle.interpolator_escapes.proofs.KeepLemmas.{choose}
 
 -- ---- texts

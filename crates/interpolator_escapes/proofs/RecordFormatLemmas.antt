@@ -3,16 +3,13 @@ use Rattle.std.proofs.Common.{◌≡◌, ℕ, Bool, true, false, List, [], ◌�
 use Rattle.std.proofs.Common.{Some, None, Result, Ok, Err, if◌then◌else◌, ◌&&◌, not}
 use Rattle.interpolator_render.specs.declared.view.Trait.{Trait}
 use Rattle.interpolator_render.specs.declared.view.Trait.TheVariants.{Display}
-use Rattle.interpolator_render.specs.declared.view.Spec.{Spec}
-use Rattle.interpolator_render.specs.Texts.{view_text}
-use Rattle.interpolator_render.specs.Views.{Shown}
+use Rattle.interpolator_render.specs.{declared.view.Spec.Spec, Texts.view_text, Views.Shown}
 use Rattle.interpolator_syntax.specs.At.{At, text_of}
 use Rattle.interpolator_syntax.specs.Nodes.{Node, node, Branch, no_branch, branch, as_forest}
-use Rattle.interpolator_syntax.specs.Nodes.{Forest, no_nodes, nodes_and, nodes}
-use Rattle.interpolator_syntax.specs.Nodes.{text_content, argument_content}
-use Rattle.interpolator_syntax.specs.Nodes.{fault_content, target_value, target_list}
-use Rattle.interpolator_syntax.specs.SpecTexts.{plain_spec}
-use Rattle.interpolator_syntax.specs.declared.range.Range.{Range}
+use Rattle.interpolator_syntax.specs.Nodes.{Forest, no_nodes, nodes_and, nodes, text_content}
+use Rattle.interpolator_syntax.specs.Nodes.{argument_content, fault_content, target_value}
+use Rattle.interpolator_syntax.specs.Nodes.{target_list}
+use Rattle.interpolator_syntax.specs.{SpecTexts.plain_spec, declared.range.Range.Range}
 use Rattle.interpolator_eval.specs.Slots.{Slots, values_of, items, slot_at}
 use Rattle.interpolator_eval.specs.Meaning.Choices.{chosen_items}
 use Rattle.interpolator_eval.specs.Meaning.Environments.{Environment, slots_under, bind}
@@ -22,27 +19,24 @@ use Rattle.interpolator_eval.specs.Meaning.Meanings.{join_branch_means, item_bra
 use Rattle.interpolator_eval.specs.Meaning.Meanings.{node_means, forest_means, means}
 use Rattle.interpolator_escapes.specs.Csv.{field_start, bare, quoted, quote_seen}
 use Rattle.interpolator_escapes.specs.Fields.{record_shows, record_value, record_view}
-use Rattle.interpolator_escapes.specs.Formats.{shows_nothing}
 use Rattle.interpolator_escapes.specs.FormatParts.{as_it_is, found_parts, forest_parts, node_parts}
 use Rattle.interpolator_escapes.specs.FormatParts.{value_parts, view_parts, item_parts, join_parts}
 use Rattle.interpolator_escapes.specs.FormatParts.{items_parts, list_parts, parts_after}
-use Rattle.interpolator_escapes.specs.Parts.{Part}
 use Rattle.interpolator_escapes.specs.Plain.{is_bare, is_debug}
-use Rattle.interpolator_escapes.specs.Readers.{structure_of}
 use Rattle.interpolator_escapes.specs.RecordFormats.{Spot, in_state, field_end, after_value}
 use Rattle.interpolator_escapes.specs.RecordFormats.{after_node, after_forest, after_item}
 use Rattle.interpolator_escapes.specs.RecordFormats.{after_join, covers, item_end, join_end}
 use Rattle.interpolator_escapes.specs.RecordFormats.{list_end, and_then, fields_read, record_values}
 use Rattle.interpolator_escapes.specs.RecordFormats.{record_parts, misplaced_at, misplaced_by}
 use Rattle.interpolator_escapes.specs.RecordFormats.{StandsAsRecord}
-use Rattle.interpolator_escapes.specs.declared.misplaced.Misplaced.{Misplaced}
 use Rattle.interpolator_escapes.specs.declared.misplaced.Why.TheVariants.{Item, Join}
-use Rattle.interpolator_escapes.proofs.FieldLemmas.{Reads}
-use Rattle.interpolator_escapes.proofs.FormatLemmas.{text_of_placed_from}
+use Rattle.interpolator_escapes.specs.{Formats.shows_nothing, Parts.Part, Readers.structure_of}
+use Rattle.interpolator_escapes.specs.declared.misplaced.Misplaced.{Misplaced}
 use Rattle.interpolator_escapes.proofs.RecordPassLemmas.{Passes, passes_nothing, passes_to}
 use Rattle.interpolator_escapes.proofs.RecordPassLemmas.{literal_passes, Same, same_joined}
 use Rattle.interpolator_escapes.proofs.RecordPassLemmas.{closed_same, Shows, inner_shows}
 use Rattle.interpolator_escapes.proofs.RecordPassLemmas.{field_shows}
+use Rattle.interpolator_escapes.proofs.{FieldLemmas.Reads, FormatLemmas.text_of_placed_from}
 use Rattle.interpolator_escapes.proofs.WholeLemmas.{plain_shown}
 
 -- ---- by where a record is

@@ -2,10 +2,9 @@
 use Rattle.std.proofs.Common.{◌≡◌, ℕ, List, [], ◌∷◌, ◌++◌, refl, ap, append_assoc, append-nil}
 use Rattle.std.proofs.Common.{flat_map, map, sym, ◌∙◌, inl}
 use Rattle.interpolator_escapes.specs.Csv.{csv_step, is_csv_place, field_start, quoted, quote_seen}
-use Rattle.interpolator_escapes.specs.Escapes.{csv_escape}
-use Rattle.interpolator_escapes.specs.Languages.{read_by}
 use Rattle.interpolator_escapes.specs.Readers.{Token, content, read}
 use Rattle.interpolator_escapes.specs.Records.{fields_after, fields_of, quoted_field, quoted_record}
+use Rattle.interpolator_escapes.specs.{Escapes.csv_escape, Languages.read_by}
 use Rattle.interpolator_escapes.specs.declared.escape.Escape.TheVariants.{Csv}
 use Rattle.interpolator_escapes.proofs.KeepLemmas.{csv_keeps, csv_plain}
 use Rattle.interpolator_escapes.proofs.ReaderLemmas.{read-append, value_state, value_read}

@@ -1,41 +1,36 @@
 -- What is read of a literal and of a value of a record of CSV.
 use Rattle.std.proofs.Common.{◌≡◌, ℕ, Bool, true, false, List, [], ◌∷◌, ◌++◌, refl, ap, sym, ◌∙◌}
-use Rattle.std.proofs.Common.{Option, Some, None, Ok, append-nil, append_assoc, arith}
-use Rattle.std.proofs.Common.{flat_map, map, if◌then◌else◌, not}
+use Rattle.std.proofs.Common.{Option, Some, None, Ok, append-nil, append_assoc, arith, flat_map}
+use Rattle.std.proofs.Common.{map, if◌then◌else◌, not}
 use Rattle.std.proofs.lemmas.List.{map-append}
-use Rattle.interpolator_render.specs.declared.view.Trait.{Trait}
-use Rattle.interpolator_render.specs.declared.view.Trait.TheVariants.{Debug}
-use Rattle.interpolator_render.specs.declared.view.Spec.{Spec}
 use Rattle.interpolator_render.specs.Texts.{ViewText, has_text, has_no_text, has_failed, view_text}
 use Rattle.interpolator_render.specs.Views.{Shown, signed_number, unsigned_number, truth_value}
 use Rattle.interpolator_render.specs.Views.{decimal_number, float_number, one_character, some_text}
 use Rattle.interpolator_render.specs.Views.{plain_text, nothing_implemented, failure}
-use Rattle.interpolator_syntax.specs.At.{text_of}
-use Rattle.interpolator_syntax.specs.Faults.{Fault}
+use Rattle.interpolator_render.specs.declared.{view.Trait.Trait, view.Trait.TheVariants.Debug}
+use Rattle.interpolator_render.specs.declared.view.Spec.{Spec}
+use Rattle.interpolator_syntax.specs.{At.text_of, Faults.Fault}
 use Rattle.interpolator_syntax.specs.declared.piece_kind.PieceKind.{PieceKind}
 use Rattle.interpolator_syntax.specs.declared.piece_kind.PieceKind.TheVariants as kinds
 use Rattle.interpolator_eval.specs.Meaning.Meanings.{Meaning, chain, or_fault, view_means}
 use Rattle.interpolator_eval.specs.Meaning.Meanings.{and_closed}
 use Rattle.interpolator_escapes.specs.Csv.{CsvState, field_start, bare, quoted, quote_seen}
 use Rattle.interpolator_escapes.specs.Csv.{csv_step, ends_field}
-use Rattle.interpolator_escapes.specs.Escapes.{csv_escape}
 use Rattle.interpolator_escapes.specs.Fields.{field_text, field_view, field_value}
-use Rattle.interpolator_escapes.specs.FormatParts.{view_parts}
 use Rattle.interpolator_escapes.specs.Parts.{Part, literal, value}
-use Rattle.interpolator_escapes.specs.Plain.{AllPlain, is_bare}
-use Rattle.interpolator_escapes.specs.Readers.{content, structure_of}
 use Rattle.interpolator_escapes.specs.RecordFormats.{Spot, in_state, field_end, after_literal}
 use Rattle.interpolator_escapes.specs.RecordFormats.{covers, same_state, fields_read, past_value}
 use Rattle.interpolator_escapes.specs.RecordFormats.{misplaced_at}
-use Rattle.interpolator_escapes.specs.Records.{quoted_field}
-use Rattle.interpolator_escapes.specs.Wholes.{escaped_text}
+use Rattle.interpolator_escapes.specs.{Escapes.csv_escape, FormatParts.view_parts, Plain.AllPlain}
+use Rattle.interpolator_escapes.specs.{Plain.is_bare, Readers.content, Readers.structure_of}
+use Rattle.interpolator_escapes.specs.{Records.quoted_field, Wholes.escaped_text}
 use Rattle.interpolator_escapes.proofs.FieldLemmas.{After, Reads, reads-append, inner_state}
 use Rattle.interpolator_escapes.proofs.FieldLemmas.{inner_read, quoted_state, quoted_read}
 use Rattle.interpolator_escapes.proofs.FieldLemmas.{plain_same, first_state, first_read, sep_same}
-use Rattle.interpolator_escapes.proofs.FormatLemmas.{text_of_placed_at}
 use Rattle.interpolator_escapes.proofs.PlainLemmas.{PlainView, plain_debug}
-use Rattle.interpolator_escapes.proofs.ReaderLemmas.{state-append, structure-append, structure-content}
-use Rattle.interpolator_escapes.proofs.WholeLemmas.{plain_shown}
+use Rattle.interpolator_escapes.proofs.ReaderLemmas.{state-append, structure-append}
+use Rattle.interpolator_escapes.proofs.ReaderLemmas.{structure-content}
+use Rattle.interpolator_escapes.proofs.{FormatLemmas.text_of_placed_at, WholeLemmas.plain_shown}
 
 -- ---- parts
 

@@ -1,25 +1,20 @@
 -- Where a record is after a stored piece.
 use Rattle.std.proofs.Common.{◌≡◌, ℕ, true, refl, ap, ◌∙◌, Result, Ok, Err, List, Some, IsSome}
-use Rattle.interpolator_render.specs.declared.view.Spec.{Spec}
-use Rattle.interpolator_render.specs.declared.view.Trait.{Trait}
+use Rattle.interpolator_render.specs.{declared.view.Spec.Spec, declared.view.Trait.Trait}
 use Rattle.interpolator_render.specs.declared.view.Trait.TheVariants.{Display}
-use Rattle.interpolator_syntax.specs.Nodes.{Branch}
-use Rattle.interpolator_syntax.specs.SpecTexts.{plain_spec}
+use Rattle.interpolator_syntax.specs.{Nodes.Branch, SpecTexts.plain_spec}
 use Rattle.interpolator_syntax.specs.declared.argument_fault.ArgumentFault.{ArgumentFault}
 use Rattle.interpolator_pieces.specs.Stored.{branch_of, content_of, detail_of, node_of}
-use Rattle.interpolator_pieces.specs.StoredLists.{is_list_form}
-use Rattle.interpolator_pieces.specs.StoredMeanings.{stored_part}
+use Rattle.interpolator_pieces.specs.{StoredLists.is_list_form, StoredMeanings.stored_part}
 use Rattle.interpolator_pieces.specs.declared.piece.Form.TheVariants as forms
-use Rattle.interpolator_pieces.specs.declared.piece.Piece.{Piece}
-use Rattle.interpolator_pieces.specs.declared.piece.Piece.TheViews.{out-Piece}
+use Rattle.interpolator_pieces.specs.declared.{piece.Piece.Piece, piece.Piece.TheViews.out-Piece}
 use Rattle.interpolator_pieces.proofs.StoredLemmas.{node_of_out}
 use Rattle.interpolator_escapes.specs.CodeRecords.{AnswersAs, spot_of}
 use Rattle.interpolator_escapes.specs.RecordFormats.{Spot, after_item, after_join, after_literal}
 use Rattle.interpolator_escapes.specs.RecordFormats.{after_node, after_value, and_then, item_end}
 use Rattle.interpolator_escapes.specs.RecordFormats.{IsRecordAnswer, join_end, list_end}
 use Rattle.interpolator_escapes.specs.RecordFormats.{record_answer}
-use Rattle.interpolator_escapes.specs.declared.ending.Ending.{Ending}
-use Rattle.interpolator_escapes.specs.declared.misplaced.Misplaced.{Misplaced}
+use Rattle.interpolator_escapes.specs.declared.{ending.Ending.Ending, misplaced.Misplaced.Misplaced}
 use Rattle.interpolator_escapes.specs.declared.misplaced.PlaceError.{PlaceError}
 use Rattle.interpolator_escapes.specs.declared.misplaced.PlaceError.TheVariants as errors
 use Rattle.interpolator_escapes.specs.declared.records.Spot as code

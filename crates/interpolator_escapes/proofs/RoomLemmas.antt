@@ -2,26 +2,23 @@
 use Rattle.std.proofs.Common.{◌≡◌, ℕ, ◌+◌, ◌≤◌, ◌<◌, List, [], ◌∷◌, ◌++◌, length, take, drop, arith}
 use Rattle.std.proofs.Common.{refl, sym, ap, ◌∙◌, subst, chars, IsUtf8, IsCharBoundary}
 use Rattle.std.proofs.Common.{append_assoc, append-nil, take-append-drop, Result, Err, encode_utf8}
-use Rattle.std.proofs.Math.Seq.{take-append-add}
-use Rattle.std.proofs.lemmas.Grind.{flat_map-append}
+use Rattle.std.proofs.Common.{encode_utf8_all, inl, inr, true}
 use Rattle.std.proofs.lemmas.List.{length-take-le, take-append-le, take-take, nil_from_length}
 use Rattle.std.proofs.lemmas.Str.{chars-append, IsUtf8-append, IsUtf8-take, chars-nil}
+use Rattle.std.proofs.lemmas.Str.{IsCharBoundary-at_seam, IsUtf8-past_char, length-encode}
+use Rattle.std.proofs.lemmas.Str.{len_utf8_bounds}
+use Rattle.std.proofs.{Math.Seq.take-append-add, lemmas.Grind.flat_map-append, lemmas.Bool.cases_lt}
 use Rattle.interpolator_render.specs.declared.text_write.Refusal.{Refusal}
 use Rattle.interpolator_render.specs.Written.{Written, Appends, AppendsBeginning, Writes, Puts}
 use Rattle.interpolator_render.specs.Written.{byte_count}
 use Rattle.interpolator_render.proofs.LayoutLemmas.{byte_count-chars, writes_second, appends_none}
 use Rattle.interpolator_render.proofs.LayoutLemmas.{writes_from_puts, stops_in_first}
 use Rattle.interpolator_render.proofs.LayoutLemmas.{byte_count-append}
-use Rattle.std.proofs.lemmas.Bool.{cases_lt}
-use Rattle.std.proofs.lemmas.Str.{IsCharBoundary-at_seam, IsUtf8-past_char, length-encode}
-use Rattle.std.proofs.lemmas.Str.{len_utf8_bounds}
 use lib.Utf8.{scalars}
-use Rattle.std.proofs.Common.{encode_utf8_all, inl, inr, true}
-use Rattle.interpolator_escapes.specs.Escapes.{escape_of, escaped}
-use Rattle.interpolator_escapes.specs.Rooms.{HoldsText, Moves}
+use Rattle.interpolator_escapes.specs.{Escapes.escape_of, Escapes.escaped, Rooms.HoldsText}
+use Rattle.interpolator_escapes.specs.{Rooms.Moves, declared.escape.Escape.Escape}
 use Rattle.interpolator_escapes.proofs.MarkLemmas.{IsFront, near_plain, near_whole, front_stops}
 use Rattle.interpolator_escapes.proofs.SearchLemmas.{front_plain, front_boundary}
-use Rattle.interpolator_escapes.specs.declared.escape.Escape.{Escape}
 
 -- ---- the row of a room
 

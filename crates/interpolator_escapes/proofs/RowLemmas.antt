@@ -1,33 +1,24 @@
 -- A list between quotes, with a quote, a comma and a quote between two items, is a record.
 use Rattle.std.proofs.Common.{◌≡◌, ℕ, List, [], ◌∷◌, ◌++◌, refl, ap, sym, ◌∙◌, append_assoc}
 use Rattle.std.proofs.Common.{append-nil, flat_map, map, codes, Option, Some, None, length, take}
+use Rattle.interpolator_render.specs.Texts.{ViewText, has_text, has_no_text, has_failed, view_text}
 use Rattle.interpolator_render.specs.declared.view.Trait.{Trait}
 use Rattle.interpolator_render.specs.declared.view.Trait.TheVariants.{Display}
-use Rattle.interpolator_render.specs.declared.view.Spec.{Spec}
-use Rattle.interpolator_render.specs.Texts.{ViewText, has_text, has_no_text, has_failed, view_text}
-use Rattle.interpolator_render.specs.Views.{Shown}
-use Rattle.interpolator_syntax.specs.Arguments.{argument_at}
-use Rattle.interpolator_syntax.specs.At.{outermost, text_of}
-use Rattle.interpolator_syntax.specs.Groups.{group_at}
-use Rattle.interpolator_syntax.specs.Lists.{list_at}
-use Rattle.interpolator_syntax.specs.Nodes.{nodes}
-use Rattle.interpolator_syntax.specs.Pieces.{argument_from}
-use Rattle.interpolator_syntax.specs.Ranges.{range_at}
+use Rattle.interpolator_render.specs.{declared.view.Spec.Spec, Views.Shown}
 use Rattle.interpolator_syntax.specs.SpecTexts.{spec_from_sign, spec_after, plain_spec}
-use Rattle.interpolator_syntax.specs.Tokens.{first_token}
+use Rattle.interpolator_syntax.specs.{Arguments.argument_at, At.outermost, At.text_of}
+use Rattle.interpolator_syntax.specs.{Groups.group_at, Lists.list_at, Nodes.nodes}
+use Rattle.interpolator_syntax.specs.{Pieces.argument_from, Ranges.range_at, Tokens.first_token}
 use Rattle.interpolator_eval.specs.Slots.{Slots, values_of, items, slot_at}
-use Rattle.interpolator_eval.specs.Meaning.Choices.{chosen_items}
 use Rattle.interpolator_eval.specs.Meaning.Environments.{Environment, slots_under}
-use Rattle.interpolator_eval.specs.Meaning.Meanings.{means}
-use Rattle.interpolator_escapes.specs.Escapes.{csv_escape}
-use Rattle.interpolator_escapes.specs.Formats.{escaped_shows}
+use Rattle.interpolator_eval.specs.{Meaning.Choices.chosen_items, Meaning.Meanings.means}
 use Rattle.interpolator_escapes.specs.FormatParts.{view_parts, found_parts, parts_after}
 use Rattle.interpolator_escapes.specs.FormatParts.{items_parts, value_parts, parts_by}
 use Rattle.interpolator_escapes.specs.FormatParts.{escaped_value}
-use Rattle.interpolator_escapes.specs.Languages.{read_by}
 use Rattle.interpolator_escapes.specs.Parts.{Part, literal, assembled}
-use Rattle.interpolator_escapes.specs.Records.{fields_after, fields_of, quoted_record}
-use Rattle.interpolator_escapes.specs.Records.{row_format, text_or_empty, displayed, item_text}
+use Rattle.interpolator_escapes.specs.Records.{fields_after, fields_of, quoted_record, row_format}
+use Rattle.interpolator_escapes.specs.Records.{text_or_empty, displayed, item_text}
+use Rattle.interpolator_escapes.specs.{Escapes.csv_escape, Formats.escaped_shows, Languages.read_by}
 use Rattle.interpolator_escapes.specs.declared.escape.Escape.TheVariants.{Csv}
 use Rattle.interpolator_escapes.proofs.FormatPartLemmas.{whole-append, escaped_parts}
 use Rattle.interpolator_escapes.proofs.RecordLemmas.{last_read}

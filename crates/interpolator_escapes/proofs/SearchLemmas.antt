@@ -4,11 +4,10 @@ use Rattle.std.proofs.Common.{drop, get_or, slice_range, refl, arith, subst, ap,
 use Rattle.std.proofs.Common.{length-append, length-take, length-drop, encode_utf8_all}
 use Rattle.std.proofs.Common.{get_or-append-add, get_or-drop, get_or-take, chars, IsUtf8}
 use Rattle.std.proofs.Common.{IsCharBoundary, take-append-drop, append-nil}
-use Rattle.std.specs.Char.{encode_utf8}
-use Rattle.std.proofs.lemmas.Bool.{cases_lt}
-use Rattle.std.proofs.lemmas.Bool.Decides.{nat_tests}
 use Rattle.std.proofs.lemmas.Str.{encodes-chars, encode_ascii, IsUtf8-take, length-encode}
 use Rattle.std.proofs.lemmas.Str.{len_utf8_bounds, chars-append}
+use Rattle.std.proofs.{lemmas.Bool.cases_lt, lemmas.Bool.Decides.nat_tests}
+use Rattle.std.specs.Char.{encode_utf8}
 use Rattle.interpolator_escapes.specs.Escapes.{escape_of, escaped, is_control}
 use Rattle.interpolator_escapes.specs.Search.{may_begin_escaped, ArePlain}
 use Rattle.interpolator_escapes.specs.declared.escape.Escape.{Escape}

@@ -1,9 +1,8 @@
 -- What is written whole, as the text of a view.
 use Rattle.std.proofs.Common.{◌≡◌, ℕ, List, Some, refl}
-use Rattle.interpolator_render.specs.declared.view.Spec.{Spec}
-use Rattle.interpolator_render.specs.declared.view.Trait.{Trait}
 use Rattle.interpolator_render.specs.Texts.{has_text, view_text}
 use Rattle.interpolator_render.specs.Views.{Shown, plain_text}
+use Rattle.interpolator_render.specs.{declared.view.Spec.Spec, declared.view.Trait.Trait}
 use Rattle.interpolator_escapes.specs.Wholes.{whole_text, whole_view}
 
 pub plain_shown : (text : List ℕ) (t : Trait) (spec : Spec)

@@ -1,7 +1,6 @@
 -- Reading CSV: records and fields, which may stand between quotes.
 use Rattle.std.specs.Prelude.{ℕ, List, [], ◌∷◌, ◌==◌, ◌||◌, if◌then◌else◌, Bool, true, false}
-use Rattle.interpolator_render.specs.declared.view.Spec.{Spec}
-use Rattle.interpolator_render.specs.declared.view.Trait.{Trait}
+use Rattle.interpolator_render.specs.{declared.view.Spec.Spec, declared.view.Trait.Trait}
 use Rattle.interpolator_escapes.specs.Readers.{Token, content, structure}
 
 -- where a reader is: at a field's beginning, in a field without quotes, between quotes, or after a

@@ -1,8 +1,7 @@
 -- What a writer that escapes its text has taken.
 use Rattle.std.specs.Prelude.{None, Some}
 use Rattle.interpolator_render.specs.Written.{Written}
-use Rattle.interpolator_escapes.specs.Passing.{layers}
-use Rattle.interpolator_escapes.specs.Rooms.{way_of}
+use Rattle.interpolator_escapes.specs.{Passing.layers, Rooms.way_of}
 use Rattle.interpolator_escapes.specs.declared.escaping.Escaping.{Escaping}
 
 -- the text taken, as it was before it was escaped; `written` is what the writer below has taken

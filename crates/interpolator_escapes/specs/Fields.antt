@@ -1,13 +1,10 @@
 -- Whole fields of CSV: what is written of a value where a field begins, and what comes back of it.
 use Rattle.std.specs.Prelude.{ℕ, List, [], ◌∷◌, Option, Some, None, if◌then◌else◌}
-use Rattle.interpolator_render.specs.declared.view.Spec.{Spec}
-use Rattle.interpolator_render.specs.declared.view.Trait.{Trait}
-use Rattle.interpolator_render.specs.declared.view.Trait.TheVariants.{Debug}
 use Rattle.interpolator_render.specs.Texts.{ViewText, has_text, view_text}
 use Rattle.interpolator_render.specs.Views.{Shown, some_text, plain_text, one_character}
-use Rattle.interpolator_escapes.specs.Escapes.{csv_escape}
-use Rattle.interpolator_escapes.specs.Plain.{is_debug}
-use Rattle.interpolator_escapes.specs.Records.{quoted_field}
+use Rattle.interpolator_render.specs.{declared.view.Spec.Spec, declared.view.Trait.Trait}
+use Rattle.interpolator_render.specs.declared.view.Trait.TheVariants.{Debug}
+use Rattle.interpolator_escapes.specs.{Escapes.csv_escape, Plain.is_debug, Records.quoted_field}
 use Rattle.interpolator_escapes.specs.Wholes.{escaped_text}
 
 -- a text between quotes, whatever width and precision are

@@ -3,21 +3,17 @@ use Rattle.std.specs.Prelude.{◌≡◌, ℕ, Bool, true, ⊤, List, [], ◌∷�
 use Rattle.std.specs.Prelude.{if◌then◌else◌}
 use Rattle.interpolator_render.specs.declared.view.Trait.{Trait}
 use Rattle.interpolator_render.specs.declared.view.Trait.TheVariants.{Display}
-use Rattle.interpolator_render.specs.declared.view.Spec.{Spec}
-use Rattle.interpolator_render.specs.Padding.{fill_of}
-use Rattle.interpolator_render.specs.Texts.{has_text, view_text}
-use Rattle.interpolator_render.specs.Views.{Shown, plain_text}
+use Rattle.interpolator_render.specs.{declared.view.Spec.Spec, Padding.fill_of, Texts.has_text}
+use Rattle.interpolator_render.specs.{Texts.view_text, Views.Shown, Views.plain_text}
 use Rattle.interpolator_eval.specs.Meaning.Meanings.{Meaning}
-use Rattle.interpolator_syntax.specs.At.{At, text_of}
 use Rattle.interpolator_syntax.specs.Nodes.{Node, node, Branch, no_branch, branch, as_forest}
-use Rattle.interpolator_syntax.specs.Nodes.{Forest, no_nodes, nodes_and, nodes}
-use Rattle.interpolator_syntax.specs.Nodes.{text_content, argument_content, fault_content}
-use Rattle.interpolator_syntax.specs.Nodes.{target_value, target_list}
-use Rattle.interpolator_syntax.specs.SpecTexts.{plain_spec}
-use Rattle.interpolator_escapes.specs.Escapes.{escape_of}
+use Rattle.interpolator_syntax.specs.Nodes.{Forest, no_nodes, nodes_and, nodes, text_content}
+use Rattle.interpolator_syntax.specs.Nodes.{argument_content, fault_content, target_value}
+use Rattle.interpolator_syntax.specs.Nodes.{target_list}
+use Rattle.interpolator_syntax.specs.{At.At, At.text_of, SpecTexts.plain_spec}
 use Rattle.interpolator_escapes.specs.Readers.{Token, structure_of, state_after, read}
 use Rattle.interpolator_escapes.specs.Wholes.{escaped_text, is_whole, whole_text, whole_view}
-use Rattle.interpolator_escapes.specs.declared.escape.Escape.{Escape}
+use Rattle.interpolator_escapes.specs.{Escapes.escape_of, declared.escape.Escape.Escape}
 
 -- what is shown in place of what a view shows: its text escaped, or a whole value
 abbrev pub escaped_view : Escape → Shown → Trait → Spec → Shown

@@ -1,10 +1,8 @@
 -- What bounds an escaped text.
 use Rattle.std.specs.Prelude.{Bool, true, [], ◌∷◌, ◌++◌}
 use Rattle.interpolator_render.specs.Views.{Shown, plain_text}
-use Rattle.interpolator_render.specs.declared.view.Spec.{Spec}
-use Rattle.interpolator_render.specs.declared.view.Trait.{Trait}
-use Rattle.interpolator_escapes.specs.Wholes.{is_whole}
-use Rattle.interpolator_escapes.specs.declared.escape.Escape.{Escape}
+use Rattle.interpolator_render.specs.{declared.view.Spec.Spec, declared.view.Trait.Trait}
+use Rattle.interpolator_escapes.specs.{Wholes.is_whole, declared.escape.Escape.Escape}
 
 -- a text that is plain under each trait, between quotes
 abbrev pub in_quotes : Bool → Shown → Shown

@@ -2,8 +2,7 @@
 use Rattle.std.specs.Prelude.{ℕ, ◌+◌, List, [], ◌∷◌, ◌++◌, ◌==◌, ◌||◌, ◌&&◌, if◌then◌else◌, Bool}
 use Rattle.std.specs.Prelude.{true, false, codes, map, nat_lt, take}
 use Rattle.std.specs.Str.{bytes_eq}
-use Rattle.interpolator_render.specs.declared.view.Spec.{Spec}
-use Rattle.interpolator_render.specs.declared.view.Trait.{Trait}
+use Rattle.interpolator_render.specs.{declared.view.Spec.Spec, declared.view.Trait.Trait}
 use Rattle.interpolator_escapes.specs.Readers.{Token, content, structure}
 
 -- ---- words and characters

@@ -1,9 +1,8 @@
 -- Reading JSON: strings, and what is between them.
-use Rattle.std.specs.Prelude.{ℕ, ◌+◌, ◌-◌, ◌*◌, List, [], ◌∷◌, ◌==◌, if◌then◌else◌, Bool}
-use Rattle.std.specs.Prelude.{false, nat_lt, ◌&&◌, not}
+use Rattle.std.specs.Prelude.{ℕ, ◌+◌, ◌-◌, ◌*◌, List, [], ◌∷◌, ◌==◌, if◌then◌else◌, Bool, false}
+use Rattle.std.specs.Prelude.{nat_lt, ◌&&◌, not}
 use Rattle.std.specs.Char.{digit_value}
-use Rattle.interpolator_render.specs.declared.view.Spec.{Spec}
-use Rattle.interpolator_render.specs.declared.view.Trait.{Trait}
+use Rattle.interpolator_render.specs.{declared.view.Spec.Spec, declared.view.Trait.Trait}
 use Rattle.interpolator_escapes.specs.Plain.{is_plain, is_debug, is_bare}
 use Rattle.interpolator_escapes.specs.Readers.{Token, content, structure}
 

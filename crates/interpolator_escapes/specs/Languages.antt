@@ -1,19 +1,16 @@
 -- The reader of each escape, and what it reads.
 use Rattle.std.specs.Prelude.{ℕ, Bool, List, ⊤}
-use Rattle.interpolator_render.specs.declared.view.Spec.{Spec}
-use Rattle.interpolator_render.specs.declared.view.Trait.{Trait}
+use Rattle.interpolator_render.specs.{declared.view.Spec.Spec, declared.view.Trait.Trait}
 use Rattle.interpolator_syntax.specs.At.{At}
-use Rattle.interpolator_escapes.specs.Readers.{Token, read}
-use Rattle.interpolator_escapes.specs.Parts.{Part, read_parts}
-use Rattle.interpolator_escapes.specs.Formats.{Stands}
 use Rattle.interpolator_escapes.specs.Csv.{CsvState, field_start, csv_step, is_csv_place}
 use Rattle.interpolator_escapes.specs.Html.{HtmlState, html_start, html_step, is_html_place}
 use Rattle.interpolator_escapes.specs.Json.{JsonState, between, json_step, is_json_place}
 use Rattle.interpolator_escapes.specs.Lines.{LineState, in_line, line_step, is_line_place}
 use Rattle.interpolator_escapes.specs.Shell.{ShellState, outside, shell_step, is_shell_place}
-use Rattle.interpolator_escapes.specs.declared.escape.Escape.{Escape}
 use Rattle.interpolator_escapes.specs.declared.escape.Escape.TheVariants.{Line, Html, Csv, Json}
 use Rattle.interpolator_escapes.specs.declared.escape.Escape.TheVariants.{Shell}
+use Rattle.interpolator_escapes.specs.{Readers.Token, Readers.read, Parts.Part, Parts.read_parts}
+use Rattle.interpolator_escapes.specs.{Formats.Stands, declared.escape.Escape.Escape}
 
 -- a reader: its states, what it makes of a character, where a value may stand, and where it begins
 pub record Language : Type 1 where

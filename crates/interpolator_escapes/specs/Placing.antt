@@ -1,16 +1,14 @@
 -- Which of a format's values is the first that does not stand in a place, and why; and where a
 -- format of which all stand ends.
 use Rattle.std.specs.Prelude.{◌≡◌, ◌⊎◌, ℕ, Bool, false, true, ⊤, List, Result, Ok, Err, Some, None}
-use Rattle.interpolator_render.specs.declared.view.Spec.{Spec}
-use Rattle.interpolator_render.specs.declared.view.Trait.{Trait}
+use Rattle.interpolator_render.specs.{declared.view.Spec.Spec, declared.view.Trait.Trait}
 use Rattle.interpolator_render.specs.declared.view.Trait.TheVariants.{Display}
 use Rattle.interpolator_eval.specs.Meaning.Meanings.{Meaning}
-use Rattle.interpolator_syntax.specs.At.{At, text_of}
 use Rattle.interpolator_syntax.specs.Nodes.{Node, node, Branch, no_branch, branch, as_forest}
-use Rattle.interpolator_syntax.specs.Nodes.{Forest, no_nodes, nodes_and, nodes}
-use Rattle.interpolator_syntax.specs.Nodes.{text_content, argument_content, fault_content}
-use Rattle.interpolator_syntax.specs.Nodes.{target_value, target_list}
-use Rattle.interpolator_syntax.specs.SpecTexts.{plain_spec}
+use Rattle.interpolator_syntax.specs.Nodes.{Forest, no_nodes, nodes_and, nodes, text_content}
+use Rattle.interpolator_syntax.specs.Nodes.{argument_content, fault_content, target_value}
+use Rattle.interpolator_syntax.specs.Nodes.{target_list}
+use Rattle.interpolator_syntax.specs.{At.At, At.text_of, SpecTexts.plain_spec}
 use Rattle.interpolator_escapes.specs.Readers.{Token, read, structure_of}
 use Rattle.interpolator_escapes.specs.Formats.{NodeStands, ItemStands, JoinStands, ForestStands}
 use Rattle.interpolator_escapes.specs.Formats.{FillStays, Stands}
@@ -19,12 +17,11 @@ use Rattle.interpolator_escapes.specs.Html.{HtmlState, html_start, html_step, is
 use Rattle.interpolator_escapes.specs.Json.{JsonState, between, json_step, is_json_place}
 use Rattle.interpolator_escapes.specs.Lines.{control_step, everywhere}
 use Rattle.interpolator_escapes.specs.Shell.{ShellState, outside, shell_step, is_shell_place}
-use Rattle.interpolator_escapes.specs.declared.ending.Ending.{Ending}
 use Rattle.interpolator_escapes.specs.declared.ending.Ending.TheVariants.{Beginning, Place}
 use Rattle.interpolator_escapes.specs.declared.ending.Ending.TheVariants.{Elsewhere}
-use Rattle.interpolator_escapes.specs.declared.escape.Escape.{Escape}
 use Rattle.interpolator_escapes.specs.declared.escape.Escape.TheVariants.{Line, Html, Csv, Json}
 use Rattle.interpolator_escapes.specs.declared.escape.Escape.TheVariants.{Shell}
+use Rattle.interpolator_escapes.specs.{declared.ending.Ending.Ending, declared.escape.Escape.Escape}
 use Rattle.interpolator_escapes.specs.declared.misplaced.Misplaced.{Misplaced}
 use Rattle.interpolator_escapes.specs.declared.misplaced.PlaceError.{PlaceError}
 use Rattle.interpolator_escapes.specs.declared.misplaced.PlaceError.TheVariants as errors

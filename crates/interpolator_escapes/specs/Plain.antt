@@ -1,12 +1,9 @@
 -- Characters of numbers, and under which traits and specs a value shows them alone.
 use Rattle.std.specs.Prelude.{◌≡◌, ℕ, Bool, true, false, List, [], ◌∷◌, ◌==◌, ◌||◌, ◌&&◌, not}
-use Rattle.interpolator_render.specs.Padding.{fill_of}
-use Rattle.interpolator_render.specs.declared.view.HexDebug.{HexDebug}
+use Rattle.interpolator_render.specs.{Padding.fill_of, declared.view.HexDebug.HexDebug}
 use Rattle.interpolator_render.specs.declared.view.HexDebug.TheVariants.{No}
-use Rattle.interpolator_render.specs.declared.view.Sign.{Sign}
-use Rattle.interpolator_render.specs.declared.view.Sign.TheVariants.{Plus}
-use Rattle.interpolator_render.specs.declared.view.Spec.{Spec}
-use Rattle.interpolator_render.specs.declared.view.Trait.{Trait}
+use Rattle.interpolator_render.specs.{declared.view.Sign.Sign, declared.view.Sign.TheVariants.Plus}
+use Rattle.interpolator_render.specs.{declared.view.Spec.Spec, declared.view.Trait.Trait}
 use Rattle.interpolator_render.specs.declared.view.Trait.TheVariants.{Debug}
 use Rattle.interpolator_escapes.specs.Escapes.{is_between}
 

@@ -1,31 +1,27 @@
 -- Formats of whole fields of CSV: where a value may stand in one, and what is read of it.
 use Rattle.std.specs.Prelude.{◌≡◌, ⊤, ℕ, Bool, true, false, ◌&&◌, not, ◌==◌, map, List, [], ◌∷◌}
 use Rattle.std.specs.Prelude.{◌++◌, codes, Option, Some, None, Result, Ok, Err, if◌then◌else◌}
-use Rattle.interpolator_render.specs.declared.view.Spec.{Spec}
-use Rattle.interpolator_render.specs.declared.view.Trait.{Trait}
 use Rattle.interpolator_render.specs.declared.view.Trait.TheVariants.{Debug, Display}
+use Rattle.interpolator_render.specs.{declared.view.Spec.Spec, declared.view.Trait.Trait}
 use Rattle.interpolator_render.specs.Views.{Shown}
 use Rattle.interpolator_eval.specs.Meaning.Environments.{Environment}
 use Rattle.interpolator_eval.specs.Slots.{Slots, slot_at, values_of}
-use Rattle.interpolator_syntax.specs.At.{At}
 use Rattle.interpolator_syntax.specs.Nodes.{Node, node, Branch, no_branch, branch, as_forest}
-use Rattle.interpolator_syntax.specs.Nodes.{Forest, no_nodes, nodes_and, nodes}
-use Rattle.interpolator_syntax.specs.Nodes.{text_content, argument_content, fault_content}
-use Rattle.interpolator_syntax.specs.Nodes.{target_value, target_list}
-use Rattle.interpolator_syntax.specs.SpecTexts.{plain_spec}
+use Rattle.interpolator_syntax.specs.Nodes.{Forest, no_nodes, nodes_and, nodes, text_content}
+use Rattle.interpolator_syntax.specs.Nodes.{argument_content, fault_content, target_value}
+use Rattle.interpolator_syntax.specs.Nodes.{target_list}
+use Rattle.interpolator_syntax.specs.{At.At, SpecTexts.plain_spec}
 use Rattle.interpolator_escapes.specs.Csv.{CsvState, field_start, bare, quoted, quote_seen}
 use Rattle.interpolator_escapes.specs.Csv.{csv_step, ends_field}
-use Rattle.interpolator_escapes.specs.Fields.{field_value, record_value}
 use Rattle.interpolator_escapes.specs.FormatParts.{as_it_is, parts_of, view_parts}
 use Rattle.interpolator_escapes.specs.Parts.{Part, literal, value}
-use Rattle.interpolator_escapes.specs.Plain.{is_debug, is_bare}
 use Rattle.interpolator_escapes.specs.Readers.{Token, content, structure, state_after, read}
-use Rattle.interpolator_escapes.specs.Records.{text_or_empty}
-use Rattle.interpolator_escapes.specs.declared.ending.Ending.{Ending}
 use Rattle.interpolator_escapes.specs.declared.ending.Ending.TheVariants.{Beginning, Place}
 use Rattle.interpolator_escapes.specs.declared.ending.Ending.TheVariants.{Elsewhere}
-use Rattle.interpolator_escapes.specs.declared.misplaced.Misplaced.{Misplaced}
+use Rattle.interpolator_escapes.specs.declared.{ending.Ending.Ending, misplaced.Misplaced.Misplaced}
 use Rattle.interpolator_escapes.specs.declared.misplaced.PlaceError.{PlaceError}
+use Rattle.interpolator_escapes.specs.{Fields.field_value, Fields.record_value, Plain.is_debug}
+use Rattle.interpolator_escapes.specs.{Plain.is_bare, Records.text_or_empty}
 use Rattle.interpolator_escapes.specs.declared.misplaced.PlaceError.TheVariants as errors
 use Rattle.interpolator_escapes.specs.declared.misplaced.Why.{Why}
 use Rattle.interpolator_escapes.specs.declared.misplaced.Why.TheVariants.{Value, Item, Join}

@@ -1,16 +1,14 @@
 -- Records of CSV: what is written of one, and the fields that are read.
 use Rattle.std.specs.Prelude.{ℕ, List, [], ◌∷◌, ◌++◌, ◌==◌, if◌then◌else◌, Option, Some, None}
 use Rattle.std.specs.Prelude.{codes}
+use Rattle.interpolator_render.specs.Texts.{ViewText, has_text, has_no_text, has_failed, view_text}
 use Rattle.interpolator_render.specs.declared.view.Trait.{Trait}
 use Rattle.interpolator_render.specs.declared.view.Trait.TheVariants.{Display}
-use Rattle.interpolator_render.specs.declared.view.Spec.{Spec}
-use Rattle.interpolator_render.specs.Texts.{ViewText, has_text, has_no_text, has_failed, view_text}
-use Rattle.interpolator_render.specs.Views.{Shown}
+use Rattle.interpolator_render.specs.{declared.view.Spec.Spec, Views.Shown}
 use Rattle.interpolator_syntax.specs.SpecTexts.{plain_spec}
 use Rattle.interpolator_eval.specs.Slots.{Slots, values_of, slot_at}
-use Rattle.interpolator_escapes.specs.Escapes.{escaped}
 use Rattle.interpolator_escapes.specs.Readers.{Token, content, structure}
-use Rattle.interpolator_escapes.specs.declared.escape.Escape.TheVariants.{Csv}
+use Rattle.interpolator_escapes.specs.{Escapes.escaped, declared.escape.Escape.TheVariants.Csv}
 
 -- a field between quotes, escaped
 abbrev pub quoted_field : List ℕ → List ℕ

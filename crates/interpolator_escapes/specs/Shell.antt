@@ -1,7 +1,6 @@
 -- Reading a command of a POSIX shell: words, single quotes and backslashes.
 use Rattle.std.specs.Prelude.{ℕ, List, [], ◌∷◌, ◌==◌, ◌||◌, if◌then◌else◌, Bool, true, false}
-use Rattle.interpolator_render.specs.declared.view.Spec.{Spec}
-use Rattle.interpolator_render.specs.declared.view.Trait.{Trait}
+use Rattle.interpolator_render.specs.{declared.view.Spec.Spec, declared.view.Trait.Trait}
 use Rattle.interpolator_escapes.specs.Readers.{Token, content, structure}
 
 -- where a reader is: outside of quotes, after a backslash there, between single quotes, or from a

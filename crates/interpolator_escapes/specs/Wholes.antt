@@ -1,16 +1,13 @@
 -- Values that are written whole: a value of JSON, of which a text has its quotes.
 use Rattle.std.specs.Prelude.{ℕ, Bool, false, List, [], ◌∷◌, ◌++◌, codes, Option, Some, None}
 use Rattle.std.specs.Prelude.{if◌then◌else◌}
-use Rattle.std.specs.Float.{float_is_finite}
-use Rattle.std.specs.List.{flat_map}
-use Rattle.interpolator_render.specs.declared.view.Spec.{Spec}
-use Rattle.interpolator_render.specs.declared.view.Trait.{Trait}
-use Rattle.interpolator_render.specs.declared.view.Trait.TheVariants.{Debug}
+use Rattle.std.specs.{Float.float_is_finite, List.flat_map}
 use Rattle.interpolator_render.specs.Texts.{ViewText, has_text, has_no_text, has_failed, view_text}
 use Rattle.interpolator_render.specs.Views.{Shown, some_text, plain_text, one_character}
 use Rattle.interpolator_render.specs.Views.{float_number, nothing_implemented, failure}
-use Rattle.interpolator_escapes.specs.Escapes.{json_escape}
-use Rattle.interpolator_escapes.specs.Plain.{is_debug}
+use Rattle.interpolator_render.specs.{declared.view.Spec.Spec, declared.view.Trait.Trait}
+use Rattle.interpolator_render.specs.declared.view.Trait.TheVariants.{Debug}
+use Rattle.interpolator_escapes.specs.{Escapes.json_escape, Plain.is_debug}
 use Rattle.interpolator_escapes.specs.declared.escape.Escape.{Escape}
 use Rattle.interpolator_escapes.specs.declared.escape.Escape.TheVariants.{Json}
 

@@ -1,8 +1,7 @@
 -- A context for worked rows of parts.
 use Rattle.std.specs.Prelude.{ℕ, List, [], ◌∷◌, Some, codes}
-use Rattle.interpolator_render.specs.declared.view.Trait.{Trait}
-use Rattle.interpolator_render.specs.declared.view.Spec.{Spec}
 use Rattle.interpolator_render.specs.Views.{Shown, some_text}
+use Rattle.interpolator_render.specs.{declared.view.Trait.Trait, declared.view.Spec.Spec}
 use Rattle.interpolator_eval.specs.Slots.{Slots, empty_slots, with_display, with_iter}
 use Rattle.interpolator_eval.specs.Meaning.Environments.{Environment, environment}
 

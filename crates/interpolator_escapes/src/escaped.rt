@@ -1,8 +1,7 @@
 //! Texts, written escaped.
-ghost use Rattle.std.specs.Prelude.{◌≡◌, ◌+◌, ◌≤◌, ◌<◌, ◌∷◌, ◌++◌, [], length, take, drop};
-ghost use Rattle.std.specs.Prelude.{IsUtf8, MatchResult, OnOk};
-ghost use Rattle.std.specs.List.{flat_map};
-ghost use Rattle.std.specs.Str.{chars, IsCharBoundary};
+ghost use Rattle.std.specs.Prelude.{◌≡◌, ◌+◌, ◌≤◌, ◌<◌, ◌∷◌, ◌++◌, [], length, take, drop, IsUtf8};
+ghost use Rattle.std.specs.Prelude.{MatchResult, OnOk};
+ghost use Rattle.std.specs.{List.flat_map, Str.chars, Str.IsCharBoundary};
 ghost use Rattle.interpolator_render.specs.Written.{AppendsBeginning, Puts, Writes, byte_count};
 ghost use Rattle.interpolator_escapes.specs.Escapes.{escape_of, escaped, json_escape};
 ghost use Rattle.interpolator_escapes.specs.Rooms.{HasPlace, Moves, way_of};

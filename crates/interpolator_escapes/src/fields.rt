@@ -1,13 +1,11 @@
 //! Whole fields of CSV, written.
 ghost use Rattle.std.specs.Prelude.{◌≡◌, ◌∷◌, ◌++◌, [], true};
-ghost use Rattle.std.specs.List.{flat_map};
-ghost use Rattle.std.specs.Str.{chars};
+ghost use Rattle.std.specs.{List.flat_map, Str.chars};
 ghost use Rattle.interpolator_render.specs.Texts.{Renders, has_text, view_text};
 ghost use Rattle.interpolator_render.specs.Views.{IsInRange, shown_by};
 ghost use Rattle.interpolator_render.specs.Written.{Puts, Writes};
-ghost use Rattle.interpolator_escapes.specs.Escapes.{csv_escape};
 ghost use Rattle.interpolator_escapes.specs.Fields.{field_text, field_view, record_view};
-ghost use Rattle.interpolator_escapes.specs.Plain.{is_debug};
+ghost use Rattle.interpolator_escapes.specs.{Escapes.csv_escape, Plain.is_debug};
 ghost use Rattle.interpolator_escapes.specs.Records.{quoted_field};
 
 use crate::escape::Escape;

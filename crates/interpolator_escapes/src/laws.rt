@@ -7,12 +7,9 @@ ghost use Rattle.interpolator_eval.specs.Slots.{Slots, items};
 ghost use Rattle.interpolator_eval.specs.Meaning.Environments.{Environment, slots_under};
 ghost use Rattle.interpolator_eval.specs.Meaning.Meanings.{means};
 ghost use Rattle.interpolator_escapes.specs.Escapes.{escape_of, html_escape, is_control};
-ghost use Rattle.interpolator_escapes.specs.declared.escape.Escape.{Escape};
 ghost use Rattle.interpolator_escapes.specs.declared.escape.Escape.TheVariants.{Csv, Json, Line};
 ghost use Rattle.interpolator_escapes.specs.Json.{between, json_step, is_json_place, JsonState};
 ghost use Rattle.interpolator_escapes.specs.Readers.{KeepsPlaces, KeepsPlain, content};
-ghost use Rattle.interpolator_escapes.specs.Wholes.{json_string};
-ghost use Rattle.interpolator_escapes.specs.Growth.{with_quotes};
 ghost use Rattle.interpolator_escapes.specs.Languages.{language, read_by, read_parts_by, StandsIn};
 ghost use Rattle.interpolator_escapes.specs.Lines.{control_step, everywhere};
 ghost use Rattle.interpolator_escapes.specs.Html.{HtmlState, html_start, html_step, is_html_place};
@@ -25,6 +22,8 @@ ghost use Rattle.interpolator_escapes.specs.Records.{fields_of, quoted_record, r
 ghost use Rattle.interpolator_escapes.specs.Records.{item_text};
 ghost use Rattle.interpolator_escapes.specs.WorkedParts.{shows_itself, echoes};
 ghost use Rattle.interpolator_escapes.specs.Formats.{Stands, escaped_shows};
+ghost use Rattle.interpolator_escapes.specs.{declared.escape.Escape.Escape, Wholes.json_string};
+ghost use Rattle.interpolator_escapes.specs.Growth.{with_quotes};
 
 use interpolator_render::Value;
 

@@ -1,8 +1,7 @@
 //! The law of formats that a check accepts.
 ghost use Rattle.std.specs.Prelude.{◌≡◌, None};
 ghost use Rattle.interpolator_syntax.specs.At.{At};
-ghost use Rattle.interpolator_eval.specs.Meaning.Environments.{Environment};
-ghost use Rattle.interpolator_eval.specs.Meaning.Meanings.{means};
+ghost use Rattle.interpolator_eval.specs.{Meaning.Environments.Environment, Meaning.Meanings.means};
 ghost use Rattle.interpolator_escapes.specs.Formats.{escaped_shows, shows_nothing};
 ghost use Rattle.interpolator_escapes.specs.Placing.{StandsFor, structure_for};
 ghost use Rattle.interpolator_escapes.specs.declared.escape.Escape.{Escape};

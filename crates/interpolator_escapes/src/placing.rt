@@ -3,9 +3,8 @@ ghost use Rattle.std.specs.Prelude.{◌≡◌, ◌↔◌, ◌<◌, ◌∷◌, []
 ghost use Rattle.std.specs.Str.{chars};
 ghost use Rattle.interpolator_render.specs.Padding.{fill_of};
 ghost use Rattle.interpolator_render.specs.declared.view.Trait.TheVariants.{Display};
-ghost use Rattle.interpolator_syntax.specs.At.{outermost};
 ghost use Rattle.interpolator_syntax.specs.Nodes.{as_forest, nodes};
-ghost use Rattle.interpolator_syntax.specs.SpecTexts.{plain_spec};
+ghost use Rattle.interpolator_syntax.specs.{At.outermost, SpecTexts.plain_spec};
 ghost use Rattle.interpolator_pieces.specs.Stored.{branch_of, detail_of, forest_whole, node_of};
 ghost use Rattle.interpolator_pieces.specs.Stored.{node_whole, nodes_of};
 ghost use Rattle.interpolator_pieces.specs.StoredLists.{is_list_form};
@@ -13,10 +12,10 @@ ghost use Rattle.interpolator_pieces.specs.declared.piece.Piece.TheViews.{out-Pi
 ghost use Rattle.interpolator_escapes.specs.Formats.{FillStays, ForestStands, NodeStands, Stands};
 ghost use Rattle.interpolator_escapes.specs.Formats.{Stays};
 ghost use Rattle.interpolator_escapes.specs.Placing.{Ends, EndsElsewhere, Fails, FillFails};
-ghost use Rattle.interpolator_escapes.specs.Placing.{FillPlaced, IsEnding};
-ghost use Rattle.interpolator_escapes.specs.Placing.{ForestFails, ForestPlaced, ItemPlaced};
-ghost use Rattle.interpolator_escapes.specs.Placing.{JoinPlaced, NodeFails, NodePlaced, Placed};
-ghost use Rattle.interpolator_escapes.specs.Placing.{IfMisplaced, ValueFails};
+ghost use Rattle.interpolator_escapes.specs.Placing.{FillPlaced, IsEnding, ForestFails};
+ghost use Rattle.interpolator_escapes.specs.Placing.{ForestPlaced, ItemPlaced, JoinPlaced};
+ghost use Rattle.interpolator_escapes.specs.Placing.{NodeFails, NodePlaced, Placed, IfMisplaced};
+ghost use Rattle.interpolator_escapes.specs.Placing.{ValueFails};
 ghost use Rattle.interpolator_escapes.specs.Readers.{state_after};
 
 use crate::ending::Ending;

@@ -1,9 +1,7 @@
 //! Readers of the languages in which values are shown, as `specs/` defines them.
 ghost use Rattle.std.specs.Prelude.{◌≡◌, ◌↔◌, ℕ, Bool, IfOk, IsTrue, List};
-ghost use Rattle.interpolator_render.specs.declared.view.Spec.{Spec};
-ghost use Rattle.interpolator_render.specs.declared.view.Trait.{Trait};
-ghost use Rattle.interpolator_escapes.specs.CodeReaders.{ReadsOne};
-ghost use Rattle.interpolator_escapes.specs.Readers.{Token};
+ghost use Rattle.interpolator_render.specs.{declared.view.Spec.Spec, declared.view.Trait.Trait};
+ghost use Rattle.interpolator_escapes.specs.{CodeReaders.ReadsOne, Readers.Token};
 
 mod controls;
 mod csv;

@@ -4,14 +4,12 @@ ghost use Rattle.interpolator_syntax.specs.At.{At, outermost, text_of};
 ghost use Rattle.interpolator_eval.specs.Slots.{Slots, items};
 ghost use Rattle.interpolator_eval.specs.Meaning.Environments.{Environment, slots_under};
 ghost use Rattle.interpolator_eval.specs.Meaning.Meanings.{means};
-ghost use Rattle.interpolator_escapes.specs.Csv.{field_start};
-ghost use Rattle.interpolator_escapes.specs.Fields.{record_shows};
-ghost use Rattle.interpolator_escapes.specs.Formats.{shows_nothing};
-ghost use Rattle.interpolator_escapes.specs.Languages.{read_by};
 ghost use Rattle.interpolator_escapes.specs.Readers.{Token, structure_of};
 ghost use Rattle.interpolator_escapes.specs.RecordFormats.{fields_format, fields_read, item_field};
-ghost use Rattle.interpolator_escapes.specs.RecordFormats.{record_parts};
-ghost use Rattle.interpolator_escapes.specs.RecordFormats.{StandsAsRecord, without_quotes};
+ghost use Rattle.interpolator_escapes.specs.RecordFormats.{record_parts, StandsAsRecord};
+ghost use Rattle.interpolator_escapes.specs.RecordFormats.{without_quotes};
+ghost use Rattle.interpolator_escapes.specs.{Csv.field_start, Fields.record_shows};
+ghost use Rattle.interpolator_escapes.specs.{Formats.shows_nothing, Languages.read_by};
 ghost use Rattle.interpolator_escapes.specs.Records.{fields_of};
 ghost use Rattle.interpolator_escapes.specs.declared.escape.Escape.TheVariants.{Csv};
 

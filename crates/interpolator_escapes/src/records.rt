@@ -2,17 +2,13 @@
 ghost use Rattle.std.specs.Prelude.{◌≡◌, ◌<◌, IfOk, length, true};
 ghost use Rattle.std.specs.Str.{chars};
 ghost use Rattle.interpolator_render.specs.declared.view.Trait.TheVariants.{Display};
-ghost use Rattle.interpolator_syntax.specs.At.{outermost};
-ghost use Rattle.interpolator_syntax.specs.SpecTexts.{plain_spec};
 ghost use Rattle.interpolator_syntax.specs.Nodes.{as_forest, nodes};
+ghost use Rattle.interpolator_syntax.specs.{At.outermost, SpecTexts.plain_spec};
 ghost use Rattle.interpolator_pieces.specs.Stored.{branch_of, detail_of, forest_whole, node_of};
 ghost use Rattle.interpolator_pieces.specs.Stored.{node_whole, nodes_of};
 ghost use Rattle.interpolator_pieces.specs.StoredLists.{is_list_form};
 ghost use Rattle.interpolator_pieces.specs.declared.piece.Piece.TheViews.{out-Piece};
-ghost use Rattle.interpolator_escapes.specs.CodeReaders.{csv_state};
 ghost use Rattle.interpolator_escapes.specs.CodeRecords.{AnswersAs, spot_of};
-ghost use Rattle.interpolator_escapes.specs.Placing.{IfMisplaced};
-ghost use Rattle.interpolator_escapes.specs.Csv.{field_start};
 ghost use Rattle.interpolator_escapes.specs.RecordFormats.{after_forest, after_item, after_join};
 ghost use Rattle.interpolator_escapes.specs.RecordFormats.{after_literal, after_node, and_then};
 ghost use Rattle.interpolator_escapes.specs.RecordFormats.{covers, item_end, join_end, list_end};
@@ -20,6 +16,8 @@ ghost use Rattle.interpolator_escapes.specs.RecordFormats.{same_state, after_rec
 ghost use Rattle.interpolator_escapes.specs.RecordFormats.{in_state, is_field_place};
 ghost use Rattle.interpolator_escapes.specs.RecordFormats.{is_quoted_place, IsRecordAnswer};
 ghost use Rattle.interpolator_escapes.specs.RecordFormats.{record_answer, spot_ending};
+ghost use Rattle.interpolator_escapes.specs.{CodeReaders.csv_state, Placing.IfMisplaced};
+ghost use Rattle.interpolator_escapes.specs.Csv.{field_start};
 
 use crate::ending::Ending;
 use crate::misplaced::{Misplaced, PlaceError, Why};

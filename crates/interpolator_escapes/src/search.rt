@@ -1,14 +1,12 @@
 //! The search for the first character that is escaped.
-ghost use Rattle.std.specs.Prelude.{◌≡◌, ◌<◌, ◌≤◌, ◌⊎◌, ◌∷◌, ◌++◌, [], false, true, length};
-ghost use Rattle.std.specs.Prelude.{◌+◌, get_or, map, not, take, drop, MatchOption, IfSome, IsUtf8};
-ghost use Rattle.std.specs.List.{prefix_len};
-ghost use Rattle.std.specs.Simd.Lanes.{mask_l};
-ghost use Rattle.std.specs.Str.{chars};
+ghost use Rattle.std.specs.Prelude.{◌≡◌, ◌<◌, ◌≤◌, ◌⊎◌, ◌∷◌, ◌++◌, [], false, true, length, ◌+◌};
+ghost use Rattle.std.specs.Prelude.{get_or, map, not, take, drop, MatchOption, IfSome, IsUtf8};
+ghost use Rattle.std.specs.{List.prefix_len, Simd.Lanes.mask_l, Str.chars};
 ghost use Rattle.interpolator_escapes.specs.Escapes.{escaped};
 ghost use Rattle.interpolator_escapes.specs.Search.{ArePlain, may_begin_escaped, doubt, doubt_if};
 ghost use Rattle.interpolator_escapes.specs.Search.{first_mark, most_plain};
-ghost use Rattle.interpolator_escapes.specs.declared.escape.Escape.TheVariants.{Line, Html, Csv, Json};
-ghost use Rattle.interpolator_escapes.specs.declared.escape.Escape.TheVariants.{Shell};
+ghost use Rattle.interpolator_escapes.specs.declared.escape.Escape.TheVariants.{Line, Html, Csv};
+ghost use Rattle.interpolator_escapes.specs.declared.escape.Escape.TheVariants.{Json, Shell};
 
 use crate::escape::Escape;
 use interpolator_syntax::split_first;

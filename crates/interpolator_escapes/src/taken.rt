@@ -1,7 +1,6 @@
 //! The text that a writer has taken, which only proofs read.
 ghost use Rattle.std.specs.Prelude.{◌≡◌, ℕ, List, [], ◌++◌};
-ghost use Rattle.std.specs.Borrow.{ftrue};
-ghost use Rattle.std.specs.Str.{chars};
+ghost use Rattle.std.specs.{Borrow.ftrue, Str.chars};
 
 use interpolator_render::TextWrite;
 use std::marker::{Model, PhantomData};

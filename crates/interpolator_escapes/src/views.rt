@@ -5,11 +5,10 @@ ghost use Rattle.interpolator_render.specs.Texts.{Renders, has_text, view_text};
 ghost use Rattle.interpolator_render.specs.Views.{IsInRange, shown_by, some_text};
 ghost use Rattle.interpolator_render.specs.declared.view.Trait.TheVariants.{Display};
 ghost use Rattle.interpolator_syntax.specs.SpecTexts.{plain_spec};
-ghost use Rattle.interpolator_escapes.specs.Escapes.{escape_of};
-ghost use Rattle.interpolator_escapes.specs.Formats.{escaped_view};
+ghost use Rattle.interpolator_escapes.specs.Wholes.{escaped_text, is_whole, json_null, json_string};
+ghost use Rattle.interpolator_escapes.specs.Wholes.{whole_text, whole_view};
+ghost use Rattle.interpolator_escapes.specs.{Escapes.escape_of, Formats.escaped_view};
 ghost use Rattle.interpolator_escapes.specs.Plain.{is_debug};
-ghost use Rattle.interpolator_escapes.specs.Wholes.{escaped_text, is_whole, json_null};
-ghost use Rattle.interpolator_escapes.specs.Wholes.{json_string, whole_text, whole_view};
 
 use crate::escape::Escape;
 use crate::escaped::{put_escaped, put_json_null, put_json_string};

@@ -1,9 +1,8 @@
 -- The entry at a guessed place, in a list that changes.
-use Rattle.std.specs.List.{find, position_or_len}
-use Rattle.std.specs.Option.{option_or}
-use Rattle.std.proofs.Common.{◌≡◌, ◌∙◌, ◌≤◌, ◌<◌, refl, ap, sym, arith, ℕ, suc, zero, List, ◌∷◌, [], ◌++◌}
-use Rattle.std.proofs.Common.{Bool, true, false, cond, not, length, get_or, set, Option, Some, None, ◌+◌}
-use Rattle.std.proofs.Common.{slice_get}
+use Rattle.std.specs.{List.find, List.position_or_len, Option.option_or}
+use Rattle.std.proofs.Common.{◌≡◌, ◌∙◌, ◌≤◌, ◌<◌, refl, ap, sym, arith, ℕ, suc, zero, List, ◌∷◌, []}
+use Rattle.std.proofs.Common.{◌++◌, Bool, true, false, cond, not, length, get_or, set, Option, Some}
+use Rattle.std.proofs.Common.{None, ◌+◌, slice_get}
 use Rattle.std.proofs.lemmas.List.Folds.{find-append, find-set, find_past}
 use Rattle.interpolator_eval.specs.NameNumbers.{passes, guessed, guessed_place}
 

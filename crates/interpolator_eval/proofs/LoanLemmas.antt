@@ -1,23 +1,21 @@
 -- What an insertion into a map of names leaves, and what a loan of a value does.
-use Rattle.std.proofs.Common.{◌≡◌, ◌≢◌, ◌∙◌, ◌≤◌, ◌<◌, refl, sym, ℕ, ◌+◌, List, ◌∷◌, []}
-use Rattle.std.proofs.Common.{Option, None, Some, Bool, true, false, arith, length, set, ◌⊎◌, inl, inr}
-use Rattle.std.proofs.Common.{◌%◌, ◌^◌, nat_le, nat_eq, slice_index, slice_set}
-use Rattle.std.proofs.Common.{String, Global, Bor, MutBor, option_copied, is_some, OnSome, bytes_eq}
-use Rattle.std.proofs.Common.{encode_utf8_all, string_bytes, string_eq, if◌then◌else◌, get_or, ◌++◌, ◌&&◌, ◌==◌}
+use Rattle.std.proofs.Common.{◌≡◌, ◌≢◌, ◌∙◌, ◌≤◌, ◌<◌, refl, sym, ℕ, ◌+◌, List, ◌∷◌, [], Option}
+use Rattle.std.proofs.Common.{None, Some, Bool, true, false, arith, length, set, ◌⊎◌, inl, inr, ◌%◌}
+use Rattle.std.proofs.Common.{◌^◌, nat_le, nat_eq, slice_index, slice_set, String, Global, Bor}
+use Rattle.std.proofs.Common.{MutBor, option_copied, is_some, OnSome, bytes_eq, encode_utf8_all}
+use Rattle.std.proofs.Common.{string_bytes, string_eq, if◌then◌else◌, get_or, ◌++◌, ◌&&◌, ◌==◌}
+use Rattle.std.proofs.lemmas.List.{length-set, length-append, get_or-set_same, get_or-set_other}
+use Rattle.std.proofs.{lemmas.Bool.false_from_ne_true, lemmas.Map.Text.hash_map_updates_text}
+use Rattle.std.proofs.{lemmas.Slice.Eq.bytes_eq-Decides, lemmas.Str.encodes_same}
 use Rattle.std.specs.Option.{option_copied_mut, option_map, option_or}
 use Rattle.std.specs.HashMap.{get_by_text, hash_map_len, WritesThrough, Updates, UpdatesBy}
-use Rattle.std.proofs.lemmas.Bool.{false_from_ne_true}
-use Rattle.std.proofs.lemmas.List.{length-set, length-append, get_or-set_same, get_or-set_other}
-use Rattle.std.proofs.lemmas.Map.Text.{hash_map_updates_text}
-use Rattle.std.proofs.lemmas.Slice.Eq.{bytes_eq-Decides}
-use Rattle.std.proofs.lemmas.Str.{encodes_same}
 use Rattle.interpolator_eval.specs.NameMaps.{under, under_bytes, HasPut, HasNew, HasAdded}
-use Rattle.interpolator_eval.specs.NameNumbers.{is_of, value_of, name_number, guess_index, guess_for}
-use Rattle.interpolator_eval.specs.NameNumbers.{guessed, guessed_place, remade}
-use Rattle.interpolator_eval.proofs.GuessLemmas.{chosen_is, chosen_passes, other_more, other_at_end}
-use Rattle.interpolator_eval.proofs.GuessLemmas.{own_at_end, own_searched, other_over, own_over}
+use Rattle.interpolator_eval.specs.NameNumbers.{is_of, value_of, name_number, guess_index}
+use Rattle.interpolator_eval.specs.NameNumbers.{guess_for, guessed, guessed_place, remade}
 use Rattle.interpolator_eval.specs.declared.numbered.Numbered.{Numbered}
 use Rattle.interpolator_eval.specs.declared.context_map.NameMap.{NameMap}
+use Rattle.interpolator_eval.proofs.GuessLemmas.{chosen_is, chosen_passes, other_more, other_at_end}
+use Rattle.interpolator_eval.proofs.GuessLemmas.{own_at_end, own_searched, other_over, own_over}
 
 -- two names with the same bytes are the same name
 other_bytes : (name other : List ℕ) → other ≢ name

@@ -1,12 +1,8 @@
 -- The last pair of a name among the pairs of two lists.
-use Rattle.std.specs.Option.{option_map, option_or}
-use Rattle.std.specs.Str.{bytes_eq}
-use Rattle.std.proofs.Common.{◌≡◌, ◌∙◌, ap, refl, ℕ, ◌+◌, List, ◌++◌, take, drop, reverse}
-use Rattle.std.proofs.Common.{Bool, Bor, Option, None, Some}
-use Rattle.std.specs.List.{find}
-use Rattle.std.proofs.Math.Seq.{take-add}
-use Rattle.std.proofs.lemmas.List.{reverse-append}
-use Rattle.std.proofs.lemmas.List.Folds.{find-append}
+use Rattle.std.specs.{Option.option_map, Option.option_or, Str.bytes_eq, List.find}
+use Rattle.std.proofs.Common.{◌≡◌, ◌∙◌, ap, refl, ℕ, ◌+◌, List, ◌++◌, take, drop, reverse, Bool}
+use Rattle.std.proofs.Common.{Bor, Option, None, Some}
+use Rattle.std.proofs.{Math.Seq.take-add, lemmas.List.reverse-append, lemmas.List.Folds.find-append}
 use Rattle.interpolator_eval.specs.Contexts.{last_under}
 
 -- what is done to the first of two options is done to each

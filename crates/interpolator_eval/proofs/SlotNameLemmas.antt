@@ -1,15 +1,12 @@
 -- The text of the filled slots' names, while they are written one by one.
 use Rattle.std.proofs.Common.{◌≡◌, refl, arith, ℕ, ◌+◌, ◌<◌, List, [], ◌∷◌, ◌++◌, append_assoc}
 use Rattle.std.proofs.Common.{append-nil, get_or, take, map, Bool, true, false, filter, codes}
-use Rattle.std.specs.List.{join_by}
-use Rattle.std.specs.Fmt.{HasWrittenStyled, IsFlush}
-use Rattle.std.specs.declared.fmt.Formatter.{Formatter}
 use Rattle.std.proofs.Output.{has_written_styled_append, has_written_styled_of_eq}
 use Rattle.std.proofs.lemmas.List.{take_more, map-append}
-use Rattle.std.proofs.lemmas.List.Concat.{flat_map-append}
-use Rattle.std.proofs.lemmas.List.Elements.{filter-append}
-use Rattle.interpolator_render.specs.declared.view.Trait.{Trait}
-use Rattle.interpolator_render.specs.declared.view.Trait.TheVariants.{Binary}
+use Rattle.std.proofs.{lemmas.List.Concat.flat_map-append, lemmas.List.Elements.filter-append}
+use Rattle.std.specs.Fmt.{HasWrittenStyled, IsFlush}
+use Rattle.std.specs.{List.join_by, declared.fmt.Formatter.Formatter}
+use Rattle.interpolator_render.specs.declared.{view.Trait.Trait, view.Trait.TheVariants.Binary}
 use Rattle.interpolator_eval.specs.SlotNames.{slot_name, slot_order, name_after, in_parentheses}
 
 -- the names so far, with no closing parenthesis yet

@@ -1,10 +1,7 @@
 -- What std's maps, and pairs, find under a name, which is a list of characters.
 use Rattle.std.specs.Prelude.{ℕ, List, Option, String, reverse}
-use Rattle.std.specs.List.{find}
-use Rattle.std.specs.Option.{option_map}
-use Rattle.std.specs.Str.{bytes_eq, encode_utf8_all}
-use Rattle.std.specs.Borrow.{Bor}
 use Rattle.std.specs.HashMap.{HashMap, get_by, get_by_text}
+use Rattle.std.specs.{List.find, Option.option_map, Str.bytes_eq, Str.encode_utf8_all, Borrow.Bor}
 use Rattle.interpolator_eval.specs.Slots.{Slots, slots_of}
 use Rattle.interpolator_eval.specs.declared.slots.Formattable.{Formattable}
 

@@ -2,12 +2,10 @@
 use Rattle.std.specs.Prelude.{◌≡◌, ◌≢◌, ℕ, ◌+◌, List, Option, Some, Result, MatchOption, is_some}
 use Rattle.std.specs.Prelude.{if◌then◌else◌, length, false}
 use Rattle.std.specs.Option.{option_map, option_or, OnSome}
-use Rattle.std.specs.Str.{bytes_eq, encode_utf8_all}
-use Rattle.std.specs.HashMap.{hash_map_len, get_by_text}
 use Rattle.std.specs.Borrow.{LendsSo, LendsSoOk, Fml, RattleType, MutBor}
+use Rattle.std.specs.{Str.bytes_eq, Str.encode_utf8_all, HashMap.hash_map_len, HashMap.get_by_text}
 use Rattle.interpolator_eval.specs.Slots.{Slots, slots_of}
-use Rattle.interpolator_eval.specs.NameNumbers.{value_of}
-use Rattle.interpolator_eval.specs.declared.slots.Formattable.{Formattable}
+use Rattle.interpolator_eval.specs.{NameNumbers.value_of, declared.slots.Formattable.Formattable}
 use Rattle.interpolator_eval.specs.declared.context_map.NameMap.{NameMap}
 use Rattle.interpolator_eval.specs.contracts.context_map.NameMap.{the_row}
 

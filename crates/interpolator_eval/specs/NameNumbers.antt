@@ -1,12 +1,9 @@
 -- A number for each name, and which of some entries, each with its number, is that of a name.
-use Rattle.std.specs.Prelude.{ℕ, List, Option, Some, None, Bool, false, cond, slice_get}
-use Rattle.std.specs.Prelude.{◌+◌, ◌*◌, ◌-◌, ◌%◌, ◌/◌, ◌^◌, ◌≤◌, ◌==◌, ◌&&◌, ◌≡◌, nat_le}
-use Rattle.std.specs.Prelude.{take, drop, length, if◌then◌else◌, string_bytes, slice_index, slice_set}
-use Rattle.std.specs.List.{find, position_or_len}
-use Rattle.std.specs.Option.{option_map}
-use Rattle.std.specs.Str.{bytes_eq}
-use Rattle.interpolator_eval.specs.Names.{word}
-use Rattle.interpolator_eval.specs.declared.numbered.Numbered.{Numbered}
+use Rattle.std.specs.Prelude.{ℕ, List, Option, Some, None, Bool, false, cond, slice_get, ◌+◌, ◌*◌}
+use Rattle.std.specs.Prelude.{◌-◌, ◌%◌, ◌/◌, ◌^◌, ◌≤◌, ◌==◌, ◌&&◌, ◌≡◌, nat_le, take, drop, length}
+use Rattle.std.specs.Prelude.{if◌then◌else◌, string_bytes, slice_index, slice_set}
+use Rattle.std.specs.{List.find, List.position_or_len, Option.option_map, Str.bytes_eq}
+use Rattle.interpolator_eval.specs.{Names.word, declared.numbered.Numbered.Numbered}
 
 -- what the ends of names are multiplied by
 abbrev pub odd : ℕ

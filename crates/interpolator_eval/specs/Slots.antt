@@ -1,7 +1,6 @@
 -- What a `Formattable` means: a tree of slots and items, without the borrows.
 use Rattle.std.specs.Prelude.{List, [], ◌∷◌, map, Option, None, Some}
-use Rattle.std.specs.Option.{option_map, option_copied}
-use Rattle.std.specs.Borrow.{Bor}
+use Rattle.std.specs.{Option.option_map, Option.option_copied, Borrow.Bor}
 use Rattle.interpolator_render.specs.declared.view.Trait.{Trait}
 use Rattle.interpolator_render.specs.declared.view.Trait.TheVariants.{Binary, Debug, Display}
 use Rattle.interpolator_render.specs.declared.view.Trait.TheVariants.{LowerExp, LowerHex, Octal}

@@ -1,7 +1,6 @@
 //! Contexts, in which a format finds its values.
 ghost use Rattle.std.specs.Prelude.{◌≡◌, ℕ, List, Option};
-ghost use Rattle.std.specs.Option.{option_copied, option_map};
-ghost use Rattle.std.specs.Str.{chars};
+ghost use Rattle.std.specs.{Option.option_copied, Option.option_map, Str.chars};
 ghost use Rattle.interpolator_eval.specs.Slots.{Slots, slots_of};
 ghost use Rattle.interpolator_eval.specs.Contexts.{found_by_str, found_by_text};
 

@@ -2,9 +2,7 @@
 ghost use Rattle.std.specs.Prelude.{◌≡◌, ◌↔◌, ℕ, List, None, Some, IsTrue, ◌<◌, ◌≤◌, ◌+◌, length};
 ghost use Rattle.std.specs.Prelude.{slice_get, true, false, IfOk, IfErr, OnOk, OnErr};
 ghost use Rattle.std.specs.Option.{option_copied, option_copied_mut};
-ghost use Rattle.std.specs.Str.{chars};
-ghost use Rattle.std.specs.String.{string_bytes};
-ghost use Rattle.std.specs.Borrow.{sem};
+ghost use Rattle.std.specs.{Str.chars, String.string_bytes, Borrow.sem};
 ghost use Rattle.interpolator_eval.specs.NameMaps.{under, under_bytes, name_count, stored_slots};
 ghost use Rattle.interpolator_eval.specs.NameMaps.{HasPut, IsSame, HasAdded, HasNew, IsEntry};
 ghost use Rattle.interpolator_eval.specs.NameMaps.{LendsUnder, LendsEntry};
@@ -41,8 +39,8 @@ pub type ContextMap<'a, V> = NameMap<Formattable<'a, V>>;
 const FEW: usize = 32;
 
 /// A map from names, which are compared by their characters. It keeps the allocator that `new`
-/// takes, and copies each name that is put in. The first 32 names are found in less time than those
-/// of a `HashMap`.
+/// takes, and copies each name that is put in. The first 32 names are found by numbers made of
+/// their ends and lengths, further ones by a `HashMap`.
 #[derive(Drop)]
 pub struct NameMap<T> {
     few: Vec<Numbered<T>>,

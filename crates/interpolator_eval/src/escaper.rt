@@ -2,8 +2,7 @@
 ghost use Rattle.std.specs.Str.{chars};
 ghost use Rattle.interpolator_render.specs.Texts.{Renders, view_text};
 ghost use Rattle.interpolator_render.specs.Views.{IsInRange, Shown, shown_by, some_text};
-ghost use Rattle.interpolator_render.specs.declared.view.Spec.{Spec};
-ghost use Rattle.interpolator_render.specs.declared.view.Trait.{Trait};
+ghost use Rattle.interpolator_render.specs.{declared.view.Spec.Spec, declared.view.Trait.Trait};
 ghost use Rattle.interpolator_render.specs.declared.view.Trait.TheVariants.{Display};
 ghost use Rattle.interpolator_syntax.specs.SpecTexts.{plain_spec};
 

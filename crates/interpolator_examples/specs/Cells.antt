@@ -1,6 +1,5 @@
 -- What a cell of a table shows: a user's own enum, which the examples use as a value.
-use Rattle.std.specs.Prelude.{string_bytes}
-use Rattle.std.specs.Str.{chars}
+use Rattle.std.specs.{Prelude.string_bytes, Str.chars}
 use Rattle.interpolator.specs.Views.{Shown, signed_number, some_text, nothing_implemented}
 use Rattle.interpolator.specs.declared.Bits.TheVariants.{B64}
 use Rattle.interpolator_examples.specs.declared.cells.Cell.{Cell}

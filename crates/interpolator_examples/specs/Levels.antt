@@ -1,6 +1,5 @@
 -- What a level of a log shows: a user's own enum whose debug text is not its display text.
-use Rattle.std.specs.Prelude.{ℕ, List, codes}
-use Rattle.std.specs.Str.{chars}
+use Rattle.std.specs.{Prelude.ℕ, Prelude.List, Prelude.codes, Str.chars}
 use Rattle.interpolator_render.specs.Views.{Shown, some_text, plain_text, nothing_implemented}
 use Rattle.interpolator_render.specs.declared.view.Trait.{Trait}
 use Rattle.interpolator_render.specs.declared.view.Trait.TheVariants.{Debug, Display}

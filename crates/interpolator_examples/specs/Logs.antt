@@ -1,13 +1,10 @@
 -- What a log of records contains.
 use Rattle.std.specs.Prelude.{ℕ, List, [], ◌++◌, Option, Some, None, encode_utf8_all, codes}
 use Rattle.std.specs.Prelude.{if◌then◌else◌}
-use Rattle.std.specs.Str.{bytes_eq, chars}
-use Rattle.std.specs.Io.KnownBytes.{Appends}
-use Rattle.interpolator.specs.At.{outermost, text_of}
-use Rattle.interpolator.specs.Meaning.Environments.{environment}
-use Rattle.interpolator.specs.Meaning.Meanings.{means}
+use Rattle.std.specs.{Str.bytes_eq, Str.chars, Io.KnownBytes.Appends}
 use Rattle.interpolator.specs.Slots.{Slots, empty_slots, with_display}
-use Rattle.interpolator.specs.Views.{unsigned_number}
+use Rattle.interpolator.specs.{At.outermost, At.text_of, Meaning.Environments.environment}
+use Rattle.interpolator.specs.{Meaning.Meanings.means, Views.unsigned_number}
 use Rattle.interpolator_examples.specs.declared.users.log_file.Record.{Record}
 use Rattle.interpolator_examples.specs.declared.users.log_file.Records.{Records}
 use Rattle.interpolator_examples.specs.declared.users.log_file.Records.TheVariants.{End, More'}

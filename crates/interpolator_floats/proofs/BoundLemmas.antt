@@ -1,15 +1,14 @@
 -- Which decimals read as a float: those inside its bounds, and no others, in each format.
-use Rattle.std.proofs.Common.{◌≡◌, ◌⊎◌, ℕ, ◌<◌, ◌≤◌, ◌-◌, ◌+◌, ◌*◌, ◌/◌, ◌%◌, ◌^◌, if◌then◌else◌, ◌==◌}
-use Rattle.std.proofs.Common.{sym, ap, ◌∙◌, arith, eq-zero-or-pos, inl, inr, subst, pow-add, mul_assoc}
-use Rattle.std.proofs.Math.Nat.{mul_comm, mul-le-mul_right, mul-le-mul_left, mul-lt-mul_of_pos_right, div-lt_iff_lt-mul, le-div_iff_mul-le, lt_of_lt_of_le, le_trans, mul-pos, pow-le-pow_right}
+use Rattle.std.proofs.Common.{◌≡◌, ◌⊎◌, ℕ, ◌<◌, ◌≤◌, ◌-◌, ◌+◌, ◌*◌, ◌/◌, ◌%◌, ◌^◌, if◌then◌else◌}
+use Rattle.std.proofs.Common.{◌==◌, sym, ap, ◌∙◌, arith, eq-zero-or-pos, inl, inr, subst, pow-add}
+use Rattle.std.proofs.Common.{mul_assoc}
+use Rattle.std.proofs.Math.Nat.{mul_comm, mul-le-mul_right, mul-le-mul_left}
+use Rattle.std.proofs.Math.Nat.{mul-lt-mul_of_pos_right, div-lt_iff_lt-mul, le-div_iff_mul-le}
+use Rattle.std.proofs.Math.Nat.{lt_of_lt_of_le, le_trans, mul-pos, pow-le-pow_right}
 use native.Mathlib.Nat.{eq_of_mul-eq-mul_right}
-use lib.Pow.{pow_pos}
-use lib.Ieee.{low, size}
-use lib.Ieee.Digits.{size-lt, size_reaches}
-use lib.Ieee.Fits.{nearest-le}
-use lib.Ieee.Nearest.{closest, nearest-ge}
+use lib.{Pow.pow_pos, Ieee.low, Ieee.size, Ieee.Digits.size-lt, Ieee.Digits.size_reaches}
+use lib.{Ieee.Fits.nearest-le, Ieee.Nearest.closest, Ieee.Nearest.nearest-ge, Ieee.Order.drop}
 use Prim.Native.Nat.{compare}
-use lib.Ieee.Order.{drop}
 use Rattle.interpolator_floats.proofs.ReadLemmas.{closest_inside, closest_only, slack-le}
 
 -- one more if a mantissa is even

@@ -1,11 +1,10 @@
 -- The choice among the counts between two bounds.
-use Rattle.std.proofs.Common.{◌≡◌, ◌≢◌, ◌↔◌, ℕ, ◌<◌, ◌≤◌, ◌-◌, ◌+◌, ◌*◌, ◌/◌, ◌%◌, true, false, true≢false}
-use Rattle.std.proofs.Common.{sym, ap, ◌∙◌, arith, eq-zero-or-pos, inl, inr}
+use Rattle.std.proofs.Common.{◌≡◌, ◌≢◌, ◌↔◌, ℕ, ◌<◌, ◌≤◌, ◌-◌, ◌+◌, ◌*◌, ◌/◌, ◌%◌, true, false}
+use Rattle.std.proofs.Common.{true≢false, sym, ap, ◌∙◌, arith, eq-zero-or-pos, inl, inr}
 use Rattle.std.proofs.Math.Nat.{mul-le-mul_right, div-add-mod', mod-lt, le-div_iff_mul-le}
 use native.Mathlib.Nat.{lt_of_not-le, not-le_of_lt}
 use Rattle.interpolator_digits.specs.Exponent.{distance}
-use Rattle.interpolator_floats.proofs.BoundLemmas.{slack}
-use Rattle.interpolator_floats.proofs.ChoiceLemmas.{only_tens}
+use Rattle.interpolator_floats.proofs.{BoundLemmas.slack, ChoiceLemmas.only_tens}
 use Rattle.interpolator_floats.specs.Floats.{IsChoice, IsInside}
 
 module _ (n unit below above low high near : ℕ) (some : 0 < unit) (narrow : below + above ≤ 10 * unit + 1)

@@ -1,11 +1,10 @@
 -- The parts of an f32 by its pattern, in the steps of an f64.
-use Rattle.std.proofs.Common.{◌≡◌, ℕ, suc, ◌<◌, ◌≤◌, ◌-◌, ◌+◌, ◌*◌, ◌/◌, ◌%◌, ◌^◌, Bool, true, false, ℤ, cond, T, not, leb, eqb}
-use Rattle.std.proofs.Common.{sym, ap, ◌∙◌, arith, subst, true≢false}
-use Rattle.std.proofs.Common.{mul_assoc, pow-add}
+use Rattle.std.proofs.Common.{◌≡◌, ℕ, suc, ◌<◌, ◌≤◌, ◌-◌, ◌+◌, ◌*◌, ◌/◌, ◌%◌, ◌^◌, Bool, true}
+use Rattle.std.proofs.Common.{false, ℤ, cond, T, not, leb, eqb, sym, ap, ◌∙◌, arith, subst}
+use Rattle.std.proofs.Common.{true≢false, mul_assoc, pow-add}
 use Rattle.std.specs.Float.{float_is_finite}
 use lib.Ieee.{Float, nan, inf, fin, binary32, odd, fits, is_nan, of_bits, of_fields, to_bits}
-use lib.Ieee.Bits.{of_bits-to_bits}
-use lib.Ieee.Exact.{HasValue, odd_sign}
+use lib.{Ieee.Bits.of_bits-to_bits, Ieee.Exact.HasValue, Ieee.Exact.odd_sign}
 use borrow.Author.Tests.{ne_eqb}
 use native.Mathlib.Nat.{lt_of_not-le}
 use Rattle.interpolator_floats.proofs.ShortestLemmas.{value_scaled}

@@ -1,13 +1,12 @@
 -- The parts of a float by its pattern.
-use Rattle.std.proofs.Common.{◌≡◌, ℕ, zero, suc, ◌<◌, ◌≤◌, ◌-◌, ◌+◌, ◌*◌, ◌/◌, ◌%◌, ◌^◌, Bool, true, false, ℤ, cond, T, not, leb, eqb}
-use Rattle.std.proofs.Common.{refl, sym, ap, ◌∙◌, arith, subst, true≢false}
-use Rattle.std.proofs.Common.{mul_assoc, pow-add, pow-suc, codes}
+use Rattle.std.proofs.Common.{◌≡◌, ℕ, zero, suc, ◌<◌, ◌≤◌, ◌-◌, ◌+◌, ◌*◌, ◌/◌, ◌%◌, ◌^◌, Bool, true}
+use Rattle.std.proofs.Common.{false, ℤ, cond, T, not, leb, eqb, refl, sym, ap, ◌∙◌, arith, subst}
+use Rattle.std.proofs.Common.{true≢false, mul_assoc, pow-add, pow-suc, codes}
 use Rattle.std.proofs.Math.Nat.{div-one, div-div-eq-div-mul, mul_comm}
 use Rattle.std.specs.Float.{float_is_finite, float_is_infinite, is_sign_negative}
-use lib.Count.{count_trailing_zeros, under}
 use lib.Ieee.{Float, nan, inf, fin, binary64, odd, fits, is_nan, of_bits, of_fields, to_bits}
-use lib.Ieee.Bits.{of_bits-to_bits}
-use lib.Ieee.Exact.{HasValue, odd_sign}
+use lib.{Count.count_trailing_zeros, Count.under, Ieee.Bits.of_bits-to_bits, Ieee.Exact.HasValue}
+use lib.Ieee.Exact.{odd_sign}
 use borrow.Author.Tests.{ne_eqb}
 use native.Mathlib.Nat.{lt_of_not-le}
 use Rattle.interpolator_floats.specs.Floats.{float_word, has_minus}

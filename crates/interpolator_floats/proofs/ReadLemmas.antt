@@ -1,20 +1,18 @@
 -- A count inside a float's bounds reads back as the float.
-use Rattle.std.proofs.Common.{◌≡◌, ℕ, ◌<◌, ◌≤◌, ◌-◌, ◌+◌, ◌*◌, ◌/◌, ◌%◌, ◌^◌, false, T, not, if◌then◌else◌, ◌==◌}
-use Rattle.std.proofs.Common.{sym, ap, ◌∙◌, arith, eq-zero-or-pos, inl, inr, subst, pow-add, mul_assoc}
-use Rattle.std.proofs.Math.Nat.{mul_comm, mul_right_comm, mul-le-mul_right, mul-lt-mul_of_pos_right, div-lt_iff_lt-mul, le-div_iff_mul-le, add-mul, div-eq_of_lt-le, div-add-mod', lt_of_lt_of_le, mul-pos, mul_left_comm}
+use Rattle.std.proofs.Common.{◌≡◌, ℕ, ◌<◌, ◌≤◌, ◌-◌, ◌+◌, ◌*◌, ◌/◌, ◌%◌, ◌^◌, false, T, not}
+use Rattle.std.proofs.Common.{if◌then◌else◌, ◌==◌, sym, ap, ◌∙◌, arith, eq-zero-or-pos, inl, inr}
+use Rattle.std.proofs.Common.{subst, pow-add, mul_assoc}
+use Rattle.std.proofs.Math.Nat.{mul_comm, mul_right_comm, mul-le-mul_right, mul-lt-mul_of_pos_right}
+use Rattle.std.proofs.Math.Nat.{div-lt_iff_lt-mul, le-div_iff_mul-le, add-mul, div-eq_of_lt-le}
+use Rattle.std.proofs.Math.Nat.{div-add-mod', lt_of_lt_of_le, mul-pos, mul_left_comm}
 use Prim.Native.Nat.{compare, Ordering}
-use native.Mathlib.Nat.{lt_of_not-le, not-le_of_lt}
+use native.Mathlib.Nat.{lt_of_not-le, not-le_of_lt, eq_of_mul-eq-mul_right, mod-lt}
 use lib.Dec.{is_le, compare_is_eq, leb→le, nleb→lt, eqb→eq, eqb_refl, eqb}
-use lib.Arith.{lt_of_le-ne}
 use lib.Pow.{pow_pos, pow_mono, shl_lt}
 use lib.Ieee.{Float, nan, inf, fin, down, binary64, round, size}
-use lib.Ieee.Fits.{down_pos}
-use native.Mathlib.Nat.{eq_of_mul-eq-mul_right, mod-lt}
-use lib.Ieee.Digits.{size-lt, size-le}
-use lib.Ieee.Exact.{HasValue}
-use lib.Ieee.Nearest.{closest, closest_same}
-use lib.Ieee.Order.{drop}
 use lib.Ieee.Scale.{round_val, round_under, grid, finite}
+use lib.{Arith.lt_of_le-ne, Ieee.Fits.down_pos, Ieee.Digits.size-lt, Ieee.Digits.size-le}
+use lib.{Ieee.Exact.HasValue, Ieee.Nearest.closest, Ieee.Nearest.closest_same, Ieee.Order.drop}
 use Rattle.interpolator_digits.proofs.ExponentLemmas.{pow_some}
 use Rattle.interpolator_floats.specs.Floats.{IsInside}
 

@@ -1,12 +1,11 @@
 -- A choice by other units of one value.
-use Rattle.std.proofs.Common.{◌≡◌, ◌⊎◌, ℕ, ◌<◌, ◌≤◌, ◌+◌, ◌*◌, ◌^◌, Bool}
-use Rattle.std.proofs.Common.{inl, inr, refl, sym, ap, ◌∙◌, arith, subst, pow-add, mul_assoc}
+use Rattle.std.proofs.Common.{◌≡◌, ◌⊎◌, ℕ, ◌<◌, ◌≤◌, ◌+◌, ◌*◌, ◌^◌, Bool, inl, inr, refl, sym, ap}
+use Rattle.std.proofs.Common.{◌∙◌, arith, subst, pow-add, mul_assoc}
 use Rattle.std.proofs.Math.Nat.{mul_comm, mul-le-mul_right, mul-lt-mul_of_pos_right}
 use lib.Pow.{pow_pos}
 use Rattle.interpolator_digits.specs.Exponent.{distance}
-use Rattle.interpolator_floats.proofs.BoundLemmas.{slack}
-use Rattle.interpolator_floats.proofs.ReadLemmas.{slack-le}
 use Rattle.interpolator_floats.proofs.ShortLemmas.{cross, distance_scaled}
+use Rattle.interpolator_floats.proofs.{BoundLemmas.slack, ReadLemmas.slack-le}
 use Rattle.interpolator_floats.specs.Floats.{IsChoice, IsInside}
 use Rattle.interpolator_floats.specs.Shortest.{IsScale, units_down, units_up}
 

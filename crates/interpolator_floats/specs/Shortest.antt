@@ -1,7 +1,6 @@
 -- The shortest digits of a float.
 use Rattle.std.specs.Prelude.{ℕ, suc, ◌≡◌, ◌⊎◌, ◌+◌, ◌-◌, ◌*◌, ◌/◌, ◌^◌, ◌<◌, ◌≤◌, false}
-use lib.Ieee.{Format, emax, low, prec, round}
-use lib.Ieee.Exact.{HasValue}
+use lib.{Ieee.Format, Ieee.emax, Ieee.low, Ieee.prec, Ieee.round, Ieee.Exact.HasValue}
 use Rattle.interpolator_digits.specs.Exponent.{distance}
 
 -- of a format's floats the one of so many steps of 2 ^ -1074 is nearest to n / d, that of the even

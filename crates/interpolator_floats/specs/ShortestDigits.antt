@@ -1,13 +1,12 @@
 -- The shortest digits of a float, as a function.
 use Rattle.std.specs.Prelude.{ℕ, zero, suc, ◌≡◌, ◌⊎◌, ◌+◌, ◌-◌, ◌*◌, ◌/◌, ◌%◌, ◌^◌, max, Bool}
-use Rattle.std.specs.Prelude.{false, if◌then◌else◌, ◌==◌, ◌&&◌, nat_lt, nat_le}
-use Rattle.std.specs.Prelude.{None, List, ◌++◌, replicate}
+use Rattle.std.specs.Prelude.{false, if◌then◌else◌, ◌==◌, ◌&&◌, nat_lt, nat_le, None, List, ◌++◌}
+use Rattle.std.specs.Prelude.{replicate}
 use lib.Ieee.{Float, Format, fin, up, down, low, prec}
 use lib.Ieee.Order.{drop}
-use Rattle.interpolator_digits.specs.Characters.{zero_digit}
 use Rattle.interpolator_digits.specs.Decimals.{after_point, decimal_exponent_text, decimal_text}
 use Rattle.interpolator_digits.specs.Decimals.{placed}
-use Rattle.interpolator_digits.specs.Digits.{digit_text}
+use Rattle.interpolator_digits.specs.{Characters.zero_digit, Digits.digit_text}
 use Rattle.interpolator_floats.specs.declared.shortest.Shortest.{Shortest}
 use Rattle.interpolator_floats.specs.Shortest.{units_down, units_up}
 

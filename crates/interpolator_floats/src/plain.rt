@@ -1,7 +1,6 @@
 //! The text of a float's shortest digits, in parts.
 ghost use Rattle.std.specs.Prelude.{◌≡◌, ◌+◌, ◌*◌, ◌^◌, ◌<◌, ◌≤◌, Bool, false};
-ghost use Rattle.interpolator_digits.specs.Digits.{digit_text};
-ghost use Rattle.interpolator_digits.specs.Exponent.{exponent_of};
+ghost use Rattle.interpolator_digits.specs.{Digits.digit_text, Exponent.exponent_of};
 ghost use Rattle.interpolator_floats.specs.ExponentTexts.{scientific_text};
 ghost use Rattle.interpolator_floats.specs.ShortestDigits.{IsTrimmed, plain_text};
 ghost use Rattle.interpolator_floats.specs.ShortestDigits.{shortest_exponent_text, shortest_text};

@@ -1,19 +1,16 @@
 -- The faults that a text has by itself: a meaning has no other `Parse` or `UnsupportedOption`, and
 -- they are those of the pieces. And the name of a missing value is one that the text uses.
-use Rattle.std.proofs.Common.{◌≡◌, refl, sym, ap, subst, arith, ℕ, false, List, [], ◌∷◌, inl}
-use Rattle.std.proofs.Common.{inr, Option, Some, None, Contains}
+use Rattle.std.proofs.Common.{◌≡◌, refl, sym, ap, subst, arith, ℕ, false, List, [], ◌∷◌, inl, inr}
+use Rattle.std.proofs.Common.{Option, Some, None, Contains}
 use Rattle.std.proofs.lemmas.List.Elements.{Contains-append_left, Contains-append_right}
 use Rattle.std.proofs.lemmas.List.Elements.{Contains-append_cases}
-use Rattle.interpolator_render.specs.Views.{Shown}
-use Rattle.interpolator_render.specs.declared.view.Spec.{Spec}
+use Rattle.interpolator_render.specs.{Views.Shown, declared.view.Spec.Spec}
 use Rattle.interpolator_render.specs.declared.view.Trait.{Trait}
-use Rattle.interpolator_syntax.specs.At.{At}
-use Rattle.interpolator_syntax.specs.Faults.{Fault, missing_value}
 use Rattle.interpolator_syntax.specs.Nodes.{Node, node, Branch, no_branch, branch, Forest, no_nodes}
 use Rattle.interpolator_syntax.specs.Nodes.{nodes_and, as_forest, nodes}
-use Rattle.interpolator_eval.specs.Slots.{Slots}
-use Rattle.interpolator_eval.specs.Meaning.AskedNames.{asked_names}
+use Rattle.interpolator_syntax.specs.{At.At, Faults.Fault, Faults.missing_value}
 use Rattle.interpolator_eval.specs.Meaning.Environments.{Environment, environment}
+use Rattle.interpolator_eval.specs.{Slots.Slots, Meaning.AskedNames.asked_names}
 use Rattle.interpolator_eval.specs.Meaning.Meanings.{means}
 use Rattle.interpolator_pieces.specs.NodeChecks.{fault_list, first_fault, own_fault, end_fault}
 use Rattle.interpolator_pieces.specs.NodeChecks.{node_faults, branch_faults, forest_faults}

@@ -3,32 +3,27 @@ use Rattle.std.proofs.Common.{◌≡◌, ℕ, ◌+◌, ◌<◌, ◌≤◌, List,
 use Rattle.std.proofs.Common.{refl, sym, subst, Option, Some, None, Result, Ok, Err}
 use Rattle.std.proofs.lemmas.Str.{len_utf8_bounds}
 use Rattle.std.specs.Prelude.{⊤}
-use Rattle.interpolator_syntax.specs.ArgumentGrammar.{Asks, request_in}
-use Rattle.interpolator_syntax.specs.Arguments.{Argument, argument_at}
-use Rattle.interpolator_syntax.specs.At.{At, size, strip}
-use Rattle.interpolator_syntax.specs.Classes.{close_brace}
-use Rattle.interpolator_syntax.specs.Faults.{Fault}
-use Rattle.interpolator_syntax.specs.Groups.{Group}
-use Rattle.interpolator_syntax.specs.Pieces.{argument_from, argument_or_broken, argument_step}
-use Rattle.interpolator_syntax.specs.SpecGrammar.{kind}
 use Rattle.interpolator_syntax.specs.SpecTexts.{Kind, of_value, of_list, Request}
 use Rattle.interpolator_syntax.specs.Tokens.{Token, argument, first_token, past_token}
 use Rattle.interpolator_syntax.specs.Nodes.{as_forest, group_branch, item_branch, join_branch}
 use Rattle.interpolator_syntax.specs.Nodes.{piece_node, token_node, nodes}
 use Rattle.interpolator_syntax.specs.Splits.{node_place, node_end, Contiguous, GroupsInside}
 use Rattle.interpolator_syntax.specs.Splits.{GroupInside, HasGroups}
+use Rattle.interpolator_syntax.specs.{ArgumentGrammar.Asks, ArgumentGrammar.request_in}
+use Rattle.interpolator_syntax.specs.{Arguments.Argument, Arguments.argument_at, At.At, At.size}
+use Rattle.interpolator_syntax.specs.{At.strip, Classes.close_brace, Faults.Fault, Groups.Group}
+use Rattle.interpolator_syntax.specs.{Pieces.argument_from, Pieces.argument_or_broken}
+use Rattle.interpolator_syntax.specs.{Pieces.argument_step, SpecGrammar.kind}
 use Rattle.interpolator_syntax.specs.declared.piece_kind.PieceKind as told
 use Rattle.interpolator_syntax.specs.declared.piece_kind.PieceKind.TheVariants.{Closed, Unclosed}
-use Rattle.interpolator_syntax.proofs.GrammarArgumentLemmas.{argument_is}
 use Rattle.interpolator_syntax.proofs.LocalityLemmas.{takes_reaches, size-append}
-use Rattle.interpolator_syntax.proofs.PieceLemmas.{strip_after}
-use Rattle.interpolator_syntax.proofs.ReaderLemmas.{argument_takes}
-use Rattle.interpolator_syntax.proofs.ScanLemmas.{hands_nothing}
 use Rattle.interpolator_syntax.proofs.SizeLemmas.{GroupIfIn, KindIn, argument_in}
 use Rattle.interpolator_syntax.proofs.TokenLemmas.{scan_shorter, token_shorter}
 use Rattle.interpolator_syntax.proofs.NodeLemmas.{by_length, nodes_first, nodes_none}
-use Rattle.interpolator_syntax.proofs.SplitLemmas.{texts}
 use Rattle.interpolator_syntax.proofs.TokenTextLemmas.{takes_token, scan_taken}
+use Rattle.interpolator_syntax.proofs.{GrammarArgumentLemmas.argument_is, PieceLemmas.strip_after}
+use Rattle.interpolator_syntax.proofs.{ReaderLemmas.argument_takes, ScanLemmas.hands_nothing}
+use Rattle.interpolator_syntax.proofs.SplitLemmas.{texts}
 
 -- ---- groups end in front of what follows their argument
 

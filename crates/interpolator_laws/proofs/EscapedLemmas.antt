@@ -1,24 +1,18 @@
 -- What holds of an escaped format's meaning holds of its text.
-use Rattle.std.proofs.Common.{◌≡◌, ◌⊎◌, inl, inr, ap, sym, ◌∙◌, refl, subst, chars}
-use Rattle.std.proofs.Common.{ℕ, List, Some, None, option_map, Result, Ok, Err}
-use Rattle.std.specs.Prelude.{IfOk, string_bytes}
-use Rattle.std.specs.declared.string.String.{String}
-use Rattle.interpolator_render.specs.declared.view.Trait.{Trait}
-use Rattle.interpolator_render.specs.declared.view.Spec.{Spec}
+use Rattle.std.proofs.Common.{◌≡◌, ◌⊎◌, inl, inr, ap, sym, ◌∙◌, refl, subst, chars, ℕ, List, Some}
+use Rattle.std.proofs.Common.{None, option_map, Result, Ok, Err}
+use Rattle.std.specs.{Prelude.IfOk, Prelude.string_bytes, declared.string.String.String}
+use Rattle.interpolator_render.specs.{declared.view.Trait.Trait, declared.view.Spec.Spec}
 use Rattle.interpolator_render.specs.Views.{Shown}
-use Rattle.interpolator_syntax.specs.At.{outermost, text_of}
 use Rattle.interpolator_syntax.specs.Faults.{fault, answer_of, no_memory, result_answer}
-use Rattle.interpolator_syntax.specs.declared.error.Error.{Error}
-use Rattle.interpolator_eval.specs.Meaning.Environments.{Environment}
+use Rattle.interpolator_syntax.specs.{At.outermost, At.text_of, declared.error.Error.Error}
 use Rattle.interpolator_eval.specs.Meaning.Meanings.{Meaning, means}
-use Rattle.interpolator_eval.specs.Meaning.Outcomes.{Formats}
-use Rattle.interpolator_escapes.specs.Formats.{Stands, escaped_shows}
-use Rattle.interpolator_escapes.specs.Lines.{control_step, everywhere}
-use Rattle.interpolator_escapes.specs.Placing.{StandsFor}
-use Rattle.interpolator_escapes.specs.Records.{row_format}
-use Rattle.interpolator_escapes.specs.declared.escape.Escape.{Escape}
+use Rattle.interpolator_eval.specs.{Meaning.Environments.Environment, Meaning.Outcomes.Formats}
 use Rattle.interpolator_escapes.specs.declared.escape.Escape.TheVariants.{Line, Html, Csv, Json}
 use Rattle.interpolator_escapes.specs.declared.escape.Escape.TheVariants.{Shell}
+use Rattle.interpolator_escapes.specs.{Formats.Stands, Formats.escaped_shows, Lines.control_step}
+use Rattle.interpolator_escapes.specs.{Lines.everywhere, Placing.StandsFor, Records.row_format}
+use Rattle.interpolator_escapes.specs.declared.escape.Escape.{Escape}
 
 -- what a meaning's text has if it has no fault
 abbrev pub Meant : (List ℕ → Type 0) → Meaning → Type 0

@@ -1,20 +1,18 @@
 -- What a fault of a meaning comes from: it is one that the text has by itself, or that of a missing
 -- value, unless some value has no slot or fails; and faults in lists of faults.
 use Rattle.std.proofs.lemmas.Grind.{common_steps}
-use Rattle.std.proofs.Common.{◌≡◌, refl, arith, ℕ, Bool, true, false, List, ◌∷◌, ◌++◌, Option}
-use Rattle.std.proofs.Common.{Some, None, inl, inr, ◌⊎◌, Contains}
+use Rattle.std.proofs.Common.{◌≡◌, refl, arith, ℕ, Bool, true, false, List, ◌∷◌, ◌++◌, Option, Some}
+use Rattle.std.proofs.Common.{None, inl, inr, ◌⊎◌, Contains}
 use Rattle.std.proofs.lemmas.List.Elements.{Contains-append_left, Contains-append_right}
 use Rattle.std.specs.Prelude.{⊤}
-use Rattle.interpolator_render.specs.Views.{Shown}
-use Rattle.interpolator_render.specs.declared.view.Spec.{Spec}
+use Rattle.interpolator_render.specs.{Views.Shown, declared.view.Spec.Spec}
 use Rattle.interpolator_render.specs.declared.view.Trait.{Trait}
 use Rattle.interpolator_render.specs.declared.view.Trait.TheVariants as traits
 use Rattle.interpolator_syntax.specs.Faults.{Fault, missing_trait_impl, fmt, missing_value}
-use Rattle.interpolator_syntax.specs.SpecTexts.{plain_spec}
 use Rattle.interpolator_syntax.specs.Nodes.{Node, node, Branch, no_branch, branch, Forest, no_nodes}
-use Rattle.interpolator_syntax.specs.Nodes.{nodes_and, Content, argument_content}
-use Rattle.interpolator_syntax.specs.Nodes.{Target, target_value, target_list}
-use Rattle.interpolator_syntax.specs.declared.piece_kind.PieceKind.{PieceKind}
+use Rattle.interpolator_syntax.specs.Nodes.{nodes_and, Content, argument_content, Target}
+use Rattle.interpolator_syntax.specs.Nodes.{target_value, target_list}
+use Rattle.interpolator_syntax.specs.{SpecTexts.plain_spec, declared.piece_kind.PieceKind.PieceKind}
 use Rattle.interpolator_eval.specs.Slots.{Slots}
 use Rattle.interpolator_eval.specs.Meaning.AskedNames.{context_names, content_names, node_asks}
 use Rattle.interpolator_eval.specs.Meaning.AskedNames.{branch_asks, forest_asks}

@@ -1,11 +1,10 @@
 -- How many characters a float has at a precision.
-use Rattle.std.proofs.Common.{◌≡◌, arith, inl, inr, ℕ, ◌+◌, ◌-◌, ◌*◌, ◌/◌, ◌^◌, ◌<◌, ◌≤◌, max}
-use Rattle.std.proofs.Common.{Bool, false, true, List, length, length-append, nat_lt, pow-add}
-use Rattle.std.proofs.Common.{Option, None, Some, eq-zero-or-pos}
-use Rattle.std.proofs.lemmas.Bool.{cases_lt}
-use Rattle.std.proofs.lemmas.Bool.Decides.{nat_tests}
+use Rattle.std.proofs.Common.{◌≡◌, arith, inl, inr, ℕ, ◌+◌, ◌-◌, ◌*◌, ◌/◌, ◌^◌, ◌<◌, ◌≤◌, max, Bool}
+use Rattle.std.proofs.Common.{false, true, List, length, length-append, nat_lt, pow-add, Option}
+use Rattle.std.proofs.Common.{None, Some, eq-zero-or-pos}
 use Rattle.std.proofs.Math.Nat.{div-lt_iff_lt-mul, mul-le-mul_right, mul-lt-mul_of_pos_right}
 use Rattle.std.proofs.Math.Nat.{one-le-pow, pow-le-pow_right}
+use Rattle.std.proofs.{lemmas.Bool.cases_lt, lemmas.Bool.Decides.nat_tests}
 use Rattle.std.specs.Float.{float_is_finite}
 use Rattle.std.specs.Float.Ieee.{Float, Format, fin, inf, nan}
 use lib.Ieee.Exact.{HasValue}

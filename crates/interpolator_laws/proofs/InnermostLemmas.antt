@@ -2,12 +2,11 @@
 use Rattle.std.proofs.Common.{◌≡◌, ◌∙◌, ap, refl, arith, ℕ, ◌<◌, ◌≤◌, Bool, true, false, inl, inr}
 use Rattle.std.proofs.Common.{Option, Some, None, if◌then◌else◌, unwrap_or, ◌⊎◌}
 use Rattle.std.specs.Option.{option_or}
-use Rattle.interpolator_syntax.specs.At.{At}
 use Rattle.interpolator_syntax.specs.Nodes.{Node, node, Branch, no_branch, branch, Forest, no_nodes}
 use Rattle.interpolator_syntax.specs.Nodes.{nodes_and, as_forest, nodes, Content}
 use Rattle.interpolator_syntax.specs.Splits.{Contiguous, GroupsInside, GroupInside, HasGroups}
 use Rattle.interpolator_syntax.specs.Splits.{node_place, node_end}
-use Rattle.interpolator_syntax.specs.declared.piece_kind.PieceKind.{PieceKind}
+use Rattle.interpolator_syntax.specs.{At.At, declared.piece_kind.PieceKind.PieceKind}
 use Rattle.interpolator_pieces.specs.NodePlaces.{has_place, innermost, InForest, InGroups, InBranch}
 use Rattle.interpolator_pieces.specs.NodePlaces.{node_has, argument_in, argument_among, IsInnermost}
 use Rattle.interpolator_syntax.proofs.CaseLemmas.{some_same}

@@ -1,16 +1,14 @@
 -- Each context resembles itself.
 use Rattle.std.proofs.Common.{arith, ◌≡◌, ℕ, List, [], ◌∷◌, Option, None, All, inl, inr}
 use Rattle.std.proofs.lemmas.List.Elements.{All-cons, All-nil}
-use Rattle.interpolator_render.specs.Views.{Shown}
-use Rattle.interpolator_render.specs.declared.view.Spec.{Spec}
+use Rattle.interpolator_render.specs.{Views.Shown, declared.view.Spec.Spec}
 use Rattle.interpolator_render.specs.declared.view.Trait.{Trait}
 use Rattle.interpolator_syntax.specs.At.{At}
-use Rattle.interpolator_eval.specs.Meaning.AskedNames.{asked_names}
 use Rattle.interpolator_eval.specs.Meaning.Environments.{Environment, environment}
-use Rattle.interpolator_eval.specs.Meaning.Meanings.{means}
 use Rattle.interpolator_eval.specs.Meaning.Resembling.{Resembles, ResemblesOn, ResemblesSome}
 use Rattle.interpolator_eval.specs.Slots.{Slots, SlotsList, bare, listed, no_slots, slots_and}
 use Rattle.interpolator_eval.specs.Slots.{slots_listed}
+use Rattle.interpolator_eval.specs.{Meaning.AskedNames.asked_names, Meaning.Meanings.means}
 use Rattle.interpolator_pieces.specs.NodeSamples.{faults_over}
 use Rattle.interpolator_laws.proofs.ResembleLemmas.{no_fault}
 

@@ -3,23 +3,19 @@ use Rattle.std.proofs.Common.{◌≡◌, refl, arith, ℕ, Bool, true, false, �
 use Rattle.std.proofs.Common.{length, take, Option, Some, None, is_some, inl, inr, ◌⊎◌}
 use Rattle.std.proofs.Common.{if◌then◌else◌, All, unwrap_or}
 use Rattle.std.proofs.lemmas.List.Elements.{All-head, All-tail, All-take, All-drop}
-use Rattle.std.specs.List.{list_any}
-use Rattle.std.specs.Prelude.{⊤}
-use Rattle.interpolator_render.specs.Views.{Shown}
-use Rattle.interpolator_render.specs.declared.view.Spec.{Spec}
+use Rattle.std.specs.{List.list_any, Prelude.⊤}
+use Rattle.interpolator_render.specs.{Views.Shown, declared.view.Spec.Spec}
 use Rattle.interpolator_render.specs.declared.view.Trait.{Trait}
 use Rattle.interpolator_render.specs.declared.view.Trait.TheVariants as traits
-use Rattle.interpolator_syntax.specs.At.{At}
 use Rattle.interpolator_syntax.specs.Faults.{Fault, parse, iter}
 use Rattle.interpolator_syntax.specs.Nodes.{Node, node, Branch, no_branch, branch, Forest, no_nodes}
 use Rattle.interpolator_syntax.specs.Nodes.{nodes_and, as_forest, nodes, Content, text_content}
 use Rattle.interpolator_syntax.specs.Nodes.{argument_content, fault_content, Target, target_value}
 use Rattle.interpolator_syntax.specs.Nodes.{target_list}
-use Rattle.interpolator_syntax.specs.SpecTexts.{plain_spec}
-use Rattle.interpolator_syntax.specs.declared.piece_kind.PieceKind.{PieceKind}
-use Rattle.interpolator_syntax.specs.declared.range.Range.{Range}
-use Rattle.interpolator_eval.specs.Slots.{Slots, SlotsList, listed, no_slots, slots_and}
-use Rattle.interpolator_eval.specs.Slots.{values_of, items, slot_at, slots_listed}
+use Rattle.interpolator_syntax.specs.declared.{piece_kind.PieceKind.PieceKind, range.Range.Range}
+use Rattle.interpolator_syntax.specs.{At.At, SpecTexts.plain_spec}
+use Rattle.interpolator_eval.specs.Slots.{Slots, SlotsList, listed, no_slots, slots_and, values_of}
+use Rattle.interpolator_eval.specs.Slots.{items, slot_at, slots_listed}
 use Rattle.interpolator_eval.specs.Meaning.AskedNames.{asked_names, context_names, content_names}
 use Rattle.interpolator_eval.specs.Meaning.AskedNames.{node_asks, branch_asks, forest_asks}
 use Rattle.interpolator_eval.specs.Meaning.Choices.{chosen_items, chosen_places}
@@ -32,8 +28,8 @@ use Rattle.interpolator_eval.specs.Meaning.Meanings.{node_means, join_branch_mea
 use Rattle.interpolator_eval.specs.Meaning.Meanings.{item_branch_means, forest_means}
 use Rattle.interpolator_eval.specs.Meaning.Resembling.{IsListOf, Resembles, ResemblesSome}
 use Rattle.interpolator_eval.specs.Meaning.Resembling.{ResemblesOn}
-use Rattle.interpolator_eval.specs.Meaning.Samples.{Sample, sample, bind_each}
-use Rattle.interpolator_eval.specs.Meaning.Samples.{candidates_under, items_of_all, has_no_list}
+use Rattle.interpolator_eval.specs.Meaning.Samples.{Sample, sample, bind_each, candidates_under}
+use Rattle.interpolator_eval.specs.Meaning.Samples.{items_of_all, has_no_list}
 use Rattle.interpolator_pieces.specs.NodeChecks.{fault_list, own_fault, end_fault}
 use Rattle.interpolator_pieces.specs.NodeSamples.{fault_if, plain_faults, faults_over, content_pads}
 use Rattle.interpolator_pieces.specs.NodeSamples.{may_be_items, target_faults, join_faults_in}

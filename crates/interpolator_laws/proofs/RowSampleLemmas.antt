@@ -1,25 +1,17 @@
 -- A row means what pairs of its names and values mean, and resembles a sample if they do.
-use Rattle.std.proofs.Common.{◌≡◌, ◌≢◌, refl, sym, ℕ, Bool, false, cond, List, [], ◌∷◌}
-use Rattle.std.proofs.Common.{◌≤◌, length, map, arith, Option, Some, None, option_map, rules, Bor}
-use Rattle.std.proofs.Common.{find, zip, option_and_then, reverse, bytes_eq, encode_utf8_all}
-use Rattle.std.proofs.lemmas.List.{reverse-append}
-use Rattle.std.proofs.lemmas.List.Folds.{find-append}
-use Rattle.std.specs.Option.{option_or}
-use Rattle.std.specs.Prelude.{⊤}
-use Rattle.interpolator_render.specs.Views.{Shown}
-use Rattle.interpolator_render.specs.Written.{Written}
-use Rattle.interpolator_render.specs.declared.view.Spec.{Spec}
+use Rattle.std.proofs.Common.{◌≡◌, ◌≢◌, refl, sym, ℕ, Bool, false, cond, List, [], ◌∷◌, ◌≤◌, length}
+use Rattle.std.proofs.Common.{map, arith, Option, Some, None, option_map, rules, Bor, find, zip}
+use Rattle.std.proofs.Common.{option_and_then, reverse, bytes_eq, encode_utf8_all}
+use Rattle.std.proofs.{lemmas.List.reverse-append, lemmas.List.Folds.find-append}
+use Rattle.std.specs.{Option.option_or, Prelude.⊤}
+use Rattle.interpolator_render.specs.{Views.Shown, Written.Written, declared.view.Spec.Spec}
 use Rattle.interpolator_render.specs.declared.view.Trait.{Trait}
-use Rattle.interpolator_syntax.specs.At.{At}
-use Rattle.interpolator_syntax.specs.Faults.{Answer, no_memory}
-use Rattle.interpolator_eval.specs.Contexts.{found_by_pairs}
-use Rattle.interpolator_eval.specs.Meaning.AskedNames.{asked_names}
+use Rattle.interpolator_syntax.specs.{At.At, Faults.Answer, Faults.no_memory}
 use Rattle.interpolator_eval.specs.Meaning.Environments.{Environment, environment}
-use Rattle.interpolator_eval.specs.Meaning.Meanings.{means}
 use Rattle.interpolator_eval.specs.Meaning.Outcomes.{Outcome, OnlyRefused}
-use Rattle.interpolator_eval.specs.Meaning.Resembling.{ResemblesOn}
-use Rattle.interpolator_eval.specs.Slots.{slots_of}
-use Rattle.interpolator_eval.specs.declared.slots.Formattable.{Formattable}
+use Rattle.interpolator_eval.specs.{Contexts.found_by_pairs, Meaning.AskedNames.asked_names}
+use Rattle.interpolator_eval.specs.{Meaning.Meanings.means, Meaning.Resembling.ResemblesOn}
+use Rattle.interpolator_eval.specs.{Slots.slots_of, declared.slots.Formattable.Formattable}
 use Rattle.interpolator_eval.proofs.MeaningLemmas.EqualLemmas.{means_same}
 use Rattle.interpolator_laws.specs.SamplePairs.{PairsResemble, RowResembles}
 use Rattle.interpolator_pieces.specs.NodeSamples.{faults_over, pads_a_list}

@@ -2,15 +2,12 @@
 use Rattle.std.proofs.Common.{arith, ◌≡◌, ℕ, List, [], ◌∷◌, ◌++◌, Option, option_map, Bor, find}
 use Rattle.std.proofs.Common.{reverse, bytes_eq}
 use Rattle.std.proofs.lemmas.List.{reverse-append}
-use Rattle.interpolator_render.specs.Texts.{view_text}
-use Rattle.interpolator_render.specs.Views.{Shown}
-use Rattle.interpolator_render.specs.declared.view.Spec.{Spec}
+use Rattle.interpolator_render.specs.{Texts.view_text, Views.Shown, declared.view.Spec.Spec}
 use Rattle.interpolator_render.specs.declared.view.Trait.{Trait}
-use Rattle.interpolator_eval.specs.Contexts.{found_by_pairs}
-use Rattle.interpolator_eval.specs.Meaning.Environments.{environment}
 use Rattle.interpolator_eval.specs.Meaning.Resembling.{HasText, ResemblesFound, ResemblesOn}
 use Rattle.interpolator_eval.specs.Meaning.Samples.{shows_nothing, is_failure}
 use Rattle.interpolator_eval.specs.Slots.{Slots, slots_of}
+use Rattle.interpolator_eval.specs.{Contexts.found_by_pairs, Meaning.Environments.environment}
 use Rattle.interpolator_eval.specs.declared.slots.Formattable.{Formattable}
 use Rattle.interpolator_laws.specs.SamplePairs.{PairsResemble}
 use Rattle.interpolator_eval.proofs.MeaningLemmas.SampleLemmas.{view_missing, view_failed}

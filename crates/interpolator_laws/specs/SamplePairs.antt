@@ -1,11 +1,9 @@
 -- Pairs, and rows, that resemble a sample of pairs.
 use Rattle.std.specs.Prelude.{◌≡◌, ⊤, ℕ, List, [], ◌∷◌}
 use Rattle.std.specs.Borrow.{Bor}
-use Rattle.interpolator_render.specs.declared.view.Trait.{Trait}
-use Rattle.interpolator_render.specs.declared.view.Spec.{Spec}
+use Rattle.interpolator_render.specs.{declared.view.Trait.Trait, declared.view.Spec.Spec}
 use Rattle.interpolator_render.specs.Views.{Shown}
-use Rattle.interpolator_eval.specs.Slots.{slots_of}
-use Rattle.interpolator_eval.specs.Meaning.Resembling.{Resembles}
+use Rattle.interpolator_eval.specs.{Slots.slots_of, Meaning.Resembling.Resembles}
 use Rattle.interpolator_eval.specs.declared.slots.Formattable.{Formattable}
 
 -- the pairs have the names of the sample, in the same order, and under each what resembles what the

@@ -2,15 +2,13 @@
 //! function.
 
 ghost use Rattle.std.specs.Prelude.{◌≡◌, ◌↔◌, ℕ, List, Option, None, Some, Contains, codes};
-ghost use Rattle.interpolator_syntax.specs.At.{At, outermost};
 ghost use Rattle.interpolator_syntax.specs.Faults.{Fault, parse, unclosed, missing_value};
-ghost use Rattle.interpolator_eval.specs.Slots.{Slots};
-ghost use Rattle.interpolator_eval.specs.Meaning.AskedNames.{asked_names};
+ghost use Rattle.interpolator_syntax.specs.{At.At, At.outermost, Nodes.as_forest, Nodes.nodes};
 ghost use Rattle.interpolator_eval.specs.Meaning.Environments.{Environment, environment};
+ghost use Rattle.interpolator_eval.specs.{Slots.Slots, Meaning.AskedNames.asked_names};
 ghost use Rattle.interpolator_eval.specs.Meaning.Meanings.{means};
 ghost use Rattle.interpolator_pieces.specs.NodeChecks.{first_fault, text_faults, IsOfText};
 ghost use Rattle.interpolator_pieces.specs.NodeChecks.{ForestHas, FirstFaulty};
-ghost use Rattle.interpolator_syntax.specs.Nodes.{as_forest, nodes};
 
 use interpolator_render::Value;
 

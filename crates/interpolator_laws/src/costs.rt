@@ -2,23 +2,18 @@
 
 ghost use Rattle.std.specs.Prelude.{◌≡◌, ◌≢◌, ℕ, ◌*◌, ◌-◌, ◌^◌, ◌<◌, ◌≤◌, Bool, List, [], Option};
 ghost use Rattle.std.specs.Prelude.{None, Some, codes, false, length, max};
-ghost use Rattle.std.specs.Float.{float_is_finite};
-ghost use Rattle.std.specs.Float.Ieee.{Float, Format};
+ghost use Rattle.std.specs.{Float.float_is_finite, Float.Ieee.Float, Float.Ieee.Format};
 ghost use lib.Ieee.Exact.{HasValue};
-ghost use Rattle.interpolator_render.specs.Forms.{float_body};
 ghost use Rattle.interpolator_render.specs.Lengths.{IsBodyWithin, IsFloatWithin, most_decimal};
 ghost use Rattle.interpolator_render.specs.Lengths.{most_text};
-ghost use Rattle.interpolator_render.specs.declared.view.Trait.{Trait};
+ghost use Rattle.interpolator_render.specs.{Forms.float_body, declared.view.Trait.Trait};
 ghost use Rattle.interpolator_syntax.specs.At.{At, outermost};
-ghost use Rattle.interpolator_syntax.specs.Faults.{missing_value};
-ghost use Rattle.interpolator_syntax.specs.declared.range.Range.{Range};
-ghost use Rattle.interpolator_eval.specs.Meaning.AskedNames.{asked_names};
-ghost use Rattle.interpolator_eval.specs.Meaning.Choices.{chosen_items};
-ghost use Rattle.interpolator_eval.specs.Meaning.Environments.{Environment};
+ghost use Rattle.interpolator_syntax.specs.{Faults.missing_value, declared.range.Range.Range};
 ghost use Rattle.interpolator_eval.specs.Meaning.Limits.{IsWithin, most_chosen};
-ghost use Rattle.interpolator_eval.specs.Meaning.Meanings.{means};
-ghost use Rattle.interpolator_pieces.specs.NodeCosts.{text_cost, usize_cost, ten_and_three};
+ghost use Rattle.interpolator_eval.specs.Meaning.{AskedNames.asked_names, Choices.chosen_items};
+ghost use Rattle.interpolator_eval.specs.Meaning.{Environments.Environment, Meanings.means};
 ghost use Rattle.interpolator_eval.specs.Meaning.Work.{text_work};
+ghost use Rattle.interpolator_pieces.specs.NodeCosts.{text_cost, usize_cost, ten_and_three};
 ghost use Rattle.interpolator_pieces.specs.declared.cost.Limits.{Limits};
 
 use interpolator_render::Value;

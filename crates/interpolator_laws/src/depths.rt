@@ -1,9 +1,8 @@
 //! Laws of how deep a format is, each the contract of a small function.
 
 ghost use Rattle.std.specs.Prelude.{◌≡◌, ◌+◌, ◌*◌, ◌≤◌, codes, length};
-ghost use Rattle.interpolator_syntax.specs.At.{At, outermost};
+ghost use Rattle.interpolator_syntax.specs.{At.At, At.outermost, Nodes.as_forest, Nodes.nodes};
 ghost use Rattle.interpolator_pieces.specs.NodeExtents.{forest_depth};
-ghost use Rattle.interpolator_syntax.specs.Nodes.{as_forest, nodes};
 
 /// A format with deeply nested groups is long: if it is `d` deep, it has at least `d * (d + 4)`
 /// characters. A group inside another has fewer signs `#` on each side than the outer one, so each

@@ -1,20 +1,16 @@
 //! Laws of formats whose values are written escaped, each the contract of a small function.
 
 ghost use Rattle.std.specs.Prelude.{◌≡◌, ◌⊎◌, List, [], ◌∷◌, Some, IfOk, codes, map, string_bytes};
-ghost use Rattle.std.specs.List.{filter};
-ghost use Rattle.std.specs.Str.{chars};
+ghost use Rattle.std.specs.{List.filter, Str.chars};
 ghost use Rattle.interpolator_syntax.specs.At.{outermost, text_of};
 ghost use Rattle.interpolator_syntax.specs.Faults.{no_memory, result_answer};
 ghost use Rattle.interpolator_eval.specs.Slots.{Slots, items};
-ghost use Rattle.interpolator_eval.specs.Meaning.Environments.{environment};
-ghost use Rattle.interpolator_eval.specs.Meaning.Meanings.{means};
-ghost use Rattle.interpolator_escapes.specs.Placing.{structure_by};
-ghost use Rattle.interpolator_escapes.specs.Escapes.{is_control};
-ghost use Rattle.interpolator_escapes.specs.FormatParts.{parts_by};
-ghost use Rattle.interpolator_escapes.specs.Formats.{shows_nothing};
+ghost use Rattle.interpolator_eval.specs.{Meaning.Environments.environment, Meaning.Meanings.means};
 ghost use Rattle.interpolator_escapes.specs.Languages.{PairedIn, read_by, read_parts_by};
 ghost use Rattle.interpolator_escapes.specs.Records.{fields_of, item_text, row_format};
 ghost use Rattle.interpolator_escapes.specs.declared.escape.Escape.TheVariants.{Csv, Line};
+ghost use Rattle.interpolator_escapes.specs.{Placing.structure_by, Escapes.is_control};
+ghost use Rattle.interpolator_escapes.specs.{FormatParts.parts_by, Formats.shows_nothing};
 
 use interpolator::{EscapedTemplate, Interpolate};
 use interpolator_escapes::laws as meanings;

@@ -1,10 +1,8 @@
 //! Laws of formats that mean a text and nothing else, each the contract of a small function.
 
 ghost use Rattle.std.specs.Prelude.{List, ℕ};
-ghost use Rattle.interpolator_syntax.specs.At.{At, outermost};
-ghost use Rattle.interpolator_syntax.specs.Pieces.{pieces};
-ghost use Rattle.interpolator_eval.specs.Meaning.Environments.{Environment};
-ghost use Rattle.interpolator_eval.specs.Meaning.Meanings.{means};
+ghost use Rattle.interpolator_syntax.specs.{At.At, At.outermost, Pieces.pieces};
+ghost use Rattle.interpolator_eval.specs.{Meaning.Environments.Environment, Meaning.Meanings.means};
 ghost use Rattle.interpolator.specs.Escaping.{braces_doubled, ArePlain, SaysAlone};
 
 use interpolator_render::Value;

@@ -1,21 +1,17 @@
 //! Laws of prepared formats, each the contract of a small function.
 
-ghost use Rattle.std.specs.Prelude.{◌≡◌, ◌≢◌, ◌<◌, ◌≤◌, ℕ, List, [], ◌∷◌, length, map};
-ghost use Rattle.std.specs.Prelude.{Option, IsSome, None, Some, codes, false};
-ghost use Rattle.std.specs.Borrow.{Bor};
-ghost use Rattle.std.specs.List.{zip};
-ghost use Rattle.std.specs.Str.{chars};
+ghost use Rattle.std.specs.Prelude.{◌≡◌, ◌≢◌, ◌<◌, ◌≤◌, ℕ, List, [], ◌∷◌, length, map, Option};
+ghost use Rattle.std.specs.Prelude.{IsSome, None, Some, codes, false};
+ghost use Rattle.std.specs.{Borrow.Bor, List.zip, Str.chars};
 ghost use Rattle.interpolator_render.specs.declared.view.Trait.TheVariants as traits;
-ghost use Rattle.interpolator_syntax.specs.At.{At, outermost};
-ghost use Rattle.interpolator_syntax.specs.Faults.{result_answer, no_memory};
 ghost use Rattle.interpolator_syntax.specs.Nodes.{Node, as_forest, nodes};
-ghost use Rattle.interpolator_syntax.specs.SpecTexts.{plain_spec};
-ghost use Rattle.interpolator_eval.specs.Contexts.{found_by_pairs};
-ghost use Rattle.interpolator_eval.specs.Slots.{Slots};
-ghost use Rattle.interpolator_eval.specs.declared.slots.Formattable.{Formattable};
-ghost use Rattle.interpolator_eval.specs.Meaning.Environments.{environment};
+ghost use Rattle.interpolator_syntax.specs.{At.At, At.outermost, Faults.result_answer};
+ghost use Rattle.interpolator_syntax.specs.{Faults.no_memory, SpecTexts.plain_spec};
 ghost use Rattle.interpolator_eval.specs.Meaning.Meanings.{forest_means, means};
 ghost use Rattle.interpolator_eval.specs.Meaning.Outcomes.{Outcome, OnlyRefused};
+ghost use Rattle.interpolator_eval.specs.{Contexts.found_by_pairs, Slots.Slots};
+ghost use Rattle.interpolator_eval.specs.declared.slots.Formattable.{Formattable};
+ghost use Rattle.interpolator_eval.specs.Meaning.Environments.{environment};
 ghost use Rattle.interpolator_laws.specs.SamplePairs.{RowResembles};
 ghost use Rattle.interpolator_prepared.specs.Programs.{program, steps_mean, text_step, value_step};
 ghost use Rattle.interpolator_prepared.specs.Rows.{found_by_row, pair_names, row_at};

@@ -1,34 +1,28 @@
 //! Laws of formats that were checked against a sample, each the contract of a small function.
 
-ghost use Rattle.std.specs.Prelude.{◌≡◌, ◌≢◌, ◌≤◌, IfErr, ℕ, ℤ, Bool, false, codes, length};
-ghost use Rattle.std.specs.List.{All};
-ghost use Rattle.std.specs.Prelude.{List, [], ◌∷◌, Option, None, Some};
-ghost use Rattle.std.specs.Float.{Float, Format};
-ghost use Rattle.std.specs.Str.{chars};
-ghost use Rattle.std.specs.Borrow.{Bor};
-ghost use Rattle.interpolator_render.specs.Texts.{view_text};
+ghost use Rattle.std.specs.Prelude.{◌≡◌, ◌≢◌, ◌≤◌, IfErr, ℕ, ℤ, Bool, false, codes, length, List};
+ghost use Rattle.std.specs.Prelude.{[], ◌∷◌, Option, None, Some};
+ghost use Rattle.std.specs.{List.All, Float.Float, Float.Format, Str.chars, Borrow.Bor};
 ghost use Rattle.interpolator_render.specs.Views.{Shown, some_text, unsigned_number, failure};
-ghost use Rattle.interpolator_render.specs.Views.{signed_number, truth_value, one_character, decimal_number};
-ghost use Rattle.interpolator_render.specs.Views.{float_number};
-ghost use Rattle.interpolator_render.specs.declared.view.Bits.{Bits};
-ghost use Rattle.interpolator_render.specs.declared.view.Spec.{Spec};
-ghost use Rattle.interpolator_render.specs.declared.view.Trait.{Trait};
+ghost use Rattle.interpolator_render.specs.Views.{signed_number, truth_value, one_character};
+ghost use Rattle.interpolator_render.specs.Views.{decimal_number, float_number};
+ghost use Rattle.interpolator_render.specs.{Texts.view_text, declared.view.Bits.Bits};
+ghost use Rattle.interpolator_render.specs.{declared.view.Spec.Spec, declared.view.Trait.Trait};
 ghost use Rattle.interpolator_render.specs.declared.view.Trait.TheVariants as traits;
 ghost use Rattle.interpolator_syntax.specs.At.{At, outermost};
 ghost use Rattle.interpolator_syntax.specs.Faults.{fault_place, fmt, missing_trait_impl};
-ghost use Rattle.interpolator_syntax.specs.Faults.{missing_value, parse};
-ghost use Rattle.interpolator_syntax.specs.Faults.{unclosed, iter, answer_of, result_answer, no_memory};
-ghost use Rattle.interpolator_eval.specs.Meaning.AskedNames.{asked_names};
+ghost use Rattle.interpolator_syntax.specs.Faults.{missing_value, parse, unclosed, iter, answer_of};
+ghost use Rattle.interpolator_syntax.specs.Faults.{result_answer, no_memory};
 ghost use Rattle.interpolator_eval.specs.Meaning.Environments.{Environment, environment};
-ghost use Rattle.interpolator_eval.specs.Meaning.Meanings.{means};
 ghost use Rattle.interpolator_eval.specs.Meaning.Outcomes.{Outcome, Formats, OnlyRefused};
 ghost use Rattle.interpolator_eval.specs.Meaning.Resembling.{HasText, ResemblesOn};
 ghost use Rattle.interpolator_eval.specs.Meaning.Samples.{shows_nothing, is_failure};
+ghost use Rattle.interpolator_eval.specs.Slots.{Slots, empty_slots, with_debug_display};
+ghost use Rattle.interpolator_eval.specs.Slots.{with_integer, with_iter};
+ghost use Rattle.interpolator_eval.specs.{Meaning.AskedNames.asked_names, Meaning.Meanings.means};
 ghost use Rattle.interpolator_eval.specs.Contexts.{found_by_pairs};
 ghost use Rattle.interpolator_eval.specs.declared.slots.Formattable.{Formattable};
 ghost use Rattle.interpolator_laws.specs.SamplePairs.{PairsResemble};
-ghost use Rattle.interpolator_eval.specs.Slots.{Slots, empty_slots, with_debug_display};
-ghost use Rattle.interpolator_eval.specs.Slots.{with_integer, with_iter};
 ghost use Rattle.interpolator_pieces.specs.NodeSamples.{faults_over, pads_a_list};
 
 use interpolator::{Interpolate, Template};

@@ -4,10 +4,8 @@ ghost use Rattle.std.specs.Prelude.{◌≡◌, ◌↔◌, ◌+◌, [], ◌∷◌
 ghost use Rattle.std.specs.Prelude.{List, None, Some, Ok, IsTrue, codes};
 ghost use Rattle.interpolator_render.specs.declared.view.Trait.TheVariants as traits;
 ghost use Rattle.std.specs.Str.{chars};
-ghost use Rattle.interpolator_syntax.specs.At.{At, size, outermost};
-ghost use Rattle.interpolator_syntax.specs.Faults.{result_answer};
-ghost use Rattle.interpolator_syntax.specs.Groups.{Group};
-ghost use Rattle.interpolator_syntax.specs.SpecTexts.{plain_spec};
+ghost use Rattle.interpolator_syntax.specs.{At.At, At.size, At.outermost, Faults.result_answer};
+ghost use Rattle.interpolator_syntax.specs.{Groups.Group, SpecTexts.plain_spec};
 ghost use Rattle.interpolator_eval.specs.Meaning.Environments as environments;
 ghost use Rattle.interpolator_eval.specs.Meaning.Environments.{environment};
 ghost use Rattle.interpolator_eval.specs.Meaning.Meanings.{chain, means, forest_means};

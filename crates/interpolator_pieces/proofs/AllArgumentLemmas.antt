@@ -2,32 +2,29 @@
 use Rattle.std.proofs.Common.{◌≡◌, ℕ, zero, suc, ◌+◌, ◌<◌, ◌≤◌, List, [], ◌∷◌, ◌++◌, length, arith}
 use Rattle.std.proofs.Common.{refl, append_assoc, Some, None, map, Ok}
 use Rattle.std.proofs.lemmas.List.{append-nil, map-append}
-use Rattle.std.specs.Char.{len_utf8}
-use Rattle.std.specs.Prelude.{option_map}
-use Rattle.interpolator_syntax.specs.At.{At, at, strip}
+use Rattle.std.specs.{Char.len_utf8, Prelude.option_map}
 use Rattle.interpolator_syntax.specs.Arguments.{Argument, argument_at, named_argument, request_of}
 use Rattle.interpolator_syntax.specs.Arguments.{argument_of, kind_of, taken_read}
-use Rattle.interpolator_syntax.specs.Classes.{close_brace}
-use Rattle.interpolator_syntax.specs.PieceGrammar.{literal_pieces, token_pieces}
-use Rattle.interpolator_syntax.specs.Pieces.{Piece, pieces, argument_from}
 use Rattle.interpolator_syntax.specs.Tokens.{Token, first_token, past_token, argument, token_of}
+use Rattle.interpolator_syntax.specs.{At.At, At.at, At.strip, Classes.close_brace}
+use Rattle.interpolator_syntax.specs.{PieceGrammar.literal_pieces, PieceGrammar.token_pieces}
+use Rattle.interpolator_syntax.specs.{Pieces.Piece, Pieces.pieces, Pieces.argument_from}
 use Rattle.interpolator_syntax.specs.declared.argument.Argument as code_argument
 use Rattle.interpolator_syntax.specs.declared.token.Token as code_token
 use Rattle.interpolator_syntax.specs.declared.token.Token.TheVariants as tokens
 use Rattle.interpolator_syntax.specs.declared.argument.TakenArgument.{TakenArgument}
 use Rattle.interpolator_syntax.proofs.ScanLemmas.{hands_on, hands_nothing}
 use Rattle.interpolator_syntax.proofs.SizeLemmas.{PiecesIn, pieces_in}
+use Rattle.interpolator_syntax.proofs.{NodeLemmas.by_length, SplitLemmas.any_brace}
+use Rattle.interpolator_syntax.proofs.TokenLemmas.{scan_shorter}
 use Rattle.interpolator_eval.specs.Meaning.AskedNames.{asked_names, without_empty}
-use Rattle.interpolator_pieces.specs.AllArguments.{kind_arguments}
-use Rattle.interpolator_pieces.specs.AllArguments.{piece_arguments, pieces_arguments}
-use Rattle.interpolator_pieces.specs.AllArguments.{arguments_within, arguments_of, names_of}
+use Rattle.interpolator_pieces.specs.AllArguments.{kind_arguments, piece_arguments}
+use Rattle.interpolator_pieces.specs.AllArguments.{pieces_arguments, arguments_within, arguments_of}
+use Rattle.interpolator_pieces.specs.AllArguments.{names_of}
 use Rattle.interpolator_eval.proofs.MeaningLemmas.AskedPieceLemmas.{group_asks, pieces_ask}
 use Rattle.interpolator_eval.proofs.MeaningLemmas.AskedPieceLemmas.{branch_in_item, asked_pieces}
 use Rattle.interpolator_eval.proofs.MeaningLemmas.AskedPieceLemmas.{without_append, without_twice}
-use Rattle.interpolator_syntax.proofs.NodeLemmas.{by_length}
-use Rattle.interpolator_syntax.proofs.SplitLemmas.{any_brace}
 use Rattle.interpolator_eval.proofs.MeaningLemmas.GroupSizeLemmas.{kind_size, groups_within}
-use Rattle.interpolator_syntax.proofs.TokenLemmas.{scan_shorter}
 use Rattle.interpolator_pieces.proofs.ParseLemmas.{taken_is}
 
 -- ---- the arguments of a text are those of its pieces

@@ -1,20 +1,14 @@
 -- What a call owes that writes a format follows from its outcome.
 use Rattle.std.proofs.Common.{arith, ℕ, List, length, Option, None, Some, chars, IsUtf8}
-use Rattle.interpolator_render.specs.Views.{Shown}
-use Rattle.interpolator_render.specs.Written.{Written}
-use Rattle.interpolator_render.specs.declared.view.Spec.{Spec}
+use Rattle.interpolator_render.specs.{Views.Shown, Written.Written, declared.view.Spec.Spec}
 use Rattle.interpolator_render.specs.declared.view.Trait.{Trait}
-use Rattle.interpolator_syntax.specs.At.{outermost}
-use Rattle.interpolator_syntax.specs.Faults.{Answer}
+use Rattle.interpolator_syntax.specs.{At.outermost, Faults.Answer}
 use Rattle.interpolator_syntax.proofs.CharacterLemmas.{size-chars}
-use Rattle.interpolator_eval.specs.Slots.{Slots}
-use Rattle.interpolator_eval.specs.Meaning.Environments.{environment}
-use Rattle.interpolator_eval.specs.Meaning.Meanings.{means}
-use Rattle.interpolator_eval.specs.Meaning.Outcomes.{Outcome}
+use Rattle.interpolator_eval.specs.{Slots.Slots, Meaning.Environments.environment}
+use Rattle.interpolator_eval.specs.{Meaning.Meanings.means, Meaning.Outcomes.Outcome}
 use Rattle.interpolator_eval.proofs.MeaningLemmas.AskedLemmas.{asked_outcome}
 use Rattle.interpolator_eval.proofs.MeaningLemmas.PlaceLemmas.{outcome_lies_from}
-use Rattle.interpolator_pieces.specs.Calls.{WritesText, WritesLine}
-use Rattle.interpolator_pieces.specs.Lines.{newline_means}
+use Rattle.interpolator_pieces.specs.{Calls.WritesText, Calls.WritesLine, Lines.newline_means}
 use Rattle.interpolator_pieces.proofs.LineLemmas.{line_done, line_fault, newline_place}
 
 module _ {X : Type 0}

@@ -1,23 +1,20 @@
 -- The first fault of stored pieces, from those of their parts.
 use Rattle.std.proofs.Common.{suc, arith, ◌≡◌, refl, ℕ, true, List, [], ◌∷◌, Option, Some, None}
 use Rattle.std.proofs.Common.{option_map, Result, Ok, inl, inr, flat_map}
-use Rattle.interpolator_syntax.specs.At.{At}
 use Rattle.interpolator_syntax.specs.Faults.{Fault, Answer, fault, result_answer}
+use Rattle.interpolator_syntax.specs.Nodes.{Content, argument_content, target_list}
+use Rattle.interpolator_syntax.specs.{At.At, declared.error.Error.Error}
 use Rattle.interpolator_pieces.specs.NodeChecks.{fault_list, first_fault, form_fault}
 use Rattle.interpolator_pieces.specs.NodeChecks.{stored_own_fault, stored_end_fault, visit_faults}
 use Rattle.interpolator_pieces.specs.NodeChecks.{text_faults, own_fault}
 use Rattle.interpolator_pieces.specs.Visits.{Visit, enter, leave, Walks, text_visits}
-use Rattle.interpolator_pieces.specs.declared.walk.Level.{Level}
-use Rattle.interpolator_syntax.specs.declared.error.Error.{Error}
-use Rattle.interpolator_pieces.proofs.VisitLemmas.{text_tells}
-use Rattle.interpolator_syntax.specs.Nodes.{Content, argument_content, target_list}
 use Rattle.interpolator_pieces.specs.Stored.{node_of, node_whole, stored_content, name_part}
-use Rattle.interpolator_pieces.specs.declared.piece.Form.{Form}
+use Rattle.interpolator_pieces.specs.{declared.walk.Level.Level, declared.piece.Form.Form}
+use Rattle.interpolator_pieces.proofs.VisitLemmas.{text_tells}
 use Rattle.interpolator_pieces.specs.declared.piece.Form.TheVariants as forms
 use Rattle.interpolator_render.specs.declared.view.Spec.{Spec}
 use Rattle.interpolator_pieces.specs.declared.piece.Piece.{Piece}
-use Rattle.interpolator_pieces.proofs.StoredLemmas.{node_of_out}
-use Rattle.interpolator_pieces.proofs.WholePieceLemmas.{fits_text}
+use Rattle.interpolator_pieces.proofs.{StoredLemmas.node_of_out, WholePieceLemmas.fits_text}
 
 -- ---- the first of some faults
 

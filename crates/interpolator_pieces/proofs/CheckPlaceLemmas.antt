@@ -1,8 +1,7 @@
 -- The faults that a text has by itself lie in it, and are of the kinds that a text can have.
-use Rattle.std.proofs.Common.{◌≡◌, ℕ, zero, suc, ◌+◌, ◌<◌, ◌≤◌, List, [], ◌∷◌}
-use Rattle.std.proofs.Common.{◌++◌, length, arith, subst, Some, None, option_map}
-use Rattle.std.specs.Prelude.{⊤, Contains, slice_index_or}
-use Rattle.std.specs.Str.{chars, IsUtf8}
+use Rattle.std.proofs.Common.{◌≡◌, ℕ, zero, suc, ◌+◌, ◌<◌, ◌≤◌, List, [], ◌∷◌, ◌++◌, length, arith}
+use Rattle.std.proofs.Common.{subst, Some, None, option_map}
+use Rattle.std.specs.{Prelude.⊤, Prelude.Contains, Prelude.slice_index_or, Str.chars, Str.IsUtf8}
 use Rattle.interpolator_syntax.specs.At.{At, size, outermost}
 use Rattle.interpolator_syntax.specs.Faults.{Fault, fault, fault_place, PlaceWithin}
 use Rattle.interpolator_syntax.specs.Nodes.{Node, node, Branch, no_branch, branch, Forest, no_nodes}

@@ -1,13 +1,10 @@
 -- What a walk over the faults of a format has reported, from what it reported of their parts.
-use Rattle.std.proofs.Common.{◌≡◌, refl, sym, ℕ, ◌+◌, ◌<◌, ◌≤◌, true, false, List, [], ◌++◌}
-use Rattle.std.proofs.Common.{map, append_assoc, Option, Some, None, IsSome, arith, ◌∷◌}
-use Rattle.std.specs.List.{list_any}
-use Rattle.std.specs.Global.{Vec}
+use Rattle.std.proofs.Common.{◌≡◌, refl, sym, ℕ, ◌+◌, ◌<◌, ◌≤◌, true, false, List, [], ◌++◌, map}
+use Rattle.std.proofs.Common.{append_assoc, Option, Some, None, IsSome, arith, ◌∷◌}
 use Rattle.std.proofs.lemmas.List.{append-nil, map-append}
-use Rattle.interpolator_render.specs.declared.view.Spec.{Spec}
-use Rattle.interpolator_render.specs.declared.view.Trait.{Trait}
-use Rattle.interpolator_render.specs.declared.view.Trait.TheVariants.{Display}
-use Rattle.interpolator_render.specs.Views.{Shown}
+use Rattle.std.specs.{List.list_any, Global.Vec}
+use Rattle.interpolator_render.specs.{declared.view.Spec.Spec, declared.view.Trait.Trait}
+use Rattle.interpolator_render.specs.{declared.view.Trait.TheVariants.Display, Views.Shown}
 use Rattle.interpolator_syntax.specs.Faults.{Fault, Answer, fault, no_memory}
 use Rattle.interpolator_syntax.specs.Nodes.{as_forest, Content, argument_content, target_value}
 use Rattle.interpolator_syntax.specs.SpecTexts.{plain_spec}
@@ -24,14 +21,12 @@ use Rattle.interpolator_pieces.specs.Stored.{detail_of, content_of, node_of, nod
 use Rattle.interpolator_pieces.specs.Stored.{node_whole}
 use Rattle.interpolator_pieces.specs.Collecting.{Collects, AnswersFirst, kept_by}
 use Rattle.interpolator_pieces.specs.declared.piece.Form.TheVariants as forms
-use Rattle.interpolator_pieces.specs.declared.piece.Piece.{Piece}
-use Rattle.interpolator_pieces.specs.declared.piece.Piece.TheViews.{out-Piece}
+use Rattle.interpolator_pieces.specs.declared.{piece.Piece.Piece, piece.Piece.TheViews.out-Piece}
 use Rattle.interpolator_pieces.specs.declared.fault_collector.FaultCollector.{FaultCollector}
-use Rattle.interpolator_pieces.proofs.CheckLemmas.{entered_faults, left_faults}
 use Rattle.interpolator_pieces.specs.Visits.{outermost_spot}
-use Rattle.interpolator_pieces.proofs.StoredLemmas.{node_of_out}
+use Rattle.interpolator_pieces.proofs.CheckLemmas.{entered_faults, left_faults}
 use Rattle.interpolator_pieces.proofs.RunLemmas.{name_held, value_held}
-use Rattle.interpolator_pieces.proofs.WholePieceLemmas.{fits_text}
+use Rattle.interpolator_pieces.proofs.{StoredLemmas.node_of_out, WholePieceLemmas.fits_text}
 
 -- ---- no fault, one, and one after the other
 

@@ -3,48 +3,43 @@ use Rattle.std.proofs.Common.{rules, ◌≡◌, refl, arith, ℕ, suc, ◌+◌, 
 use Rattle.std.proofs.Common.{false, List, [], ◌∷◌, ◌++◌, length, Option, None, Some, length-append}
 use Rattle.std.proofs.Common.{◌≢◌, ◌^◌}
 use Rattle.std.proofs.lemmas.List.{length-map}
-use Rattle.std.specs.Prelude.{⊤}
-use Rattle.std.specs.Char.{len_utf8}
-use Rattle.interpolator_render.specs.Lengths.{usize_count}
-use Rattle.interpolator_render.specs.Views.{Shown}
-use Rattle.interpolator_render.specs.declared.view.Spec.{Spec}
+use Rattle.std.specs.{Prelude.⊤, Char.len_utf8}
+use Rattle.interpolator_render.specs.{Lengths.usize_count, Views.Shown, declared.view.Spec.Spec}
 use Rattle.interpolator_render.specs.declared.view.Trait.{Trait}
 use Rattle.interpolator_render.specs.declared.view.Trait.TheVariants as traits
 use Rattle.interpolator_render.proofs.LawLemmas.{padded_text_count}
 use Rattle.interpolator_render.proofs.LengthLemmas.{view_within, written_grows}
-use Rattle.interpolator_syntax.specs.At.{At, placed_from}
-use Rattle.interpolator_syntax.specs.Faults.{Fault, missing_value}
-use Rattle.interpolator_syntax.specs.SpecTexts.{plain_spec}
 use Rattle.interpolator_syntax.specs.Nodes.{Node, node, Branch, no_branch, branch, Forest, no_nodes}
-use Rattle.interpolator_syntax.specs.Nodes.{nodes_and, as_forest, nodes, Content, text_content, argument_content}
-use Rattle.interpolator_syntax.specs.Nodes.{fault_content, Target, target_value, target_list}
-use Rattle.interpolator_syntax.specs.declared.piece_kind.PieceKind.{PieceKind}
+use Rattle.interpolator_syntax.specs.Nodes.{nodes_and, as_forest, nodes, Content, text_content}
+use Rattle.interpolator_syntax.specs.Nodes.{argument_content, fault_content, Target, target_value}
+use Rattle.interpolator_syntax.specs.Nodes.{target_list}
+use Rattle.interpolator_syntax.specs.{At.At, At.placed_from, Faults.Fault, Faults.missing_value}
+use Rattle.interpolator_syntax.specs.{SpecTexts.plain_spec, declared.piece_kind.PieceKind.PieceKind}
 use Rattle.interpolator_syntax.specs.declared.range.Range.{Range}
-use Rattle.interpolator_eval.specs.Slots.{Slots, SlotsList, no_slots, slots_and}
-use Rattle.interpolator_eval.specs.Slots.{values_of, items, slot_at, slots_listed}
-use Rattle.interpolator_eval.specs.Meaning.AskedNames.{asked_names, content_names}
+use Rattle.interpolator_eval.specs.Slots.{Slots, SlotsList, no_slots, slots_and, values_of, items}
+use Rattle.interpolator_eval.specs.Slots.{slot_at, slots_listed}
+use Rattle.interpolator_eval.specs.Meaning.AskedNames.{asked_names, content_names, node_asks}
+use Rattle.interpolator_eval.specs.Meaning.AskedNames.{branch_asks, forest_asks}
 use Rattle.interpolator_eval.specs.Meaning.Choices.{chosen_items}
 use Rattle.interpolator_eval.specs.Meaning.Environments.{Environment, slots_under, bind}
-use Rattle.interpolator_eval.specs.Meaning.Limits.{SlotWithin, ValuesWithin, SlotsWithin, ItemsWithin}
-use Rattle.interpolator_eval.specs.Meaning.Limits.{FoundWithin, IsWithin, most_chosen}
+use Rattle.interpolator_eval.specs.Meaning.Limits.{SlotWithin, ValuesWithin, SlotsWithin}
+use Rattle.interpolator_eval.specs.Meaning.Limits.{ItemsWithin, FoundWithin, IsWithin, most_chosen}
 use Rattle.interpolator_eval.specs.Meaning.Meanings.{Meaning, chain, value_means, items_after}
 use Rattle.interpolator_eval.specs.Meaning.Meanings.{items_mean, under_name, listed_means, means}
-use Rattle.interpolator_eval.specs.Meaning.Meanings.{padded_list, target_means}
-use Rattle.interpolator_eval.specs.Meaning.Meanings.{content_means, node_means, join_branch_means}
-use Rattle.interpolator_eval.proofs.MeaningLemmas.EqualLemmas.{bound_same}
-use Rattle.interpolator_pieces.specs.NodeCosts.{piece_cost, then_cost}
-use Rattle.interpolator_pieces.specs.NodeCosts.{items_cost, padded_cost, value_cost}
-use Rattle.interpolator_pieces.specs.NodeCosts.{content_cost, node_cost, item_branch_cost}
-use Rattle.interpolator_pieces.specs.NodeCosts.{join_branch_cost, forest_cost, text_cost}
+use Rattle.interpolator_eval.specs.Meaning.Meanings.{padded_list, target_means, content_means}
+use Rattle.interpolator_eval.specs.Meaning.Meanings.{node_means, join_branch_means}
 use Rattle.interpolator_eval.specs.Meaning.Meanings.{item_branch_means, forest_means}
-use Rattle.interpolator_eval.specs.Meaning.AskedNames.{node_asks, branch_asks, forest_asks}
-use Rattle.interpolator_eval.specs.Meaning.Work.{Work, no_work, piece_and, or_stop}
-use Rattle.interpolator_eval.specs.Meaning.Work.{work_after, items_work, chosen_work, listed_work}
-use Rattle.interpolator_eval.specs.Meaning.Work.{under_work, target_work, content_work, node_work}
+use Rattle.interpolator_eval.specs.Meaning.Work.{Work, no_work, piece_and, or_stop, work_after}
+use Rattle.interpolator_eval.specs.Meaning.Work.{items_work, chosen_work, listed_work, under_work}
+use Rattle.interpolator_eval.specs.Meaning.Work.{target_work, content_work, node_work}
 use Rattle.interpolator_eval.specs.Meaning.Work.{join_branch_work, item_branch_work, forest_work}
 use Rattle.interpolator_eval.specs.Meaning.Work.{text_work}
-use Rattle.interpolator_pieces.specs.declared.cost.Cost.{Cost}
-use Rattle.interpolator_pieces.specs.declared.cost.Limits.{Limits}
+use Rattle.interpolator_eval.proofs.MeaningLemmas.EqualLemmas.{bound_same}
+use Rattle.interpolator_pieces.specs.NodeCosts.{piece_cost, then_cost, items_cost, padded_cost}
+use Rattle.interpolator_pieces.specs.NodeCosts.{value_cost, content_cost, node_cost}
+use Rattle.interpolator_pieces.specs.NodeCosts.{item_branch_cost, join_branch_cost, forest_cost}
+use Rattle.interpolator_pieces.specs.NodeCosts.{text_cost}
+use Rattle.interpolator_pieces.specs.{declared.cost.Cost.Cost, declared.cost.Limits.Limits}
 use Rattle.interpolator_pieces.proofs.RangeLemmas.{Each, each_chosen, chosen_fewer, chosen_grows}
 
 -- ---- what costs no more

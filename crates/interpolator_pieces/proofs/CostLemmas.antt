@@ -1,21 +1,16 @@
 -- The cost of stored pieces, as the code computes it: each count stops at the greatest `usize`.
 use Rattle.std.proofs.Common.{rules, ◌≡◌, arith, ℕ, ◌+◌, ◌-◌, ◌*◌, List, Option, Some, IsSome}
 use Rattle.std.proofs.Common.{option_map}
-use Rattle.std.proofs.lemmas.Bool.{cases_lt}
-use Rattle.std.proofs.Math.Nat.{mul-le-mul_left}
-use Rattle.interpolator_render.specs.Lengths.{usize_count}
-use Rattle.interpolator_render.specs.declared.view.Spec.{Spec}
+use Rattle.std.proofs.{lemmas.Bool.cases_lt, Math.Nat.mul-le-mul_left}
+use Rattle.interpolator_render.specs.{Lengths.usize_count, declared.view.Spec.Spec}
 use Rattle.interpolator_render.specs.declared.view.Trait.TheVariants.{Display}
-use Rattle.interpolator_syntax.specs.SpecTexts.{plain_spec}
-use Rattle.interpolator_syntax.specs.Nodes.{Content}
+use Rattle.interpolator_syntax.specs.{SpecTexts.plain_spec, Nodes.Content}
 use Rattle.interpolator_pieces.specs.NodeCosts.{piece_cost, then_cost, items_cost, padded_cost}
 use Rattle.interpolator_pieces.specs.NodeCosts.{list_cost, value_cost, content_cost, usize_cost}
 use Rattle.interpolator_pieces.specs.Stored.{detail_of, content_of}
-use Rattle.interpolator_pieces.specs.declared.cost.Cost.{Cost}
-use Rattle.interpolator_pieces.specs.declared.cost.Limits.{Limits}
+use Rattle.interpolator_pieces.specs.{declared.cost.Cost.Cost, declared.cost.Limits.Limits}
 use Rattle.interpolator_pieces.specs.declared.piece.Form.TheVariants as forms
-use Rattle.interpolator_pieces.specs.declared.piece.Piece.{Piece}
-use Rattle.interpolator_pieces.specs.declared.piece.Form.{Form}
+use Rattle.interpolator_pieces.specs.{declared.piece.Piece.Piece, declared.piece.Form.Form}
 use Rattle.std.specs.Prelude.{⊤}
 
 -- ---- costs

@@ -1,14 +1,12 @@
 -- The pieces of a text are nested no deeper than it has characters.
 use Rattle.std.proofs.Common.{◌≡◌, refl, arith, ℕ, ◌<◌, ◌≤◌, length, Option, Some, None}
-use Rattle.interpolator_syntax.specs.At.{At}
-use Rattle.interpolator_syntax.specs.Groups.{Group}
-use Rattle.interpolator_syntax.specs.Pieces.{argument_from}
 use Rattle.interpolator_syntax.specs.Tokens.{Token, first_token, past_token, argument}
-use Rattle.interpolator_syntax.proofs.SizeLemmas.{GroupIfIn}
-use Rattle.interpolator_pieces.specs.NodeExtents.{node_depth, branch_depth, forest_depth}
 use Rattle.interpolator_syntax.specs.Nodes.{as_forest, group_branch, piece_node, token_node, nodes}
+use Rattle.interpolator_syntax.specs.{At.At, Groups.Group, Pieces.argument_from}
+use Rattle.interpolator_syntax.proofs.SizeLemmas.{GroupIfIn}
 use Rattle.interpolator_syntax.proofs.TokenLemmas.{token_shorter, scan_shorter}
 use Rattle.interpolator_syntax.proofs.NodeLemmas.{by_length, argument_kind, nodes_first, nodes_none}
+use Rattle.interpolator_pieces.specs.NodeExtents.{node_depth, branch_depth, forest_depth}
 
 -- the pieces of a text are nested no deeper than it has characters
 abbrev Shallow : At → Type 0

@@ -2,13 +2,11 @@
 use Rattle.std.proofs.Common.{◌≡◌, arith, ℕ, true, List, Result, Ok, max}
 use Rattle.interpolator_pieces.specs.NodeExtents.{stored_extent, visit_extent}
 use Rattle.interpolator_pieces.specs.Visits.{Visit, enter, Walks, greatest, text_visits}
-use Rattle.interpolator_pieces.specs.declared.walk.Level.{Level}
-use Rattle.interpolator_pieces.proofs.VisitLemmas.{gathers_greatest}
-use Rattle.interpolator_syntax.specs.At.{At}
 use Rattle.interpolator_pieces.specs.Stored.{node_of, node_whole}
-use Rattle.interpolator_pieces.specs.declared.piece.Piece.{Piece}
-use Rattle.interpolator_pieces.proofs.StoredLemmas.{node_of_out}
+use Rattle.interpolator_pieces.specs.{declared.walk.Level.Level, declared.piece.Piece.Piece}
+use Rattle.interpolator_pieces.proofs.{VisitLemmas.gathers_greatest, StoredLemmas.node_of_out}
 use Rattle.interpolator_pieces.proofs.WholePieceLemmas.{fits_text}
+use Rattle.interpolator_syntax.specs.At.{At}
 
 -- ---- one piece
 

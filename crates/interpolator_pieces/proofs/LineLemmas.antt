@@ -2,9 +2,8 @@
 use Rattle.std.proofs.Common.{refl, ℕ, arith, Option, None, Some}
 use Rattle.interpolator_render.specs.Written.{Written}
 use Rattle.interpolator_syntax.specs.Faults.{Answer, PlaceWithin}
-use Rattle.interpolator_eval.specs.Meaning.Meanings.{Meaning}
+use Rattle.interpolator_eval.specs.{Meaning.Meanings.Meaning, Meaning.Outcomes.Outcome}
 use Rattle.interpolator_pieces.specs.Lines.{newline_means, line_means}
-use Rattle.interpolator_eval.specs.Meaning.Outcomes.{Outcome}
 use Rattle.interpolator_eval.proofs.MeaningLemmas.OutcomeLemmas.{finished_if_none, after_finished}
 use Rattle.interpolator_eval.proofs.MeaningLemmas.OutcomeLemmas.{before_fault}
 use Rattle.interpolator_eval.proofs.MeaningLemmas.PlaceLemmas.{outcome_within}

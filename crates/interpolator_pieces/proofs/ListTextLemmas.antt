@@ -1,16 +1,14 @@
 -- The pieces of a format from its first list on.
-use Rattle.std.proofs.Common.{◌≡◌, ◌∙◌, sym, ap, refl, arith, ℕ, ◌+◌, List, [], length, true}
-use Rattle.std.proofs.Common.{Some, IsSome, append-nil, chars, IsUtf8, ◌⊎◌, inl, inr}
-use Rattle.interpolator_syntax.specs.At.{outermost, size}
-use Rattle.interpolator_syntax.specs.Nodes.{as_forest, nodes}
+use Rattle.std.proofs.Common.{◌≡◌, ◌∙◌, sym, ap, refl, arith, ℕ, ◌+◌, List, [], length, true, Some}
+use Rattle.std.proofs.Common.{IsSome, append-nil, chars, IsUtf8, ◌⊎◌, inl, inr}
+use Rattle.interpolator_syntax.specs.{At.outermost, At.size, Nodes.as_forest, Nodes.nodes}
 use Rattle.interpolator_syntax.proofs.CharacterLemmas.{size-chars}
 use Rattle.interpolator_syntax.proofs.LocalityLemmas.{size-append, stands}
 use Rattle.interpolator_eval.specs.Meaning.ScannedLists.{ListAt, text_forest}
 use Rattle.interpolator_eval.specs.Meaning.Sources.{from_list}
 use Rattle.interpolator_pieces.specs.Stored.{StandFor, Within, forest_whole, nodes_of, part}
 use Rattle.interpolator_pieces.specs.declared.piece.Piece.{Piece}
-use Rattle.interpolator_pieces.proofs.PartLemmas.{part_lies}
-use Rattle.interpolator_pieces.proofs.WholeLemmas.{nodes_whole}
+use Rattle.interpolator_pieces.proofs.{PartLemmas.part_lies, WholeLemmas.nodes_whole}
 
 module _ (bs : List ℕ) (utf8 : IsUtf8 bs) (place : ℕ)
     (list : ListAt (outermost (chars bs)) place) where

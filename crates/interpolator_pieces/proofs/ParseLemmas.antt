@@ -6,31 +6,28 @@ use Rattle.std.specs.Global.{Vec}
 use Rattle.interpolator_render.specs.declared.view.Trait.{Trait}
 use Rattle.interpolator_render.specs.declared.view.Trait.TheVariants as traits
 use Rattle.interpolator_syntax.specs.At.{At, at, size, strip, all_after, outermost}
-use Rattle.interpolator_syntax.specs.Arguments.{Argument, argument_at, named_argument}
-use Rattle.interpolator_syntax.specs.Arguments.{request_of, kind_of_request, taken_read}
-use Rattle.interpolator_syntax.specs.Arguments.{argument_after, plain_argument, list_of}
-use Rattle.interpolator_syntax.specs.Classes.{close_brace}
-use Rattle.interpolator_syntax.specs.Faults.{Fault}
-use Rattle.interpolator_syntax.specs.Groups.{Group, group_of}
+use Rattle.interpolator_syntax.specs.Arguments.{Argument, argument_at, named_argument, request_of}
+use Rattle.interpolator_syntax.specs.Arguments.{kind_of_request, taken_read, argument_after}
+use Rattle.interpolator_syntax.specs.Arguments.{plain_argument, list_of}
 use Rattle.interpolator_syntax.specs.Pieces.{argument_from, argument_step, takes_all, broken}
 use Rattle.interpolator_syntax.specs.SpecTexts.{of_value, of_list, plain_spec}
 use Rattle.interpolator_syntax.specs.Tokens.{Token, literals, doubled, lone_close}
 use Rattle.interpolator_syntax.specs.Tokens.{argument as argument_token, first_token, past_token}
-use Rattle.interpolator_syntax.specs.declared.argument.ArgumentName.{ArgumentName}
+use Rattle.interpolator_syntax.specs.{Classes.close_brace, Faults.Fault, Groups.Group}
+use Rattle.interpolator_syntax.specs.{Groups.group_of, declared.argument.ArgumentName.ArgumentName}
 use Rattle.interpolator_syntax.specs.declared.argument.Request as code_request
 use Rattle.interpolator_syntax.specs.declared.argument.TakenArgument.{TakenArgument}
 use Rattle.interpolator_syntax.specs.declared.cursor.Cursor.{Cursor}
-use Rattle.interpolator_syntax.proofs.CaseLemmas.{err_ok}
-use Rattle.interpolator_syntax.proofs.CharacterLemmas.{size-chars, chars_of_end}
-use Rattle.interpolator_syntax.proofs.LocalityLemmas.{Takes, stands, takes_then, takes_shorter}
-use Rattle.interpolator_syntax.proofs.LocalityLemmas.{takes_reaches}
-use Rattle.interpolator_syntax.proofs.LongestLemmas.{at_same}
-use Rattle.interpolator_syntax.proofs.PieceLemmas.{read_alone, strip_after}
-use Rattle.interpolator_syntax.proofs.ReaderLemmas.{argument_takes}
-use Rattle.interpolator_syntax.proofs.SizeLemmas.{GroupIfIn, ListIn, argument_in}
 use Rattle.interpolator_syntax.specs.Nodes.{Node, node, Branch, no_branch, Content}
 use Rattle.interpolator_syntax.specs.Nodes.{argument_content, target_of, nodes, piece_node}
 use Rattle.interpolator_syntax.specs.Nodes.{token_node, group_branch, item_branch, join_branch}
+use Rattle.interpolator_syntax.proofs.CharacterLemmas.{size-chars, chars_of_end}
+use Rattle.interpolator_syntax.proofs.LocalityLemmas.{Takes, stands, takes_then, takes_shorter}
+use Rattle.interpolator_syntax.proofs.LocalityLemmas.{takes_reaches}
+use Rattle.interpolator_syntax.proofs.PieceLemmas.{read_alone, strip_after}
+use Rattle.interpolator_syntax.proofs.SizeLemmas.{GroupIfIn, ListIn, argument_in}
+use Rattle.interpolator_syntax.proofs.{CaseLemmas.err_ok, LongestLemmas.at_same}
+use Rattle.interpolator_syntax.proofs.ReaderLemmas.{argument_takes}
 use Rattle.interpolator_pieces.specs.Reading.{taken_step, ending_kind, ending_rest}
 use Rattle.interpolator_pieces.specs.Stored.{Within, StandFor, Pushed, GroupStands, part, name_part}
 use Rattle.interpolator_pieces.specs.Stored.{node_of, nodes_of, branch_of, stored_content}

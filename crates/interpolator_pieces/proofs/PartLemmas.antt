@@ -1,15 +1,13 @@
 -- The text that lies at a place of another is what is cut from the other there.
-use Rattle.std.proofs.Common.{◌≡◌, ℕ, ◌+◌, ◌-◌, ◌<◌, true, false, nat_lt, List, [], ◌∷◌}
-use Rattle.std.proofs.Common.{◌++◌, length, take, drop, arith, refl, ◌∙◌, sym, subst, rules}
-use Rattle.std.proofs.Common.{Some, append_assoc, chars, IsUtf8, IsCharBoundary, encode_utf8_all}
+use Rattle.std.proofs.Common.{◌≡◌, ℕ, ◌+◌, ◌-◌, ◌<◌, true, false, nat_lt, List, [], ◌∷◌, ◌++◌}
+use Rattle.std.proofs.Common.{length, take, drop, arith, refl, ◌∙◌, sym, subst, rules, Some}
+use Rattle.std.proofs.Common.{append_assoc, chars, IsUtf8, IsCharBoundary, encode_utf8_all}
 use Rattle.std.proofs.Common.{length-append}
 use Rattle.std.proofs.lemmas.Str.{IsCharBoundary-at_seam, encodes-chars, encodes-append}
 use Rattle.std.proofs.lemmas.Str.{chars-encodes, scalars-chars}
-use Rattle.std.proofs.Math.Utf8.{scalars}
-use Rattle.std.proofs.Math.Seq.{take-append_seam, drop-append_seam}
+use Rattle.std.proofs.{Math.Utf8.scalars, Math.Seq.take-append_seam, Math.Seq.drop-append_seam}
 use Rattle.interpolator_syntax.specs.At.{size, outermost}
-use Rattle.interpolator_syntax.proofs.CharacterLemmas.{length-encodes}
-use Rattle.interpolator_syntax.proofs.LocalityLemmas.{stands}
+use Rattle.interpolator_syntax.proofs.{CharacterLemmas.length-encodes, LocalityLemmas.stands}
 use Rattle.interpolator_pieces.specs.Stored.{may_cut, part, name_part, Within}
 
 at_boundary : (bs : List ℕ) (i : ℕ) → IsCharBoundary bs i → may_cut bs i ≡ true

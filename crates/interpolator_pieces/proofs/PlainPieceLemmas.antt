@@ -1,15 +1,13 @@
 -- Groups whose items are displayed plainly, and joins that are text, as stored pieces.
 use Rattle.std.proofs.Common.{◌≡◌, [], ◌∷◌, List, ℕ, suc, IfSome, None, Option, Some, arith, refl}
 use Rattle.std.proofs.Common.{option_map}
-use Rattle.interpolator_syntax.specs.Groups.{Group, group_of}
-use Rattle.interpolator_syntax.specs.Nodes.{as_forest, branch}
+use Rattle.interpolator_syntax.specs.{Groups.Group, Groups.group_of, Nodes.as_forest, Nodes.branch}
 use Rattle.interpolator_syntax.specs.declared.group.Group as code_group
 use Rattle.interpolator_syntax.specs.declared.piece_kind.PieceKind.TheVariants.{Closed, Literal}
 use Rattle.interpolator_eval.specs.Meaning.Sources.{IsBare, IsFramed, IsRun, IsText, RunFirst}
 use Rattle.interpolator_pieces.specs.Stored.{StandsAlone, detail_of, node_of, nodes_of}
 use Rattle.interpolator_pieces.specs.StoredMeanings.{stored_name, stored_part}
-use Rattle.interpolator_pieces.specs.declared.piece.Piece.{Piece}
-use Rattle.interpolator_pieces.specs.declared.piece.Piece.TheViews.{out-Piece}
+use Rattle.interpolator_pieces.specs.declared.{piece.Piece.Piece, piece.Piece.TheViews.out-Piece}
 use Rattle.interpolator_pieces.proofs.StoredLemmas.{detail_bare, node_of_out}
 
 -- a piece of a text, without a detail and without groups

@@ -1,28 +1,23 @@
 -- What writing stored pieces needs to know of them: where their text is cut from, what they hold,
 -- and the outcome of an argument from that of its value.
-use Rattle.std.proofs.Common.{◌≡◌, refl, arith, ℕ, ◌+◌, ◌-◌, ◌<◌, ◌≤◌, true, nat_lt}
-use Rattle.std.proofs.Common.{List, [], ◌∷◌, length, take, drop, get_or, Option, None, Some, IsSome}
-use Rattle.std.proofs.Common.{option_map, chars, IsUtf8, IsCharBoundary}
-use Rattle.std.proofs.lemmas.Bool.Decides.{nat_tests}
-use Rattle.std.proofs.lemmas.List.{drop-map}
+use Rattle.std.proofs.Common.{◌≡◌, refl, arith, ℕ, ◌+◌, ◌-◌, ◌<◌, ◌≤◌, true, nat_lt, List, [], ◌∷◌}
+use Rattle.std.proofs.Common.{length, take, drop, get_or, Option, None, Some, IsSome, option_map}
+use Rattle.std.proofs.Common.{chars, IsUtf8, IsCharBoundary}
+use Rattle.std.proofs.{lemmas.Bool.Decides.nat_tests, lemmas.List.drop-map}
 use Rattle.std.specs.Bool.{MatchBool, ◌==◌}
 use Rattle.interpolator_render.specs.declared.view.Trait.{Trait}
 use Rattle.interpolator_render.specs.declared.view.Trait.TheVariants as traits
-use Rattle.interpolator_render.specs.declared.view.Spec.{Spec}
-use Rattle.interpolator_render.specs.Views.{Shown}
-use Rattle.interpolator_render.specs.Written.{Written}
-use Rattle.interpolator_syntax.specs.At.{At, outermost}
+use Rattle.interpolator_render.specs.{declared.view.Spec.Spec, Views.Shown, Written.Written}
 use Rattle.interpolator_syntax.specs.Faults.{Answer, fault, argument_fault_of}
-use Rattle.interpolator_syntax.specs.SpecTexts.{plain_spec}
-use Rattle.interpolator_syntax.specs.declared.argument_fault.ArgumentFault.{ArgumentFault}
-use Rattle.interpolator_syntax.specs.declared.range.Range.{Range}
-use Rattle.interpolator_eval.specs.Meaning.Environments.{Environment}
-use Rattle.interpolator_eval.specs.Meaning.Meanings.{Meaning, and_closed, forest_means}
-use Rattle.interpolator_eval.specs.Meaning.Outcomes.{Outcome}
 use Rattle.interpolator_syntax.specs.Nodes.{Content, text_content, argument_content, fault_content}
 use Rattle.interpolator_syntax.specs.Nodes.{no_nodes, Target, target_value, target_list, as_forest}
 use Rattle.interpolator_syntax.specs.Nodes.{nodes}
+use Rattle.interpolator_syntax.specs.{At.At, At.outermost, SpecTexts.plain_spec}
+use Rattle.interpolator_syntax.specs.declared.argument_fault.ArgumentFault.{ArgumentFault}
+use Rattle.interpolator_syntax.specs.declared.range.Range.{Range}
+use Rattle.interpolator_eval.specs.Meaning.Meanings.{Meaning, and_closed, forest_means}
 use Rattle.interpolator_eval.specs.Meaning.Sources.{FirstAsks, asks_list, first_holds}
+use Rattle.interpolator_eval.specs.{Meaning.Environments.Environment, Meaning.Outcomes.Outcome}
 use Rattle.interpolator_pieces.specs.Stored.{name_part, part, detail_of, content_of, node_of}
 use Rattle.interpolator_pieces.specs.Stored.{nodes_of, StandFor, forest_whole, node_whole}
 use Rattle.interpolator_pieces.specs.StoredLists.{begins_list, is_list_form, stored_list}
@@ -30,13 +25,11 @@ use Rattle.interpolator_pieces.specs.StoredLists.{stored_rest}
 use Rattle.interpolator_pieces.specs.StoredMeanings.{stored_part, stored_name, unclosed_fault_of}
 use Rattle.interpolator_pieces.specs.StoredMeanings.{stored_pieces_mean}
 use Rattle.interpolator_pieces.specs.declared.piece.Form.TheVariants as forms
-use Rattle.interpolator_pieces.specs.declared.piece.Piece.{Piece}
-use Rattle.interpolator_pieces.specs.declared.piece.Piece.TheViews.{out-Piece}
+use Rattle.interpolator_pieces.specs.declared.{piece.Piece.Piece, piece.Piece.TheViews.out-Piece}
 use Rattle.interpolator_syntax.specs.declared.piece_kind.PieceKind.{PieceKind}
 use Rattle.interpolator_eval.proofs.MeaningLemmas.SinkLemmas.{and_then, fault_first, ended}
-use Rattle.interpolator_pieces.proofs.StoredLemmas.{node_of_out}
-use Rattle.interpolator_pieces.proofs.WholeLemmas.{nodes_whole}
 use Rattle.interpolator_pieces.proofs.WholePieceLemmas.{both, fits_text, pieces_whole}
+use Rattle.interpolator_pieces.proofs.{StoredLemmas.node_of_out, WholeLemmas.nodes_whole}
 use Rattle.interpolator_pieces.proofs.WithinLemmas.{within_same}
 
 -- ---- where a text may be cut

@@ -3,16 +3,15 @@ use Rattle.std.proofs.Common.{arith, ◌≡◌, refl, ℕ, List, Option, Some, N
 use Rattle.std.proofs.Common.{length, drop, get_or}
 use Rattle.std.proofs.lemmas.List.{drop_more, drop_all}
 use Rattle.interpolator_syntax.specs.Nodes.{Forest, no_nodes, nodes_and, as_forest, Node, node}
-use Rattle.std.specs.Global.{Vec, Box}
 use Rattle.interpolator_syntax.specs.declared.piece_kind.PieceKind.{PieceKind}
+use Rattle.std.specs.Global.{Vec, Box}
 use Rattle.interpolator_pieces.specs.Stored.{node_step, node_of, nodes_of, branch_of, content_of}
 use Rattle.interpolator_pieces.specs.Stored.{bare_detail, detail_content, detail_of, detail_or_bare}
-use Rattle.interpolator_pieces.specs.StoredLists.{is_list_form}
-use Rattle.interpolator_pieces.specs.declared.piece.Detail.{Detail}
-use Rattle.interpolator_pieces.specs.declared.piece.Piece.{Piece}
-use Rattle.interpolator_pieces.specs.declared.piece.Piece.TheOpen.{Piece-F}
 use Rattle.interpolator_pieces.specs.declared.piece.Piece.TheViews.{out-Piece, roll-Piece}
 use Rattle.interpolator_pieces.specs.declared.piece.Piece.TheFolds.{fold-roll-Piece, fold_out-Piece}
+use Rattle.interpolator_pieces.specs.{StoredLists.is_list_form, declared.piece.Detail.Detail}
+use Rattle.interpolator_pieces.specs.declared.piece.Piece.{Piece}
+use Rattle.interpolator_pieces.specs.declared.piece.Piece.TheOpen.{Piece-F}
 
 -- the node of a piece that was made of its parts
 pub node_of_roll :

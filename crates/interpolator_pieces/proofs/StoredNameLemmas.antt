@@ -1,14 +1,12 @@
 -- The names that stored pieces use: that of one piece, and those of a text.
 use Rattle.std.proofs.Common.{arith, ◌≡◌, ℕ, Bool, true, List, ◌++◌, Some, IsSome, Result, Ok}
 use Rattle.std.specs.declared.string.String.{String}
-use Rattle.interpolator_syntax.specs.declared.argument_fault.ArgumentFault.{ArgumentFault}
-use Rattle.interpolator_syntax.specs.At.{At}
+use Rattle.interpolator_syntax.specs.{declared.argument_fault.ArgumentFault.ArgumentFault, At.At}
 use Rattle.interpolator_eval.specs.Meaning.AskedNames.{context_names, content_names, asked_names}
-use Rattle.interpolator_pieces.specs.NodeNames.{visit_asks, name_texts}
-use Rattle.interpolator_pieces.specs.Visits.{Visit, Walks, text_visits}
-use Rattle.interpolator_pieces.proofs.VisitLemmas.{gathers, text_asks}
 use Rattle.interpolator_pieces.specs.Stored.{detail_of, content_of, node_of, node_whole}
-use Rattle.interpolator_pieces.specs.StoredMeanings.{stored_part}
+use Rattle.interpolator_pieces.specs.{NodeNames.visit_asks, NodeNames.name_texts, Visits.Visit}
+use Rattle.interpolator_pieces.specs.{Visits.Walks, Visits.text_visits, StoredMeanings.stored_part}
+use Rattle.interpolator_pieces.proofs.VisitLemmas.{gathers, text_asks}
 use Rattle.interpolator_pieces.specs.declared.piece.Form.TheVariants as forms
 use Rattle.interpolator_pieces.specs.declared.piece.Piece.{Piece}
 use Rattle.interpolator_pieces.proofs.WholePieceLemmas.{fits_text}

@@ -2,17 +2,13 @@
 use Rattle.std.proofs.Common.{◌≡◌, ◌≤◌, refl, arith, ℕ, List, [], ◌∷◌, ◌++◌, length, append_assoc}
 use Rattle.std.proofs.Common.{append-nil, Option, None, Some, Result, Ok, Err, IfOk}
 use Rattle.interpolator_render.specs.declared.view.Trait.{Trait}
-use Rattle.interpolator_syntax.specs.At.{At, at, strip}
-use Rattle.interpolator_syntax.specs.Arguments.{Argument, argument_at}
-use Rattle.interpolator_syntax.specs.Classes.{close_brace}
-use Rattle.interpolator_syntax.specs.Faults.{Fault, Answer}
-use Rattle.interpolator_syntax.specs.Lists.{ListRequest}
-use Rattle.interpolator_syntax.specs.Nodes.{nodes, piece_node, token_node}
-use Rattle.interpolator_syntax.specs.Pieces.{argument_from, argument_step}
-use Rattle.interpolator_syntax.specs.SpecTexts.{of_list, of_value}
-use Rattle.interpolator_syntax.specs.declared.cursor.Cursor.{Cursor}
-use Rattle.interpolator_syntax.specs.declared.error.Error.{Error}
 use Rattle.interpolator_syntax.specs.Tokens.{Token, argument, first_token, past_token}
+use Rattle.interpolator_syntax.specs.{At.At, At.at, At.strip, Arguments.Argument}
+use Rattle.interpolator_syntax.specs.{Arguments.argument_at, Classes.close_brace, Faults.Fault}
+use Rattle.interpolator_syntax.specs.{Faults.Answer, Lists.ListRequest, Nodes.nodes}
+use Rattle.interpolator_syntax.specs.{Nodes.piece_node, Nodes.token_node, Pieces.argument_from}
+use Rattle.interpolator_syntax.specs.{Pieces.argument_step, SpecTexts.of_list, SpecTexts.of_value}
+use Rattle.interpolator_syntax.specs.{declared.cursor.Cursor.Cursor, declared.error.Error.Error}
 use Rattle.interpolator_syntax.proofs.TokenLemmas.{scan_shorter}
 use Rattle.interpolator_eval.proofs.MeaningLemmas.ScanLemmas.{text_next, text_none}
 use Rattle.interpolator_pieces.specs.NodeChecks.{brace_faults, list_faults, node_faults}

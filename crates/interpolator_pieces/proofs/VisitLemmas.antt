@@ -1,8 +1,7 @@
 -- What visitors gather on a walk, and what that is for the pieces of a text.
-use Rattle.std.proofs.Common.{◌≡◌, refl, arith, ℕ, ◌+◌, List, [], ◌∷◌, ◌++◌, Result, Ok}
-use Rattle.std.proofs.Common.{inl, inr, append_assoc, Bool, true, append-nil, flat_map, max}
-use Rattle.std.proofs.lemmas.Grind.{flat_map-append}
-use Rattle.std.proofs.Math.Nat.{max-zero}
+use Rattle.std.proofs.Common.{◌≡◌, refl, arith, ℕ, ◌+◌, List, [], ◌∷◌, ◌++◌, Result, Ok, inl, inr}
+use Rattle.std.proofs.Common.{append_assoc, Bool, true, append-nil, flat_map, max}
+use Rattle.std.proofs.{lemmas.Grind.flat_map-append, Math.Nat.max-zero}
 use Rattle.interpolator_syntax.specs.At.{At}
 use Rattle.interpolator_syntax.specs.Nodes.{Node, node, Branch, no_branch, branch, Forest, no_nodes}
 use Rattle.interpolator_syntax.specs.Nodes.{nodes_and, as_forest, nodes}
@@ -13,14 +12,12 @@ use Rattle.interpolator_pieces.specs.NodeChecks.{text_faults, visit_faults}
 use Rattle.interpolator_pieces.specs.NodeExtents.{node_depth, branch_depth, forest_depth}
 use Rattle.interpolator_pieces.specs.NodeExtents.{node_extent, branch_extent, forest_extent}
 use Rattle.interpolator_pieces.specs.NodeExtents.{visit_depth, inner_depth, visit_extent}
-use Rattle.interpolator_pieces.specs.NodeNames.{visit_asks}
 use Rattle.interpolator_pieces.specs.Visits.{Visit, Walks, inner, greatest, node_visits}
 use Rattle.interpolator_pieces.specs.Visits.{branch_visits, forest_visits, text_visits}
 use Rattle.interpolator_pieces.specs.Visits.{outermost_spot}
 use Rattle.interpolator_pieces.specs.Stored.{node_whole, branch_whole, forest_whole}
-use Rattle.interpolator_pieces.specs.declared.walk.Level.{Level}
-use Rattle.interpolator_pieces.proofs.WholeLemmas.{nodes_whole}
-use Rattle.interpolator_pieces.proofs.WholePieceLemmas.{both}
+use Rattle.interpolator_pieces.specs.{NodeNames.visit_asks, declared.walk.Level.Level}
+use Rattle.interpolator_pieces.proofs.{WholeLemmas.nodes_whole, WholePieceLemmas.both}
 
 -- ---- what a visitor gathers
 

@@ -1,15 +1,13 @@
 -- Visits, one after another, and how deep stored pieces are.
-use Rattle.std.proofs.Common.{◌≡◌, refl, arith, ℕ, ◌+◌, ◌^◌, ◌<◌, ◌≤◌, List, []}
-use Rattle.std.specs.Prelude.{max}
-use Rattle.std.proofs.Common.{◌∷◌, ◌++◌, length, get_or, inl, inr, Result, Ok, Err, Option, Some}
-use Rattle.std.specs.Global.{Vec}
+use Rattle.std.proofs.Common.{◌≡◌, refl, arith, ℕ, ◌+◌, ◌^◌, ◌<◌, ◌≤◌, List, [], ◌∷◌, ◌++◌, length}
+use Rattle.std.proofs.Common.{get_or, inl, inr, Result, Ok, Err, Option, Some}
 use Rattle.std.proofs.lemmas.List.Recursion.{max_bounds}
+use Rattle.std.specs.{Prelude.max, Global.Vec}
 use Rattle.interpolator_syntax.specs.Nodes.{as_forest}
 use Rattle.interpolator_pieces.specs.NodeExtents.{node_depth, branch_depth, forest_depth}
 use Rattle.interpolator_pieces.specs.Stored.{node_of, nodes_of, branch_of}
 use Rattle.interpolator_pieces.specs.Visits.{Visit, Walks}
-use Rattle.interpolator_pieces.specs.declared.piece.Piece.{Piece}
-use Rattle.interpolator_pieces.specs.declared.piece.Piece.TheViews.{out-Piece}
+use Rattle.interpolator_pieces.specs.declared.{piece.Piece.Piece, piece.Piece.TheViews.out-Piece}
 use Rattle.interpolator_pieces.proofs.StoredLemmas.{node_of_out, left}
 
 -- ---- visits, and others after them

@@ -4,10 +4,9 @@ use Rattle.interpolator_syntax.specs.At.{At, after}
 use Rattle.interpolator_syntax.specs.Classes.{front_of, in_class}
 use Rattle.interpolator_syntax.specs.Groups.{Group, inside}
 use Rattle.interpolator_syntax.specs.declared.class.Class.TheVariants.{WhiteSpace, Name}
-use Rattle.interpolator_syntax.proofs.FrontLemmas.{front_after}
 use Rattle.interpolator_syntax.proofs.LocalityLemmas.{Takes, stands, takes_none, takes_after}
 use Rattle.interpolator_syntax.proofs.LocalityLemmas.{size-append}
-use Rattle.interpolator_syntax.proofs.SizeLemmas.{GroupIn}
+use Rattle.interpolator_syntax.proofs.{FrontLemmas.front_after, SizeLemmas.GroupIn}
 use Rattle.interpolator_pieces.specs.Stored.{Within}
 
 -- what lies in a part of a text lies in the text

@@ -1,19 +1,14 @@
 -- What a call owes that writes what a format text means, or makes its text.
 use Rattle.std.specs.Prelude.{ℕ, List, length, Option, Result}
-use Rattle.std.specs.Str.{chars}
-use Rattle.std.specs.declared.string.String.{String}
-use Rattle.interpolator_render.specs.Views.{Shown}
-use Rattle.interpolator_render.specs.Written.{Written}
-use Rattle.interpolator_render.specs.declared.view.Spec.{Spec}
+use Rattle.std.specs.{Str.chars, declared.string.String.String}
+use Rattle.interpolator_render.specs.{Views.Shown, Written.Written, declared.view.Spec.Spec}
 use Rattle.interpolator_render.specs.declared.view.Trait.{Trait}
-use Rattle.interpolator_syntax.specs.At.{outermost}
 use Rattle.interpolator_syntax.specs.Faults.{Answer, PlaceWithin, result_answer}
-use Rattle.interpolator_syntax.specs.declared.error.Error.{Error}
-use Rattle.interpolator_eval.specs.Slots.{Slots}
-use Rattle.interpolator_eval.specs.Meaning.AskedNames.{asked_names}
+use Rattle.interpolator_syntax.specs.{At.outermost, declared.error.Error.Error}
 use Rattle.interpolator_eval.specs.Meaning.Environments.{Environment, environment, cut}
 use Rattle.interpolator_eval.specs.Meaning.Meanings.{Meaning, means}
 use Rattle.interpolator_eval.specs.Meaning.Outcomes.{Outcome, Formats}
+use Rattle.interpolator_eval.specs.{Slots.Slots, Meaning.AskedNames.asked_names}
 use Rattle.interpolator_pieces.specs.Lines.{line_means}
 
 -- what is meant in an environment, the environment of a call, the names that its text asks for, and

@@ -1,22 +1,19 @@
 -- The faults that a format has by itself, whatever its context.
-use Rattle.std.specs.Prelude.{◌≡◌, ◌⊎◌, ℕ, List, [], ◌∷◌, ◌++◌, Option, Some, None}
-use Rattle.std.specs.Prelude.{codes, if◌then◌else◌}
-use Rattle.interpolator_syntax.specs.At.{At}
-use Rattle.interpolator_syntax.specs.ArgumentFaults.{IsArgumentFault}
+use Rattle.std.specs.Prelude.{◌≡◌, ◌⊎◌, ℕ, List, [], ◌∷◌, ◌++◌, Option, Some, None, codes}
+use Rattle.std.specs.Prelude.{if◌then◌else◌}
 use Rattle.interpolator_syntax.specs.Faults.{Fault, expected, parse, iter, argument_fault_of}
-use Rattle.interpolator_eval.specs.Meaning.Meanings.{forbids_list}
 use Rattle.interpolator_syntax.specs.Nodes.{Node, node, Branch, no_branch, branch, as_forest}
-use Rattle.interpolator_syntax.specs.Lists.{ListRequest}
 use Rattle.interpolator_syntax.specs.Nodes.{Forest, group_branch, no_nodes, nodes_and, nodes}
-use Rattle.interpolator_syntax.specs.Nodes.{Content, text_content, argument_content, fault_content, target_value, target_list}
-use Rattle.interpolator_pieces.specs.Stored.{detail_of}
-use Rattle.interpolator_pieces.specs.StoredMeanings.{unclosed_fault_of}
+use Rattle.interpolator_syntax.specs.Nodes.{Content, text_content, argument_content, fault_content}
+use Rattle.interpolator_syntax.specs.Nodes.{target_value, target_list}
+use Rattle.interpolator_syntax.specs.{At.At, ArgumentFaults.IsArgumentFault, Lists.ListRequest}
+use Rattle.interpolator_eval.specs.Meaning.Meanings.{forbids_list}
 use Rattle.interpolator_pieces.specs.Visits.{Visit, enter, leave}
-use Rattle.interpolator_render.specs.declared.view.Spec.{Spec}
+use Rattle.interpolator_pieces.specs.{Stored.detail_of, StoredMeanings.unclosed_fault_of}
 use Rattle.interpolator_pieces.specs.declared.piece.Form.{Form}
+use Rattle.interpolator_render.specs.declared.view.Spec.{Spec}
 use Rattle.interpolator_pieces.specs.declared.piece.Form.TheVariants as forms
-use Rattle.interpolator_pieces.specs.declared.piece.Piece.{Piece}
-use Rattle.interpolator_pieces.specs.declared.piece.Piece.TheViews.{out-Piece}
+use Rattle.interpolator_pieces.specs.declared.{piece.Piece.Piece, piece.Piece.TheViews.out-Piece}
 use Rattle.interpolator_syntax.specs.declared.piece_kind.PieceKind.{PieceKind}
 
 -- at most one fault, as a list

@@ -1,18 +1,15 @@
 -- What a format can cost at most, if the values it is written with are within limits.
 use Rattle.std.specs.Prelude.{ℕ, ◌+◌, ◌-◌, ◌*◌, max, length, Option, None, Some}
-use Rattle.interpolator_render.specs.declared.view.Spec.{Spec}
-use Rattle.interpolator_render.specs.declared.view.Trait.{Trait}
-use Rattle.interpolator_render.specs.declared.view.Trait.TheVariants.{Display}
 use Rattle.interpolator_render.specs.Lengths.{most_written, usize_count}
-use Rattle.interpolator_syntax.specs.At.{At}
-use Rattle.interpolator_syntax.specs.SpecTexts.{plain_spec}
-use Rattle.interpolator_syntax.specs.declared.range.Range.{Range}
-use Rattle.interpolator_syntax.specs.Nodes.{Node, node, Branch, no_branch, branch}
-use Rattle.interpolator_syntax.specs.Nodes.{Forest, no_nodes, nodes_and, as_forest, nodes}
-use Rattle.interpolator_syntax.specs.Nodes.{Content, text_content, argument_content, fault_content, target_value, target_list}
+use Rattle.interpolator_render.specs.{declared.view.Spec.Spec, declared.view.Trait.Trait}
+use Rattle.interpolator_render.specs.declared.view.Trait.TheVariants.{Display}
+use Rattle.interpolator_syntax.specs.Nodes.{Node, node, Branch, no_branch, branch, Forest, no_nodes}
+use Rattle.interpolator_syntax.specs.Nodes.{nodes_and, as_forest, nodes, Content, text_content}
+use Rattle.interpolator_syntax.specs.Nodes.{argument_content, fault_content, target_value}
+use Rattle.interpolator_syntax.specs.Nodes.{target_list}
+use Rattle.interpolator_syntax.specs.{At.At, SpecTexts.plain_spec, declared.range.Range.Range}
 use Rattle.interpolator_eval.specs.Meaning.Limits.{most_chosen}
-use Rattle.interpolator_pieces.specs.declared.cost.Cost.{Cost}
-use Rattle.interpolator_pieces.specs.declared.cost.Limits.{Limits}
+use Rattle.interpolator_pieces.specs.{declared.cost.Cost.Cost, declared.cost.Limits.Limits}
 
 -- the cost of nothing
 abbrev pub no_cost : Cost

@@ -6,8 +6,7 @@ use Rattle.interpolator_syntax.specs.Nodes.{nodes_and, Content, argument_content
 use Rattle.interpolator_pieces.specs.Visits.{Visit, enter, leave}
 use Rattle.interpolator_pieces.specs.declared.piece.Form.{Form}
 use Rattle.interpolator_pieces.specs.declared.piece.Form.TheVariants as forms
-use Rattle.interpolator_pieces.specs.declared.piece.Piece.{Piece}
-use Rattle.interpolator_pieces.specs.Stored.{detail_of}
+use Rattle.interpolator_pieces.specs.{declared.piece.Piece.Piece, Stored.detail_of}
 
 -- the width or the precision of a spec, whichever is greater, and 0 if neither is set
 abbrev pub spec_extent : Spec → ℕ

@@ -1,7 +1,6 @@
 -- The names that a walk over the pieces of a format gathers.
 use Rattle.std.specs.Prelude.{List, [], ◌∷◌, ℕ, Option, Some, None, map, string_bytes}
-use Rattle.std.specs.Str.{chars}
-use Rattle.std.specs.declared.string.String.{String}
+use Rattle.std.specs.{Str.chars, declared.string.String.String}
 use Rattle.interpolator_syntax.specs.Nodes.{node}
 use Rattle.interpolator_eval.specs.Meaning.AskedNames.{content_names}
 use Rattle.interpolator_pieces.specs.Visits.{Visit, enter, leave}

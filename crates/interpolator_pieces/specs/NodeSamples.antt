@@ -4,15 +4,13 @@ use Rattle.std.specs.Prelude.{List, [], ◌∷◌, ◌++◌, unwrap_or}
 use Rattle.std.specs.List.{list_any}
 use Rattle.interpolator_render.specs.declared.view.Trait.{Trait}
 use Rattle.interpolator_render.specs.declared.view.Trait.TheVariants as traits
-use Rattle.interpolator_render.specs.declared.view.Spec.{Spec}
-use Rattle.interpolator_render.specs.Views.{Shown}
-use Rattle.interpolator_syntax.specs.At.{At}
+use Rattle.interpolator_render.specs.{declared.view.Spec.Spec, Views.Shown}
 use Rattle.interpolator_syntax.specs.Faults.{Fault, missing_value, missing_trait_impl, fmt}
 use Rattle.interpolator_syntax.specs.Nodes.{Node, node, Branch, no_branch, branch, as_forest}
-use Rattle.interpolator_syntax.specs.Nodes.{Forest, no_nodes, nodes_and, nodes}
-use Rattle.interpolator_syntax.specs.Nodes.{Content, text_content, argument_content, fault_content}
-use Rattle.interpolator_syntax.specs.Nodes.{Target, target_value, target_list}
-use Rattle.interpolator_syntax.specs.SpecTexts.{plain_spec}
+use Rattle.interpolator_syntax.specs.Nodes.{Forest, no_nodes, nodes_and, nodes, Content}
+use Rattle.interpolator_syntax.specs.Nodes.{text_content, argument_content, fault_content, Target}
+use Rattle.interpolator_syntax.specs.Nodes.{target_value, target_list}
+use Rattle.interpolator_syntax.specs.{At.At, SpecTexts.plain_spec}
 use Rattle.interpolator_eval.specs.Slots.{Slots}
 use Rattle.interpolator_eval.specs.Meaning.Samples.{Sample, sample, bind_each, candidates_under}
 use Rattle.interpolator_eval.specs.Meaning.Samples.{items_of_all, has_no_list, some_missing}

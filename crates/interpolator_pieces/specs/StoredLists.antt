@@ -2,15 +2,12 @@
 use Rattle.std.specs.Prelude.{ℕ, suc, List, [], ◌∷◌, Bool, true, false, Option, None, Some}
 use Rattle.std.specs.Prelude.{if◌then◌else◌}
 use Rattle.interpolator_syntax.specs.Nodes.{Forest, as_forest, no_branch}
-use Rattle.interpolator_syntax.specs.SpecTexts.{plain_spec}
-use Rattle.interpolator_syntax.specs.declared.range.Range.{Range}
+use Rattle.interpolator_syntax.specs.{SpecTexts.plain_spec, declared.range.Range.Range}
 use Rattle.interpolator_eval.specs.Meaning.Sources.{ListArgument, has_brace}
 use Rattle.interpolator_pieces.specs.Stored.{branch_of, detail_of, nodes_of}
-use Rattle.interpolator_pieces.specs.StoredMeanings.{stored_name}
-use Rattle.interpolator_pieces.specs.declared.piece.Form.{Form}
+use Rattle.interpolator_pieces.specs.{StoredMeanings.stored_name, declared.piece.Form.Form}
 use Rattle.interpolator_pieces.specs.declared.piece.Form.TheVariants as forms
-use Rattle.interpolator_pieces.specs.declared.piece.Piece.{Piece}
-use Rattle.interpolator_pieces.specs.declared.piece.Piece.TheViews.{out-Piece}
+use Rattle.interpolator_pieces.specs.declared.{piece.Piece.Piece, piece.Piece.TheViews.out-Piece}
 
 -- whether a piece is written as a list
 abbrev pub is_list_form : Form → Bool

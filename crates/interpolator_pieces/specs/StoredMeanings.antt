@@ -1,17 +1,14 @@
 -- What stored pieces mean, in the words of the functions that write them.
 use Rattle.std.specs.Prelude.{ℕ, List, Option, Some, None, codes}
-use Rattle.interpolator_render.specs.declared.view.Trait.{Trait}
-use Rattle.interpolator_render.specs.declared.view.Spec.{Spec}
+use Rattle.interpolator_render.specs.{declared.view.Trait.Trait, declared.view.Spec.Spec}
 use Rattle.interpolator_render.specs.Views.{Shown}
 use Rattle.interpolator_syntax.specs.Faults.{Fault, parse, expected}
+use Rattle.interpolator_syntax.specs.{Nodes.as_forest, declared.piece_kind.PieceKind.PieceKind}
+use Rattle.interpolator_syntax.specs.declared.piece_kind.PieceKind.TheVariants.{Unclosed}
 use Rattle.interpolator_eval.specs.Meaning.Environments.{Environment}
 use Rattle.interpolator_eval.specs.Meaning.Meanings.{Meaning, node_means, forest_means}
-use Rattle.interpolator_syntax.specs.Nodes.{as_forest}
 use Rattle.interpolator_pieces.specs.Stored.{node_of, nodes_of, part, name_part, detail_of}
-use Rattle.interpolator_syntax.specs.declared.piece_kind.PieceKind.{PieceKind}
-use Rattle.interpolator_syntax.specs.declared.piece_kind.PieceKind.TheVariants.{Unclosed}
-use Rattle.interpolator_pieces.specs.declared.piece.Piece.{Piece}
-use Rattle.interpolator_pieces.specs.declared.piece.Piece.TheViews.{out-Piece}
+use Rattle.interpolator_pieces.specs.declared.{piece.Piece.Piece, piece.Piece.TheViews.out-Piece}
 
 -- the text that is written for a stored piece, or the name of a stored argument, if it fits its
 -- text

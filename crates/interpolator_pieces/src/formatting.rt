@@ -2,14 +2,12 @@
 
 ghost use Rattle.std.specs.Prelude.{◌≡◌, ◌⊎◌, Some};
 ghost use Rattle.std.specs.Str.{chars};
-ghost use Rattle.interpolator_syntax.specs.At.{outermost};
-ghost use Rattle.interpolator_syntax.specs.Faults.{result_answer, no_memory};
-ghost use Rattle.interpolator_eval.specs.Escaping.{shows_by};
+ghost use Rattle.interpolator_syntax.specs.{At.outermost, Faults.result_answer, Faults.no_memory};
 ghost use Rattle.interpolator_eval.specs.Meaning.CodeEnvironments.{environment_of};
-ghost use Rattle.interpolator_eval.specs.Meaning.Meanings.{forest_means, means};
-ghost use Rattle.interpolator_eval.specs.Meaning.ScannedLists.{ListAt, text_forest};
-ghost use Rattle.interpolator_eval.specs.Meaning.Sinks.{SameEnd, Writes};
-ghost use Rattle.interpolator_eval.specs.Meaning.Sources.{from_list};
+ghost use Rattle.interpolator_eval.specs.Meaning.{Meanings.forest_means, Meanings.means};
+ghost use Rattle.interpolator_eval.specs.Meaning.{ScannedLists.ListAt, ScannedLists.text_forest};
+ghost use Rattle.interpolator_eval.specs.Meaning.{Sinks.SameEnd, Sinks.Writes, Sources.from_list};
+ghost use Rattle.interpolator_eval.specs.Escaping.{shows_by};
 ghost use Rattle.interpolator_pieces.specs.Calls.{MakesText, WritesText};
 
 use crate::functions::buffer_for;

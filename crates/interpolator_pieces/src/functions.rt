@@ -1,22 +1,17 @@
 //! The functions that write a format, write its pieces, and check it.
 
-ghost use Rattle.std.specs.Prelude.{◌≡◌, ◌+◌, ◌<◌, ◌≤◌, [], false, length, IfOk, Some};
-ghost use Rattle.std.specs.Prelude.{min, option_map};
+ghost use Rattle.std.specs.Prelude.{◌≡◌, ◌+◌, ◌<◌, ◌≤◌, [], false, length, IfOk, Some, min};
+ghost use Rattle.std.specs.Prelude.{option_map};
 ghost use Rattle.std.specs.Str.{chars};
-ghost use Rattle.interpolator_syntax.specs.At.{outermost};
-ghost use Rattle.interpolator_eval.specs.Escaping.{shows_by};
-ghost use Rattle.interpolator_eval.specs.Meaning.AskedNames.{asked_names};
-ghost use Rattle.interpolator_eval.specs.Meaning.Environments.{environment, cut};
 ghost use Rattle.interpolator_syntax.specs.Faults.{result_answer, fault, PlaceWithin};
-ghost use Rattle.interpolator_eval.specs.Meaning.Limits.{IsWithin};
-ghost use Rattle.interpolator_eval.specs.Meaning.Meanings.{means};
-ghost use Rattle.interpolator_eval.specs.Meaning.Outcomes.{Outcome};
+ghost use Rattle.interpolator_syntax.specs.{At.outermost, Nodes.nodes};
+ghost use Rattle.interpolator_eval.specs.Meaning.Environments.{environment, cut};
+ghost use Rattle.interpolator_eval.specs.{Escaping.shows_by, Meaning.AskedNames.asked_names};
+ghost use Rattle.interpolator_eval.specs.{Meaning.Limits.IsWithin, Meaning.Meanings.means};
+ghost use Rattle.interpolator_eval.specs.{Meaning.Outcomes.Outcome, Meaning.Work.text_work};
 ghost use Rattle.interpolator_pieces.specs.Calls.{MakesText, WritesText};
 ghost use Rattle.interpolator_pieces.specs.NodeChecks.{first_fault, text_faults};
-ghost use Rattle.interpolator_pieces.specs.NodeCosts.{text_cost};
-ghost use Rattle.interpolator_eval.specs.Meaning.Work.{text_work};
-ghost use Rattle.interpolator_pieces.specs.declared.cost.Limits.{Limits};
-ghost use Rattle.interpolator_syntax.specs.Nodes.{nodes};
+ghost use Rattle.interpolator_pieces.specs.{NodeCosts.text_cost, declared.cost.Limits.Limits};
 ghost use Rattle.interpolator_pieces.specs.Stored.{nodes_of};
 ghost use Rattle.interpolator_render.specs.Written.{as_writer, plain};
 

@@ -1,8 +1,7 @@
 //! Formats with a newline after them.
 ghost use Rattle.interpolator_syntax.specs.Faults.{result_answer};
-ghost use Rattle.interpolator_pieces.specs.Lines.{newline_means};
+ghost use Rattle.interpolator_pieces.specs.{Lines.newline_means, Calls.WritesLine};
 ghost use Rattle.interpolator_eval.specs.Meaning.Outcomes.{Outcome};
-ghost use Rattle.interpolator_pieces.specs.Calls.{WritesLine};
 
 use crate::functions::write;
 use interpolator_eval::{Context, write_char};

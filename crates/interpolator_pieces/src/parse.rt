@@ -1,19 +1,17 @@
 //! Reads a format into its pieces.
-ghost use Rattle.std.specs.Prelude.{◌≡◌, ◌<◌, ◌≤◌, ◌+◌, ◌^◌, ℕ, List, [], ◌∷◌, ◌++◌, IfOk, None, Ok};
-ghost use Rattle.std.specs.Prelude.{option_map, vec_capacity};
+ghost use Rattle.std.specs.Prelude.{◌≡◌, ◌<◌, ◌≤◌, ◌+◌, ◌^◌, ℕ, List, [], ◌∷◌, ◌++◌, IfOk, None};
+ghost use Rattle.std.specs.Prelude.{Ok, option_map, vec_capacity};
 ghost use Rattle.std.specs.Str.{chars};
 ghost use Rattle.interpolator_syntax.specs.At.{at, size, strip, all_after};
 ghost use Rattle.interpolator_syntax.specs.Arguments.{argument_at, argument_after, plain_argument};
 ghost use Rattle.interpolator_syntax.specs.Arguments.{named_argument, request_of, kind_of_request};
 ghost use Rattle.interpolator_syntax.specs.Arguments.{list_of};
-ghost use Rattle.interpolator_syntax.specs.Classes.{close_brace};
-ghost use Rattle.interpolator_syntax.specs.Faults.{argument_fault_of};
-ghost use Rattle.interpolator_syntax.specs.Groups.{group_of};
 ghost use Rattle.interpolator_syntax.specs.Pieces.{argument_from, broken};
 ghost use Rattle.interpolator_syntax.specs.SpecTexts.{of_value, of_list, plain_spec};
-ghost use Rattle.interpolator_syntax.specs.Tokens.{argument};
 ghost use Rattle.interpolator_syntax.specs.Nodes.{nodes, node, no_branch, text_content, piece_node};
 ghost use Rattle.interpolator_syntax.specs.Nodes.{token_node};
+ghost use Rattle.interpolator_syntax.specs.{Classes.close_brace, Faults.argument_fault_of};
+ghost use Rattle.interpolator_syntax.specs.{Groups.group_of, Tokens.argument};
 ghost use Rattle.interpolator_pieces.specs.Stored.{StandFor, Pushed, GroupStands, part, node_of};
 ghost use Rattle.interpolator_pieces.specs.Stored.{stored_content};
 ghost use Rattle.interpolator_pieces.specs.declared.piece.Form.TheVariants as forms;

@@ -3,8 +3,7 @@ ghost use Rattle.std.specs.Prelude.{◌≡◌, ◌<◌, ◌^◌, ℕ, List, None
 ghost use Rattle.interpolator_syntax.specs.Nodes.{node, no_branch};
 ghost use Rattle.interpolator_pieces.specs.Stored.{bare_detail, bare_form, bare_from, bare_to};
 ghost use Rattle.interpolator_pieces.specs.Stored.{branch_of, detail_content, detail_of, node_of};
-ghost use Rattle.interpolator_pieces.specs.StoredLists.{is_list_form};
-ghost use Rattle.interpolator_pieces.specs.StoredMeanings.{stored_part};
+ghost use Rattle.interpolator_pieces.specs.{StoredLists.is_list_form, StoredMeanings.stored_part};
 
 use interpolator_render::{Spec, Trait};
 use interpolator_syntax::{ArgumentFault, PieceKind, Range};

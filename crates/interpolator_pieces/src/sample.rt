@@ -1,16 +1,15 @@
 //! The faults that pieces have against a sample.
 ghost use Rattle.std.specs.Prelude.{◌≡◌, ◌+◌, ◌<◌, ◌≤◌, ◌^◌, ℕ, List, [], true, false, Option};
 ghost use Rattle.std.specs.Prelude.{IsSome, None, Some};
-ghost use Rattle.interpolator_render.specs.declared.view.Trait.TheVariants.{Display};
-ghost use Rattle.interpolator_syntax.specs.SpecTexts.{plain_spec};
 ghost use Rattle.std.specs.Str.{chars};
-ghost use Rattle.interpolator_syntax.specs.Faults.{result_answer};
-ghost use Rattle.interpolator_syntax.specs.Nodes.{as_forest, target_value, target_list};
-ghost use Rattle.interpolator_syntax.specs.declared.range.Range.{Range};
+ghost use Rattle.interpolator_render.specs.declared.view.Trait.TheVariants.{Display};
 ghost use Rattle.interpolator_render.specs.declared.view.Spec.{Spec};
+ghost use Rattle.interpolator_syntax.specs.Nodes.{as_forest, target_value, target_list};
+ghost use Rattle.interpolator_syntax.specs.{SpecTexts.plain_spec, Faults.result_answer};
+ghost use Rattle.interpolator_syntax.specs.declared.range.Range.{Range};
 ghost use Rattle.interpolator_eval.specs.Meaning.Samples.{sample_of, candidates_under, items_below};
-ghost use Rattle.interpolator_eval.specs.Meaning.Samples.{all_shown};
-ghost use Rattle.interpolator_eval.specs.Meaning.Samples.{candidates_of, level_in, level_of_items};
+ghost use Rattle.interpolator_eval.specs.Meaning.Samples.{all_shown, candidates_of, level_in};
+ghost use Rattle.interpolator_eval.specs.Meaning.Samples.{level_of_items};
 ghost use Rattle.interpolator_pieces.specs.NodeExtents.{node_depth, branch_depth, forest_depth};
 ghost use Rattle.interpolator_pieces.specs.NodeSamples.{value_faults, found_faults, asked_of};
 ghost use Rattle.interpolator_pieces.specs.NodeSamples.{item_of, items_of_content, node_faults_in};

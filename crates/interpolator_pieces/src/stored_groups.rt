@@ -1,7 +1,6 @@
 //! Groups of a list as stored pieces: what is read of them once, before the items are written.
 ghost use Rattle.std.specs.Prelude.{◌≡◌, ◌∷◌, [], IfSome, option_map, true};
-ghost use Rattle.interpolator_syntax.specs.Groups.{group_of};
-ghost use Rattle.interpolator_syntax.specs.Nodes.{as_forest, branch};
+ghost use Rattle.interpolator_syntax.specs.{Groups.group_of, Nodes.as_forest, Nodes.branch};
 ghost use Rattle.interpolator_eval.specs.Meaning.Sources.{IsBare, IsFramed, IsRun, IsText};
 ghost use Rattle.interpolator_eval.specs.Meaning.Sources.{RunFirst};
 ghost use Rattle.interpolator_pieces.specs.Stored.{StandsAlone, forest_whole, node_of, node_whole};

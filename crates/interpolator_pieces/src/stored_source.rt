@@ -3,12 +3,11 @@ ghost use Rattle.std.specs.Prelude.{◌≡◌, ◌+◌, ◌<◌, ◌≤◌, IfOk
 ghost use Rattle.interpolator_render.specs.Bounds.{bounded_writer};
 ghost use Rattle.interpolator_syntax.specs.Faults.{result_answer, fault, argument_fault_of};
 ghost use Rattle.interpolator_syntax.specs.Nodes.{as_forest};
-ghost use Rattle.interpolator_eval.specs.Escaping.{shows_by};
-ghost use Rattle.interpolator_eval.specs.Meaning.CodeEnvironments.{environment_of};
-ghost use Rattle.interpolator_eval.specs.Meaning.Meanings.{forest_means};
-ghost use Rattle.interpolator_eval.specs.Meaning.Outcomes.{Outcome};
 ghost use Rattle.interpolator_eval.specs.Meaning.Sources.{Met, before_list, from_list, met_pieces};
 ghost use Rattle.interpolator_eval.specs.Meaning.Sources.{unlisted_means};
+ghost use Rattle.interpolator_eval.specs.Escaping.{shows_by};
+ghost use Rattle.interpolator_eval.specs.Meaning.CodeEnvironments.{environment_of};
+ghost use Rattle.interpolator_eval.specs.{Meaning.Meanings.forest_means, Meaning.Outcomes.Outcome};
 ghost use Rattle.interpolator_eval.specs.Meaning.Work.{forest_work};
 ghost use Rattle.interpolator_pieces.specs.Stored.{node_of, nodes_of, node_whole, forest_whole};
 ghost use Rattle.interpolator_pieces.specs.Stored.{detail_of};

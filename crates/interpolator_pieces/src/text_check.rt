@@ -1,15 +1,12 @@
 //! The first fault that a text has by itself, found while it is read. Callers come before what they
 //! call.
 ghost use Rattle.std.specs.Prelude.{◌≡◌, ℕ, IfOk, None, Some, option_map};
-ghost use Rattle.interpolator_syntax.specs.At.{at, strip};
 ghost use Rattle.interpolator_syntax.specs.Arguments.{argument_at, argument_after, plain_argument};
 ghost use Rattle.interpolator_syntax.specs.Arguments.{list_of};
-ghost use Rattle.interpolator_syntax.specs.Classes.{close_brace};
-ghost use Rattle.interpolator_syntax.specs.Faults.{fault, result_answer};
-ghost use Rattle.interpolator_syntax.specs.Groups.{group_of};
 ghost use Rattle.interpolator_syntax.specs.Nodes.{group_branch, nodes, token_node};
-ghost use Rattle.interpolator_syntax.specs.Pieces.{argument_from};
-ghost use Rattle.interpolator_syntax.specs.Tokens.{argument};
+ghost use Rattle.interpolator_syntax.specs.{At.at, At.strip, Classes.close_brace, Faults.fault};
+ghost use Rattle.interpolator_syntax.specs.{Faults.result_answer, Groups.group_of};
+ghost use Rattle.interpolator_syntax.specs.{Pieces.argument_from, Tokens.argument};
 ghost use Rattle.interpolator_pieces.specs.NodeChecks.{brace_faults, branch_faults, first_fault};
 ghost use Rattle.interpolator_pieces.specs.NodeChecks.{list_faults, node_faults, text_faults};
 

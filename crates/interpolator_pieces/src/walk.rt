@@ -1,13 +1,12 @@
 //! The walk over the pieces of a format, at every depth of groups.
 ghost use Rattle.std.specs.Prelude.{◌≡◌, ◌+◌, ◌^◌, ◌<◌, ℕ, List, Result, true};
+ghost use Rattle.std.specs.Str.{chars};
 ghost use Rattle.interpolator_pieces.specs.NodeExtents.{forest_depth, node_depth, branch_depth};
 ghost use Rattle.interpolator_pieces.specs.Visits.{Visit, enter, leave, Walks, inner, node_visits};
 ghost use Rattle.interpolator_pieces.specs.Visits.{branch_visits, forest_visits, text_visits};
-ghost use Rattle.interpolator_syntax.specs.At.{outermost};
-ghost use Rattle.interpolator_syntax.specs.Nodes.{as_forest, nodes};
-ghost use Rattle.std.specs.Str.{chars};
-ghost use Rattle.interpolator_pieces.specs.Stored.{node_of, nodes_of, branch_of};
-ghost use Rattle.interpolator_pieces.specs.Stored.{node_whole, branch_whole, forest_whole};
+ghost use Rattle.interpolator_pieces.specs.Stored.{node_of, nodes_of, branch_of, node_whole};
+ghost use Rattle.interpolator_pieces.specs.Stored.{branch_whole, forest_whole};
+ghost use Rattle.interpolator_syntax.specs.{At.outermost, Nodes.as_forest, Nodes.nodes};
 
 use crate::piece::Piece;
 

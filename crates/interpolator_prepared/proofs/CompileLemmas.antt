@@ -3,25 +3,21 @@ use Rattle.std.proofs.Common.{◌≡◌, ◌≢◌, ◌∙◌, refl, sym, ap, ar
 use Rattle.std.proofs.Common.{◌++◌, map, Option, None, Some, IsSome, true, false, Bool, length}
 use Rattle.std.proofs.Common.{drop, take}
 use Rattle.std.proofs.lemmas.List.{append-nil, append_assoc}
-use Rattle.std.specs.List.{All}
 use Rattle.std.specs.Prelude.{⊤, ◌+◌, Result, Ok, Err, IfOk, unwrap_or, if◌then◌else◌}
-use Rattle.std.specs.Str.{encode_utf8_all}
-use Rattle.interpolator_render.specs.declared.view.Spec.{Spec}
-use Rattle.interpolator_render.specs.declared.view.Trait.{Trait}
+use Rattle.std.specs.{List.All, Str.encode_utf8_all}
+use Rattle.interpolator_render.specs.{declared.view.Spec.Spec, declared.view.Trait.Trait}
 use Rattle.interpolator_render.specs.declared.view.Trait.TheVariants as traits
 use Rattle.interpolator_syntax.specs.At.{Placed, placed_from}
 use Rattle.interpolator_syntax.specs.Nodes.{Node, node, Branch, Content, argument_content}
 use Rattle.interpolator_syntax.specs.Nodes.{target_value, as_forest}
-use Rattle.interpolator_syntax.specs.SpecTexts.{plain_spec}
-use Rattle.interpolator_syntax.specs.declared.piece_kind.PieceKind.{PieceKind}
+use Rattle.interpolator_syntax.specs.{SpecTexts.plain_spec, declared.piece_kind.PieceKind.PieceKind}
 use Rattle.interpolator_syntax.specs.declared.piece_kind.PieceKind.TheVariants as kinds
 use Rattle.interpolator_pieces.specs.Stored.{stored_content, content_of, node_of, nodes_of}
 use Rattle.interpolator_pieces.specs.Stored.{node_whole, forest_whole, detail_of}
 use Rattle.interpolator_pieces.specs.StoredMeanings.{stored_name, stored_part}
 use Rattle.interpolator_pieces.specs.declared.piece.Form.{Form}
 use Rattle.interpolator_pieces.specs.declared.piece.Form.TheVariants as forms
-use Rattle.interpolator_pieces.specs.declared.piece.Piece.{Piece}
-use Rattle.interpolator_pieces.specs.declared.piece.Piece.TheViews.{out-Piece}
+use Rattle.interpolator_pieces.specs.declared.{piece.Piece.Piece, piece.Piece.TheViews.out-Piece}
 use Rattle.interpolator_pieces.proofs.RunLemmas.{text_fits, text_held, name_held, value_held}
 use Rattle.interpolator_pieces.proofs.RunLemmas.{name_fits, value_fits}
 use Rattle.interpolator_pieces.proofs.StoredLemmas.{node_of_out}
@@ -30,10 +26,9 @@ use Rattle.interpolator_prepared.specs.Programs.{Instruction, text_step, value_s
 use Rattle.interpolator_prepared.specs.Programs.{text_before, node_before, program}
 use Rattle.interpolator_prepared.specs.Programs.{content_position, node_position, step_at}
 use Rattle.interpolator_prepared.specs.Programs.{argument_step}
-use Rattle.interpolator_prepared.specs.Rows.{last_position}
 use Rattle.interpolator_prepared.specs.StoredSteps.{first_step, is_text, is_text_form, step_of}
 use Rattle.interpolator_prepared.specs.StoredSteps.{steps_of, text_count, texts_after, texts_placed}
-use Rattle.interpolator_prepared.specs.declared.step.Step.{Step}
+use Rattle.interpolator_prepared.specs.{Rows.last_position, declared.step.Step.Step}
 use Rattle.interpolator_prepared.proofs.JoinedLemmas.{on_test, with_value}
 use Rattle.interpolator_prepared.proofs.StepLemmas.{alone}
 

@@ -2,32 +2,27 @@
 use Rattle.std.proofs.Common.{◌≡◌, ◌∙◌, refl, sym, ap, arith, ℕ, ◌+◌, ◌<◌, List, [], ◌∷◌, ◌++◌}
 use Rattle.std.proofs.Common.{length, drop, map, get_or, Bool, true, false, Option, None, Some}
 use Rattle.std.proofs.Common.{IsSome, subst}
-use Rattle.std.proofs.lemmas.List.{drop_more}
+use Rattle.std.proofs.{lemmas.List.drop_more, lemmas.Str.chars-nil}
 use Rattle.std.specs.Prelude.{◌==◌, is_some, string_bytes}
 use Rattle.std.specs.Str.{chars}
-use Rattle.std.proofs.lemmas.Str.{chars-nil}
-use Rattle.interpolator_render.specs.declared.view.Spec.{Spec}
-use Rattle.interpolator_render.specs.declared.view.Trait.{Trait}
-use Rattle.interpolator_render.specs.Views.{Shown}
-use Rattle.interpolator_render.specs.Written.{Written}
-use Rattle.interpolator_syntax.specs.At.{Placed}
+use Rattle.interpolator_render.specs.{declared.view.Spec.Spec, declared.view.Trait.Trait}
+use Rattle.interpolator_render.specs.{Views.Shown, Written.Written}
 use Rattle.interpolator_syntax.specs.Faults.{Answer, answer_of}
-use Rattle.interpolator_syntax.specs.declared.error.Error.{Error}
-use Rattle.interpolator_eval.specs.Slots.{Slots}
+use Rattle.interpolator_syntax.specs.{At.Placed, declared.error.Error.Error}
 use Rattle.interpolator_eval.specs.Meaning.Environments.{Environment, bind}
 use Rattle.interpolator_eval.specs.Meaning.Lists.{IsChosen, IsNotChosen, list_under_name}
-use Rattle.interpolator_eval.specs.Meaning.Meanings.{Meaning, text_alone, chain}
-use Rattle.interpolator_eval.specs.Meaning.Meanings.{items_after, items_mean}
-use Rattle.interpolator_eval.specs.Meaning.Outcomes.{Outcome}
-use Rattle.interpolator_eval.proofs.MeaningLemmas.MeaningLemmas.{joined_assoc, joined_none, nothing_last}
+use Rattle.interpolator_eval.specs.Meaning.Meanings.{Meaning, text_alone, chain, items_after}
+use Rattle.interpolator_eval.specs.Meaning.Meanings.{items_mean}
+use Rattle.interpolator_eval.specs.{Slots.Slots, Meaning.Outcomes.Outcome}
+use Rattle.interpolator_eval.proofs.MeaningLemmas.MeaningLemmas.{joined_assoc, joined_none}
+use Rattle.interpolator_eval.proofs.MeaningLemmas.MeaningLemmas.{nothing_last}
 use Rattle.interpolator_eval.proofs.MeaningLemmas.SinkLemmas.{nothing_done}
 use Rattle.interpolator_pieces.specs.Stored.{part}
 use Rattle.interpolator_pieces.proofs.WholePieceLemmas.{both}
 use Rattle.interpolator_prepared.specs.Items.{items_within, parts_mean, placed_eq, value_under}
 use Rattle.interpolator_prepared.specs.StoredSteps.{compiled_list, fitting_means, joined_text}
 use Rattle.interpolator_prepared.specs.StoredSteps.{list_fits, stored_format, stored_join}
-use Rattle.interpolator_prepared.specs.declared.step.ListStep.{ListStep}
-use Rattle.interpolator_prepared.specs.declared.step.JoinedText.{JoinedText}
+use Rattle.interpolator_prepared.specs.declared.{step.ListStep.ListStep, step.JoinedText.JoinedText}
 use Rattle.interpolator_prepared.specs.declared.step.ValueSpec.{ValueSpec}
 use Rattle.interpolator_prepared.proofs.JoinedLemmas.{equal_numbers}
 use Rattle.interpolator_prepared.proofs.ListMeaningLemmas.{characters_alone, characters_before}

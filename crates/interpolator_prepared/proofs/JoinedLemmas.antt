@@ -2,31 +2,25 @@
 use Rattle.std.proofs.Common.{◌≡◌, ◌∙◌, refl, sym, ap, arith, ℕ, ◌+◌, ◌-◌, ◌<◌, ◌≤◌, Bool, true}
 use Rattle.std.proofs.Common.{false, List, [], ◌∷◌, ◌++◌, length, drop, get_or, None, Some, inl}
 use Rattle.std.proofs.Common.{inr, IsSome, Option, subst, length-append}
-use Rattle.std.specs.Prelude.{◌==◌, if◌then◌else◌, string_bytes, unwrap_or}
-use Rattle.std.specs.List.{All}
-use Rattle.std.specs.Char.{len_utf8}
-use Rattle.std.specs.Str.{chars, IsUtf8}
 use Rattle.std.proofs.lemmas.List.{append-nil, append_assoc, drop_more, map-append}
 use Rattle.std.proofs.lemmas.Str.{chars-append, chars-nil, len_utf8_bounds}
+use Rattle.std.specs.Prelude.{◌==◌, if◌then◌else◌, string_bytes, unwrap_or}
+use Rattle.std.specs.{List.All, Char.len_utf8, Str.chars, Str.IsUtf8}
 use Rattle.interpolator_render.specs.Written.{Written}
-use Rattle.interpolator_syntax.specs.At.{Placed, placed_from, size, text_of}
-use Rattle.interpolator_syntax.specs.Faults.{Answer}
+use Rattle.interpolator_syntax.specs.{At.Placed, At.placed_from, At.size, At.text_of, Faults.Answer}
 use Rattle.interpolator_syntax.proofs.CharacterLemmas.{size-chars}
-use Rattle.interpolator_eval.specs.Meaning.Meanings.{text_alone}
-use Rattle.interpolator_eval.specs.Meaning.Outcomes.{Outcome}
-use Rattle.interpolator_eval.specs.Meaning.Sinks.{write_fault_answer}
-use Rattle.interpolator_eval.specs.declared.evaluate.sink.WriteFault.{WriteFault}
 use Rattle.interpolator_eval.specs.declared.evaluate.sink.WriteFault.TheVariants.{MissingTraitImpl}
 use Rattle.interpolator_eval.specs.declared.evaluate.sink.WriteFault.TheVariants.{Fmt}
+use Rattle.interpolator_eval.specs.{Meaning.Meanings.text_alone, Meaning.Outcomes.Outcome}
+use Rattle.interpolator_eval.specs.Meaning.Sinks.{write_fault_answer}
+use Rattle.interpolator_eval.specs.declared.evaluate.sink.WriteFault.{WriteFault}
 use Rattle.interpolator_eval.proofs.MeaningLemmas.PlacedLemmas.{placed_from-append}
-use Rattle.interpolator_prepared.specs.Programs.{text_step}
 use Rattle.interpolator_prepared.specs.StoredSteps.{parts_size, joined_place, placed_by}
 use Rattle.interpolator_prepared.specs.StoredSteps.{joined_placed, joined_step, joined_text}
 use Rattle.interpolator_prepared.specs.StoredSteps.{moved_fault, texts_placed}
-use Rattle.interpolator_prepared.specs.declared.step.JoinedText.{JoinedText}
+use Rattle.interpolator_prepared.specs.{Programs.text_step, declared.step.JoinedText.JoinedText}
 use Rattle.interpolator_prepared.specs.declared.step.Part.{Part}
-use Rattle.interpolator_pieces.specs.Stored.{detail_of}
-use Rattle.interpolator_pieces.specs.StoredMeanings.{stored_part}
+use Rattle.interpolator_pieces.specs.{Stored.detail_of, StoredMeanings.stored_part}
 use Rattle.interpolator_pieces.specs.declared.piece.Piece.{Piece}
 
 -- ---- the place of a byte

@@ -1,17 +1,15 @@
 -- A piece that is kept fits its text, and means its node.
 use Rattle.std.proofs.Common.{arith, ◌≡◌, ap, sym, ℕ, true, Option, None, Some, IsSome}
 use Rattle.std.specs.Prelude.{if◌then◌else◌}
-use Rattle.interpolator_render.specs.declared.view.Trait.{Trait}
-use Rattle.interpolator_render.specs.declared.view.Spec.{Spec}
+use Rattle.interpolator_render.specs.{declared.view.Trait.Trait, declared.view.Spec.Spec}
 use Rattle.interpolator_render.specs.Views.{Shown}
 use Rattle.interpolator_syntax.specs.Nodes.{Node}
-use Rattle.interpolator_eval.specs.Slots.{Slots}
-use Rattle.interpolator_eval.specs.Meaning.Environments.{Environment}
+use Rattle.interpolator_eval.specs.{Slots.Slots, Meaning.Environments.Environment}
 use Rattle.interpolator_eval.specs.Meaning.Meanings.{node_means}
 use Rattle.interpolator_pieces.specs.Stored.{node_whole}
 use Rattle.interpolator_prepared.specs.Programs.{whole_step}
-use Rattle.interpolator_prepared.proofs.ListMeaningLemmas.{whole_means}
 use Rattle.interpolator_prepared.specs.StoredSteps.{fitting_means, kept_step}
+use Rattle.interpolator_prepared.proofs.ListMeaningLemmas.{whole_means}
 
 -- a node that fits its text is a step
 pub kept_is : (n : Node) → node_whole n ≡ true → kept_step n ≡ Some (whole_step n)

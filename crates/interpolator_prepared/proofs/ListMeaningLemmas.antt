@@ -1,25 +1,23 @@
 -- What the parts of item formats and of joins mean, and so what lists mean.
 use Rattle.std.proofs.Common.{◌≡◌, ◌∙◌, refl, sym, ap, ℕ, List, [], ◌∷◌, ◌++◌, Option, None, Some}
 use Rattle.std.specs.Prelude.{if◌then◌else◌}
-use Rattle.interpolator_render.specs.declared.view.Trait.{Trait}
-use Rattle.interpolator_render.specs.declared.view.Spec.{Spec}
+use Rattle.interpolator_render.specs.{declared.view.Trait.Trait, declared.view.Spec.Spec}
 use Rattle.interpolator_render.specs.Views.{Shown}
-use Rattle.interpolator_syntax.specs.At.{Placed, placed_from}
-use Rattle.interpolator_syntax.specs.Faults.{parse, iter}
 use Rattle.interpolator_syntax.specs.Nodes.{Node, node, Branch, no_branch, branch, Forest, no_nodes}
-use Rattle.interpolator_syntax.specs.Nodes.{nodes_and, text_content, argument_content}
-use Rattle.interpolator_syntax.specs.Nodes.{target_value, target_list}
+use Rattle.interpolator_syntax.specs.Nodes.{nodes_and, text_content, argument_content, target_value}
+use Rattle.interpolator_syntax.specs.Nodes.{target_list}
+use Rattle.interpolator_syntax.specs.{At.Placed, At.placed_from, Faults.parse, Faults.iter}
 use Rattle.interpolator_syntax.specs.declared.range.Range.{Range}
 use Rattle.interpolator_eval.specs.Slots.{Slots, items}
-use Rattle.interpolator_eval.specs.Meaning.Choices.{chosen_items}
 use Rattle.interpolator_eval.specs.Meaning.Environments.{Environment, bind, slots_under}
-use Rattle.interpolator_eval.specs.Meaning.Lists.{list_under_name}
 use Rattle.interpolator_eval.specs.Meaning.Meanings.{Meaning, text_alone, chain, fault_alone}
 use Rattle.interpolator_eval.specs.Meaning.Meanings.{and_closed, forbids_list, padded_list}
 use Rattle.interpolator_eval.specs.Meaning.Meanings.{items_after, items_mean, listed_means}
 use Rattle.interpolator_eval.specs.Meaning.Meanings.{under_name, node_means, forest_means}
 use Rattle.interpolator_eval.specs.Meaning.Meanings.{item_branch_means, join_branch_means}
-use Rattle.interpolator_eval.proofs.MeaningLemmas.MeaningLemmas.{joined_assoc, joined_none, nothing_last}
+use Rattle.interpolator_eval.specs.{Meaning.Choices.chosen_items, Meaning.Lists.list_under_name}
+use Rattle.interpolator_eval.proofs.MeaningLemmas.MeaningLemmas.{joined_assoc, joined_none}
+use Rattle.interpolator_eval.proofs.MeaningLemmas.MeaningLemmas.{nothing_last}
 use Rattle.interpolator_prepared.specs.Items.{ItemPart, characters, in_item, in_join, item_parts}
 use Rattle.interpolator_prepared.specs.Items.{join_parts, part_means, parts_by, parts_mean}
 use Rattle.interpolator_prepared.specs.Programs.{step_means, whole_step}

@@ -1,10 +1,8 @@
 -- The program of nodes means what they mean, with a row that reaches each name.
-use Rattle.std.proofs.Common.{◌≡◌, ◌∙◌, refl, sym, ap, arith, ℕ, ◌+◌, ◌<◌, Bool}
-use Rattle.std.proofs.Common.{List, [], ◌∷◌, length, Option, None, Some, IsSome}
-use Rattle.std.specs.Option.{option_and_then}
-use Rattle.std.specs.Str.{bytes_eq, encode_utf8_all}
-use Rattle.interpolator_render.specs.declared.view.Trait.{Trait}
-use Rattle.interpolator_render.specs.declared.view.Spec.{Spec}
+use Rattle.std.proofs.Common.{◌≡◌, ◌∙◌, refl, sym, ap, arith, ℕ, ◌+◌, ◌<◌, Bool, List, [], ◌∷◌}
+use Rattle.std.proofs.Common.{length, Option, None, Some, IsSome}
+use Rattle.std.specs.{Option.option_and_then, Str.bytes_eq, Str.encode_utf8_all}
+use Rattle.interpolator_render.specs.{declared.view.Trait.Trait, declared.view.Spec.Spec}
 use Rattle.interpolator_render.specs.Views.{Shown}
 use Rattle.interpolator_syntax.specs.At.{Placed, placed_from}
 use Rattle.interpolator_syntax.specs.Nodes.{Node, node, Branch, Content, text_content}

@@ -2,11 +2,9 @@
 use Rattle.std.proofs.Common.{arith, ◌≡◌, refl, ℕ, Bool, true, false, cond, List, [], ◌∷◌, ◌++◌}
 use Rattle.std.proofs.Common.{length, Some, sym, take, get_or, ◌+◌, ◌<◌}
 use Rattle.std.proofs.lemmas.Slice.Eq.{bytes_eq-Decides}
-use Rattle.std.specs.Borrow.{Bor}
-use Rattle.std.specs.HashMap.{HashMap, get_by}
 use Rattle.std.proofs.lemmas.List.{length-map, length-take-le, map-append, map_more}
 use Rattle.std.specs.Prelude.{if◌then◌else◌, String, string_bytes}
-use Rattle.std.specs.Str.{bytes_eq}
+use Rattle.std.specs.{Borrow.Bor, HashMap.HashMap, HashMap.get_by, Str.bytes_eq}
 use Rattle.interpolator_prepared.specs.Rows.{HasPositions, last_position, name_bytes}
 
 -- the last position with one more name at the end

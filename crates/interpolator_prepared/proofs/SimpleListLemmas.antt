@@ -1,12 +1,10 @@
 -- The pieces of a list that has a step of its own.
-use Rattle.std.proofs.Common.{◌≡◌, ◌∙◌, refl, sym, ap, arith, ℕ, ◌+◌, ◌-◌, ◌≤◌}
-use Rattle.std.proofs.Common.{nat_lt, true, List, [], ◌∷◌, ◌++◌, length, take, drop}
-use Rattle.std.proofs.Common.{Option, None, Some, IsSome, length-append, append_assoc}
+use Rattle.std.proofs.Common.{◌≡◌, ◌∙◌, refl, sym, ap, arith, ℕ, ◌+◌, ◌-◌, ◌≤◌, nat_lt, true, List}
+use Rattle.std.proofs.Common.{[], ◌∷◌, ◌++◌, length, take, drop, Option, None, Some, IsSome}
+use Rattle.std.proofs.Common.{length-append, append_assoc}
 use Rattle.std.proofs.lemmas.List.{append-nil, drop_all, map-append, take_all}
 use Rattle.std.proofs.Math.Seq.{drop-append_seam, take-append_seam}
-use Rattle.std.specs.List.{All}
-use Rattle.std.specs.Global.{Vec}
-use Rattle.std.specs.Prelude.{unwrap_or}
+use Rattle.std.specs.{List.All, Global.Vec, Prelude.unwrap_or}
 use Rattle.interpolator_syntax.specs.At.{Placed, placed_from}
 use Rattle.interpolator_syntax.specs.Nodes.{Node, as_forest, argument_content, target_value}
 use Rattle.interpolator_syntax.specs.declared.piece_kind.PieceKind.TheVariants as kinds
@@ -15,23 +13,21 @@ use Rattle.interpolator_pieces.specs.Stored.{branch_of, content_of, node_of, nod
 use Rattle.interpolator_pieces.specs.Stored.{detail_of, forest_whole}
 use Rattle.interpolator_pieces.specs.StoredMeanings.{stored_name, stored_part}
 use Rattle.interpolator_pieces.specs.declared.piece.Form.TheVariants as forms
-use Rattle.interpolator_pieces.specs.declared.piece.Piece.{Piece}
-use Rattle.interpolator_pieces.specs.declared.piece.Piece.TheViews.{out-Piece}
+use Rattle.interpolator_pieces.specs.declared.{piece.Piece.Piece, piece.Piece.TheViews.out-Piece}
 use Rattle.interpolator_pieces.proofs.RunLemmas.{list_fits, list_held, text_held}
-use Rattle.interpolator_pieces.proofs.StoredLemmas.{node_of_out}
-use Rattle.interpolator_pieces.proofs.WholePieceLemmas.{fits_text}
-use Rattle.interpolator_prepared.specs.Items.{ItemPart, characters, in_item, in_join}
-use Rattle.interpolator_prepared.specs.Items.{join_parts, parts_by, placed_eq}
-use Rattle.interpolator_prepared.specs.Programs.{whole_step}
+use Rattle.interpolator_pieces.proofs.{StoredLemmas.node_of_out, WholePieceLemmas.fits_text}
+use Rattle.interpolator_prepared.specs.Items.{ItemPart, characters, in_item, in_join, join_parts}
+use Rattle.interpolator_prepared.specs.Items.{parts_by, placed_eq}
 use Rattle.interpolator_prepared.specs.SimpleLists.{IsItem, IsJoin, IsSimple, shown_item}
 use Rattle.interpolator_prepared.specs.StoredSteps.{compiled_list, is_text, join_within}
-use Rattle.interpolator_prepared.specs.StoredSteps.{joined_text, list_fits as fits_list}
-use Rattle.interpolator_prepared.specs.StoredSteps.{text_count, texts_placed}
-use Rattle.interpolator_prepared.specs.declared.lists.ListPieces.{ListPieces}
+use Rattle.interpolator_prepared.specs.StoredSteps.{joined_text, list_fits as fits_list, text_count}
+use Rattle.interpolator_prepared.specs.StoredSteps.{texts_placed}
+use Rattle.interpolator_prepared.specs.{Programs.whole_step, declared.lists.ListPieces.ListPieces}
 use Rattle.interpolator_prepared.specs.declared.step.JoinedText.{JoinedText}
 use Rattle.interpolator_prepared.specs.declared.step.ListStep.{ListStep}
 use Rattle.interpolator_prepared.specs.declared.step.ValueSpec.{ValueSpec}
-use Rattle.interpolator_prepared.proofs.CompileLemmas.{first_whole, named_part, text_form, text_part, texts_fit}
+use Rattle.interpolator_prepared.proofs.CompileLemmas.{first_whole, named_part, text_form}
+use Rattle.interpolator_prepared.proofs.CompileLemmas.{text_part, texts_fit}
 use Rattle.interpolator_prepared.proofs.JoinedLemmas.{number_equals, on_test, with_value}
 
 module _ (bs : List ℕ) where

@@ -3,26 +3,21 @@ use Rattle.std.proofs.Common.{◌≡◌, ◌∙◌, refl, ap, ℕ, zero, suc, Li
 use Rattle.std.proofs.Common.{flat_map, length, drop, map, Option, None, Some, IsSome}
 use Rattle.std.specs.List.{All}
 use Rattle.std.specs.Prelude.{true, ◌==◌}
-use Rattle.interpolator_prepared.specs.declared.step.Part.{Part}
-use Rattle.interpolator_render.specs.declared.view.Trait.{Trait}
-use Rattle.interpolator_render.specs.declared.view.Spec.{Spec}
-use Rattle.interpolator_render.specs.Views.{Shown}
-use Rattle.interpolator_render.specs.Written.{Written}
-use Rattle.interpolator_syntax.specs.Faults.{Answer}
-use Rattle.interpolator_eval.specs.Slots.{Slots}
-use Rattle.interpolator_eval.specs.Meaning.Environments.{Environment}
-use Rattle.interpolator_syntax.specs.At.{placed_from}
+use Rattle.interpolator_prepared.specs.Programs.{Instruction, step_means, steps_mean}
+use Rattle.interpolator_prepared.specs.StoredSteps.{Fit, all_mean, fitting_means, joined_placed}
+use Rattle.interpolator_prepared.specs.StoredSteps.{joined_step, literal_step, parts_size, step_of}
+use Rattle.interpolator_prepared.specs.StoredSteps.{steps_of, stored_step_means, stored_steps_mean}
+use Rattle.interpolator_prepared.specs.{declared.step.Part.Part, declared.step.Step.Step}
+use Rattle.interpolator_render.specs.{declared.view.Trait.Trait, declared.view.Spec.Spec}
+use Rattle.interpolator_render.specs.{Views.Shown, Written.Written}
+use Rattle.interpolator_syntax.specs.{Faults.Answer, At.placed_from}
 use Rattle.interpolator_eval.specs.Meaning.Meanings.{Meaning, chain, text_alone}
+use Rattle.interpolator_eval.specs.{Slots.Slots, Meaning.Environments.Environment}
 use Rattle.interpolator_eval.specs.Meaning.Outcomes.{Outcome}
 use Rattle.interpolator_eval.proofs.MeaningLemmas.MeaningLemmas.{joined_assoc, joined_none}
 use Rattle.interpolator_eval.proofs.MeaningLemmas.MeaningLemmas.{nothing_last}
 use Rattle.interpolator_eval.proofs.MeaningLemmas.SinkLemmas.{and_then, nothing_done}
 use Rattle.interpolator_pieces.specs.Stored.{part}
-use Rattle.interpolator_prepared.specs.Programs.{Instruction, step_means, steps_mean}
-use Rattle.interpolator_prepared.specs.StoredSteps.{Fit, all_mean, fitting_means, joined_placed}
-use Rattle.interpolator_prepared.specs.StoredSteps.{joined_step, literal_step, parts_size, step_of}
-use Rattle.interpolator_prepared.specs.StoredSteps.{steps_of, stored_step_means, stored_steps_mean}
-use Rattle.interpolator_prepared.specs.declared.step.Step.{Step}
 use Rattle.interpolator_prepared.proofs.JoinedLemmas.{with_value}
 
 -- if some instructions begin a program, they fit their format

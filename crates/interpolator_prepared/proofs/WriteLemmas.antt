@@ -1,28 +1,18 @@
 -- What is written for stored steps with a row is what their format means.
-use Rattle.std.proofs.Common.{◌≡◌, ◌∙◌, refl, sym, ap, ℕ, ◌<◌, ◌≤◌, List, length, map}
-use Rattle.std.proofs.Common.{Option, None, Some, get_or, option_map}
-use Rattle.std.proofs.lemmas.Option.{slice_get_past, slice_get_read}
+use Rattle.std.proofs.Common.{◌≡◌, ◌∙◌, refl, sym, ap, ℕ, ◌<◌, ◌≤◌, List, length, map, Option, None}
+use Rattle.std.proofs.Common.{Some, get_or, option_map}
+use Rattle.std.proofs.lemmas.{Option.slice_get_past, Option.slice_get_read, Str.encodes-chars}
 use Rattle.std.specs.Prelude.{String, slice_get, flat_map}
-use Rattle.std.specs.Str.{chars, IsUtf8}
-use Rattle.interpolator_render.specs.declared.view.Trait.{Trait}
-use Rattle.interpolator_render.specs.declared.view.Spec.{Spec}
-use Rattle.interpolator_render.specs.Views.{Shown}
-use Rattle.interpolator_render.specs.Written.{Written}
-use Rattle.interpolator_syntax.specs.At.{outermost}
-use Rattle.interpolator_syntax.specs.Faults.{Answer}
-use Rattle.interpolator_syntax.specs.Nodes.{nodes}
-use Rattle.interpolator_eval.specs.Slots.{Slots}
-use Rattle.interpolator_eval.specs.Meaning.Environments.{environment}
-use Rattle.interpolator_eval.specs.Meaning.Meanings.{means}
-use Rattle.interpolator_eval.specs.Meaning.Outcomes.{Outcome}
-use Rattle.interpolator_prepared.specs.Programs.{program}
+use Rattle.std.specs.{Str.chars, Str.IsUtf8, Option.option_and_then}
+use Rattle.interpolator_render.specs.{declared.view.Trait.Trait, declared.view.Spec.Spec}
+use Rattle.interpolator_render.specs.{Views.Shown, Written.Written}
+use Rattle.interpolator_syntax.specs.{At.outermost, Faults.Answer, Nodes.nodes}
+use Rattle.interpolator_eval.specs.{Slots.Slots, Meaning.Environments.environment}
+use Rattle.interpolator_eval.specs.{Meaning.Meanings.means, Meaning.Outcomes.Outcome}
 use Rattle.interpolator_prepared.specs.Rows.{InOrder, found_by_row, name_bytes, last_position}
-use Rattle.std.specs.Option.{option_and_then}
-use Rattle.std.proofs.lemmas.Str.{encodes-chars}
 use Rattle.interpolator_prepared.specs.StoredSteps.{steps_of, stored_steps_mean}
-use Rattle.interpolator_prepared.specs.declared.step.Step.{Step}
-use Rattle.interpolator_prepared.proofs.ProgramLemmas.{program_means}
-use Rattle.interpolator_prepared.proofs.StepLemmas.{program_stored}
+use Rattle.interpolator_prepared.specs.{Programs.program, declared.step.Step.Step}
+use Rattle.interpolator_prepared.proofs.{ProgramLemmas.program_means, StepLemmas.program_stored}
 
 -- a row of what has a tree each
 module _ {A X : Type 0} (tree : A → Slots X) where

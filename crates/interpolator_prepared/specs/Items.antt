@@ -3,23 +3,21 @@ use Rattle.std.specs.Prelude.{ℕ, ◌==◌, ◌&&◌, Bool, true, false, List, 
 use Rattle.std.specs.Prelude.{map, Option, Some}
 use Rattle.interpolator_render.specs.declared.view.Trait.{Trait}
 use Rattle.interpolator_render.specs.declared.view.Trait.TheVariants as traits
-use Rattle.interpolator_render.specs.declared.view.Spec.{Spec}
-use Rattle.interpolator_render.specs.Views.{Shown}
+use Rattle.interpolator_render.specs.{declared.view.Spec.Spec, Views.Shown}
 use Rattle.interpolator_syntax.specs.At.{Placed, placed_from}
 use Rattle.interpolator_syntax.specs.Nodes.{Node, node, Branch, no_branch, branch, Forest, no_nodes}
 use Rattle.interpolator_syntax.specs.Nodes.{nodes_and, Content, text_content, argument_content}
 use Rattle.interpolator_syntax.specs.Nodes.{target_value}
-use Rattle.interpolator_syntax.specs.SpecTexts.{plain_spec}
-use Rattle.interpolator_syntax.specs.declared.piece_kind.PieceKind.{PieceKind}
+use Rattle.interpolator_syntax.specs.{SpecTexts.plain_spec, declared.piece_kind.PieceKind.PieceKind}
 use Rattle.interpolator_syntax.specs.declared.piece_kind.PieceKind.TheVariants.{Closed}
 use Rattle.interpolator_syntax.specs.declared.range.Range.{Range}
 use Rattle.interpolator_eval.specs.Slots.{Slots, slot_at, values_of}
 use Rattle.interpolator_eval.specs.Meaning.Environments.{Environment, bind}
 use Rattle.interpolator_eval.specs.Meaning.Lists.{list_under_name}
-use Rattle.interpolator_eval.specs.Meaning.Meanings.{Meaning, nothing, text_alone, chain, value_means}
-use Rattle.interpolator_eval.specs.Meaning.Meanings.{and_closed, items_mean, node_means}
-use Rattle.interpolator_prepared.specs.Rows.{slot_found}
-use Rattle.interpolator_prepared.specs.declared.step.ValueSpec.{ValueSpec}
+use Rattle.interpolator_eval.specs.Meaning.Meanings.{Meaning, nothing, text_alone, chain}
+use Rattle.interpolator_eval.specs.Meaning.Meanings.{value_means, and_closed, items_mean}
+use Rattle.interpolator_eval.specs.Meaning.Meanings.{node_means}
+use Rattle.interpolator_prepared.specs.{Rows.slot_found, declared.step.ValueSpec.ValueSpec}
 
 -- a part of an item format or of a join: a character; the item under a trait and a spec that ends
 -- at `end`; or what a node means

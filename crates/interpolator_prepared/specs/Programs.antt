@@ -1,18 +1,16 @@
 -- The flat program of a format and names, and what it means with a row.
 use Rattle.std.specs.Prelude.{ℕ, List, [], ◌∷◌, ◌++◌, Option, Some, None}
 use Rattle.std.specs.Str.{encode_utf8_all}
-use Rattle.interpolator_render.specs.declared.view.Trait.{Trait}
-use Rattle.interpolator_render.specs.declared.view.Spec.{Spec}
+use Rattle.interpolator_render.specs.{declared.view.Trait.Trait, declared.view.Spec.Spec}
 use Rattle.interpolator_render.specs.Views.{Shown}
 use Rattle.interpolator_syntax.specs.At.{Placed, placed_from}
 use Rattle.interpolator_syntax.specs.Nodes.{Node, node, Branch, Content, text_content}
 use Rattle.interpolator_syntax.specs.Nodes.{argument_content, target_value, target_list}
 use Rattle.interpolator_syntax.specs.declared.piece_kind.PieceKind.{PieceKind}
 use Rattle.interpolator_syntax.specs.declared.piece_kind.PieceKind.TheVariants.{Closed}
-use Rattle.interpolator_eval.specs.Slots.{Slots}
-use Rattle.interpolator_eval.specs.Meaning.Environments.{Environment}
-use Rattle.interpolator_eval.specs.Meaning.Meanings.{Meaning, nothing, text_alone, chain, value_means}
-use Rattle.interpolator_eval.specs.Meaning.Meanings.{node_means}
+use Rattle.interpolator_eval.specs.Meaning.Meanings.{Meaning, nothing, text_alone, chain}
+use Rattle.interpolator_eval.specs.Meaning.Meanings.{value_means, node_means}
+use Rattle.interpolator_eval.specs.{Slots.Slots, Meaning.Environments.Environment}
 use Rattle.interpolator_prepared.specs.Items.{ListFormat, item_parts, join_parts, list_means}
 use Rattle.interpolator_prepared.specs.Rows.{last_position, slot_found}
 

@@ -1,14 +1,11 @@
 -- A row of values, in the order of names, as an environment.
 use Rattle.std.specs.Prelude.{◌≡◌, ◌<◌, ℕ, suc, Bool, true, false, List, [], ◌∷◌, length, map}
 use Rattle.std.specs.Prelude.{Option, Some, None, IsSome, option_map, slice_get, string_bytes}
-use Rattle.std.specs.Option.{option_and_then}
-use Rattle.std.specs.Str.{bytes_eq, encode_utf8_all}
-use Rattle.std.specs.Borrow.{Bor}
-use Rattle.std.specs.HashMap.{HashMap, get_by}
-use Rattle.std.specs.declared.string.String.{String}
+use Rattle.std.specs.{Option.option_and_then, Str.bytes_eq, Str.encode_utf8_all, Borrow.Bor}
+use Rattle.std.specs.{HashMap.HashMap, HashMap.get_by, declared.string.String.String}
 use Rattle.interpolator_render.specs.declared.view.Trait.{Trait}
-use Rattle.interpolator_eval.specs.Slots.{Slots, slots_of, values_of, slot_at}
-use Rattle.interpolator_eval.specs.Slots.{empty_slots, with_integer}
+use Rattle.interpolator_eval.specs.Slots.{Slots, slots_of, values_of, slot_at, empty_slots}
+use Rattle.interpolator_eval.specs.Slots.{with_integer}
 use Rattle.interpolator_eval.specs.declared.slots.Formattable.{Formattable}
 
 -- the bytes of names that the code has

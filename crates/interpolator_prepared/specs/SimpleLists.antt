@@ -1,17 +1,15 @@
 -- The pieces of a list that has a step of its own.
 use Rattle.std.specs.Prelude.{◌≡◌, ℕ, false, is_some, List, [], ◌∷◌, ◌++◌, IsSome}
 use Rattle.std.specs.List.{All}
-use Rattle.interpolator_syntax.specs.Nodes.{Node}
-use Rattle.interpolator_syntax.specs.declared.piece_kind.PieceKind.TheVariants.{Closed}
-use Rattle.interpolator_prepared.specs.Items.{ItemPart, characters, item_value, in_item}
-use Rattle.interpolator_prepared.specs.Items.{item_parts, join_parts}
+use Rattle.interpolator_syntax.specs.{Nodes.Node, declared.piece_kind.PieceKind.TheVariants.Closed}
+use Rattle.interpolator_prepared.specs.Items.{ItemPart, characters, item_value, in_item, item_parts}
+use Rattle.interpolator_prepared.specs.Items.{join_parts}
 use Rattle.interpolator_prepared.specs.StoredSteps.{texts_placed}
 use Rattle.interpolator_prepared.specs.declared.lists.ItemPieces.{ItemPieces}
 use Rattle.interpolator_prepared.specs.declared.lists.ListPieces.{ListPieces}
 use Rattle.interpolator_prepared.specs.declared.step.ValueSpec.{ValueSpec}
 use Rattle.interpolator_pieces.specs.Stored.{branch_of, detail_of}
-use Rattle.interpolator_pieces.specs.StoredMeanings.{stored_part}
-use Rattle.interpolator_pieces.specs.declared.piece.Piece.{Piece}
+use Rattle.interpolator_pieces.specs.{StoredMeanings.stored_part, declared.piece.Piece.Piece}
 use Rattle.interpolator_pieces.specs.declared.piece.Piece.TheViews.{out-Piece}
 
 -- how an item is shown, as a part

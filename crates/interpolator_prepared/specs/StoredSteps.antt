@@ -5,32 +5,26 @@ use Rattle.std.specs.Prelude.{option_map, string_bytes, ◌&&◌, not, is_some, 
 use Rattle.std.specs.Str.{chars}
 use Rattle.interpolator_render.specs.declared.view.Trait.{Trait}
 use Rattle.interpolator_render.specs.declared.view.Trait.TheVariants as traits
-use Rattle.interpolator_render.specs.declared.view.Spec.{Spec}
-use Rattle.interpolator_render.specs.Views.{Shown}
-use Rattle.interpolator_syntax.specs.At.{Placed, placed_from}
+use Rattle.interpolator_render.specs.{declared.view.Spec.Spec, Views.Shown}
 use Rattle.interpolator_syntax.specs.Faults.{Answer, fault, missing_trait_impl, fmt}
-use Rattle.interpolator_syntax.specs.SpecTexts.{plain_spec}
-use Rattle.interpolator_eval.specs.Slots.{Slots}
-use Rattle.interpolator_eval.specs.Meaning.Environments.{Environment}
+use Rattle.interpolator_syntax.specs.{At.Placed, At.placed_from, SpecTexts.plain_spec, Nodes.Node}
 use Rattle.interpolator_eval.specs.Meaning.Meanings.{Meaning, nothing, chain}
-use Rattle.interpolator_eval.specs.declared.evaluate.sink.WriteFault.{WriteFault}
 use Rattle.interpolator_eval.specs.declared.evaluate.sink.WriteFault.TheVariants.{MissingTraitImpl}
 use Rattle.interpolator_eval.specs.declared.evaluate.sink.WriteFault.TheVariants.{Fmt}
-use Rattle.interpolator_syntax.specs.Nodes.{Node}
+use Rattle.interpolator_eval.specs.{Slots.Slots, Meaning.Environments.Environment}
+use Rattle.interpolator_eval.specs.declared.evaluate.sink.WriteFault.{WriteFault}
 use Rattle.interpolator_pieces.specs.Stored.{detail_of, part, node_of, node_whole}
-use Rattle.interpolator_pieces.specs.StoredMeanings.{stored_part}
-use Rattle.interpolator_pieces.specs.declared.piece.Form.{Form}
+use Rattle.interpolator_pieces.specs.{StoredMeanings.stored_part, declared.piece.Form.Form}
 use Rattle.interpolator_pieces.specs.declared.piece.Form.TheVariants as forms
 use Rattle.interpolator_pieces.specs.declared.piece.Piece.{Piece}
 use Rattle.interpolator_syntax.specs.declared.piece_kind.PieceKind.TheVariants as kinds
 use Rattle.interpolator_prepared.specs.Items.{ListFormat, characters, item_value, placed_eq}
 use Rattle.interpolator_prepared.specs.Programs.{Instruction, text_step, value_step, list_step}
-use Rattle.interpolator_prepared.specs.Programs.{step_means, argument_step, node_position, whole_step}
+use Rattle.interpolator_prepared.specs.Programs.{step_means, argument_step, node_position}
+use Rattle.interpolator_prepared.specs.Programs.{whole_step}
 use Rattle.interpolator_prepared.specs.declared.step.JoinedText.{JoinedText}
-use Rattle.interpolator_prepared.specs.declared.step.ListStep.{ListStep}
-use Rattle.interpolator_prepared.specs.declared.step.Part.{Part}
-use Rattle.interpolator_prepared.specs.declared.step.ValueSpec.{ValueSpec}
-use Rattle.interpolator_prepared.specs.declared.step.Step.{Step}
+use Rattle.interpolator_prepared.specs.{declared.step.ListStep.ListStep, declared.step.Part.Part}
+use Rattle.interpolator_prepared.specs.{declared.step.ValueSpec.ValueSpec, declared.step.Step.Step}
 use Rattle.interpolator_prepared.specs.declared.step.Step.TheVariants as steps
 
 -- how many bytes some parts of a format have together

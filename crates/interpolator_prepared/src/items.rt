@@ -1,18 +1,14 @@
 //! Writes lists of a prepared format whose items are one value each, between texts.
 ghost use Rattle.std.specs.Prelude.{◌≡◌, ℕ, IsSome, Option, map, true};
 ghost use Rattle.interpolator_render.specs.declared.view.Trait.TheVariants.{Display};
-ghost use Rattle.interpolator_syntax.specs.Faults.{result_answer};
-ghost use Rattle.interpolator_syntax.specs.SpecTexts.{plain_spec};
-ghost use Rattle.interpolator_eval.specs.Escaping.{shows_by};
-ghost use Rattle.interpolator_eval.specs.Meaning.Environments.{environment};
+ghost use Rattle.interpolator_syntax.specs.{Faults.result_answer, SpecTexts.plain_spec};
 ghost use Rattle.interpolator_eval.specs.Meaning.Meanings.{items_mean, text_alone};
-ghost use Rattle.interpolator_eval.specs.Meaning.Outcomes.{Outcome};
-ghost use Rattle.interpolator_eval.specs.Meaning.Sinks.{write_answered};
 ghost use Rattle.interpolator_eval.specs.Slots.{Slots, slots_of};
-ghost use Rattle.interpolator_prepared.specs.Items.{items_within, value_under};
-ghost use Rattle.interpolator_prepared.specs.Rows.{name_bytes};
-ghost use Rattle.interpolator_prepared.specs.StoredSteps.{compiled_list, fitting_means};
-ghost use Rattle.interpolator_prepared.specs.StoredSteps.{joined_text};
+ghost use Rattle.interpolator_eval.specs.{Escaping.shows_by, Meaning.Environments.environment};
+ghost use Rattle.interpolator_eval.specs.{Meaning.Outcomes.Outcome, Meaning.Sinks.write_answered};
+ghost use Rattle.interpolator_prepared.specs.{Items.items_within, Items.value_under};
+ghost use Rattle.interpolator_prepared.specs.{Rows.name_bytes, StoredSteps.compiled_list};
+ghost use Rattle.interpolator_prepared.specs.{StoredSteps.fitting_means, StoredSteps.joined_text};
 
 use crate::joined::put_joined;
 use crate::row::{NamedRow, PreparedRow};

@@ -1,17 +1,14 @@
 //! Text of several parts of a format.
 ghost use Rattle.std.specs.Prelude.{◌≡◌, ◌+◌, ℕ, List, [], ◌∷◌, ◌++◌, IfOk, IsSome, Some, length};
 ghost use Rattle.std.specs.Prelude.{string_bytes};
-ghost use Rattle.std.specs.List.{All};
-ghost use Rattle.std.specs.Str.{chars};
+ghost use Rattle.std.specs.{List.All, Str.chars};
 ghost use Rattle.interpolator_syntax.specs.At.{Placed, placed_from};
-ghost use Rattle.interpolator_eval.specs.Meaning.Meanings.{text_alone};
-ghost use Rattle.interpolator_eval.specs.Meaning.Outcomes.{Outcome};
+ghost use Rattle.interpolator_eval.specs.{Meaning.Meanings.text_alone, Meaning.Outcomes.Outcome};
 ghost use Rattle.interpolator_eval.specs.Meaning.Sinks.{write_answered};
 ghost use Rattle.interpolator_prepared.specs.Programs.{text_step};
 ghost use Rattle.interpolator_prepared.specs.StoredSteps.{joined_place, joined_step, joined_text};
 ghost use Rattle.interpolator_prepared.specs.StoredSteps.{texts_placed};
-ghost use Rattle.interpolator_pieces.specs.Stored.{part};
-ghost use Rattle.interpolator_pieces.specs.StoredMeanings.{stored_part};
+ghost use Rattle.interpolator_pieces.specs.{Stored.part, StoredMeanings.stored_part};
 
 use crate::step::{JoinedText, Part};
 use interpolator_eval::WriteFault;

@@ -1,13 +1,12 @@
 //! Turns lists of a format into steps, if their items are one value each, between texts.
-ghost use Rattle.std.specs.Prelude.{◌≡◌, ◌+◌, ⊤, ℕ, List, IfOk, IsSome, MatchOption, Some};
-ghost use Rattle.std.specs.Prelude.{false, is_some, true};
+ghost use Rattle.std.specs.Prelude.{◌≡◌, ◌+◌, ⊤, ℕ, List, IfOk, IsSome, MatchOption, Some, false};
+ghost use Rattle.std.specs.Prelude.{is_some, true};
 ghost use Rattle.interpolator_syntax.specs.Nodes.{argument_content, as_forest, no_branch};
 ghost use Rattle.interpolator_syntax.specs.Nodes.{target_value};
 ghost use Rattle.interpolator_syntax.specs.declared.piece_kind.PieceKind.TheVariants.{Closed};
 ghost use Rattle.interpolator_prepared.specs.Items.{in_item, item_parts, join_parts, parts_by};
-ghost use Rattle.interpolator_prepared.specs.Programs.{whole_step};
 ghost use Rattle.interpolator_prepared.specs.SimpleLists.{IsItem, IsItems, IsJoin, IsSimple};
-ghost use Rattle.interpolator_prepared.specs.StoredSteps.{compiled_list};
+ghost use Rattle.interpolator_prepared.specs.{Programs.whole_step, StoredSteps.compiled_list};
 ghost use Rattle.interpolator_pieces.specs.Stored.{branch_of, content_of, detail_of, forest_whole};
 ghost use Rattle.interpolator_pieces.specs.Stored.{node_of, node_whole, nodes_of};
 ghost use Rattle.interpolator_pieces.specs.StoredMeanings.{stored_name};

@@ -1,19 +1,14 @@
 //! Formats that were prepared for rows of values: names are positions, and text is joined.
 ghost use Rattle.std.specs.Prelude.{◌≡◌, flat_map, length, map, IfErr, IfOk, Some};
 ghost use Rattle.std.specs.Str.{chars};
-ghost use Rattle.interpolator_syntax.specs.At.{outermost};
-ghost use Rattle.interpolator_syntax.specs.Faults.{answer_of, result_answer, no_memory};
-ghost use Rattle.interpolator_syntax.specs.Faults.{PlaceWithin};
-ghost use Rattle.interpolator_syntax.specs.Nodes.{nodes};
-ghost use Rattle.interpolator_eval.specs.Escaping.{shows_by};
-ghost use Rattle.interpolator_eval.specs.Meaning.Environments.{environment};
-ghost use Rattle.interpolator_eval.specs.Meaning.Meanings.{means};
+ghost use Rattle.interpolator_syntax.specs.{At.outermost, Faults.answer_of, Faults.result_answer};
+ghost use Rattle.interpolator_syntax.specs.{Faults.no_memory, Faults.PlaceWithin, Nodes.nodes};
 ghost use Rattle.interpolator_eval.specs.Meaning.Outcomes.{Outcome, Formats};
-ghost use Rattle.interpolator_prepared.specs.Programs.{program};
+ghost use Rattle.interpolator_eval.specs.{Escaping.shows_by, Meaning.Environments.environment};
+ghost use Rattle.interpolator_eval.specs.Meaning.Meanings.{means};
 ghost use Rattle.interpolator_prepared.specs.Rows.{cell_at, found_by_row, name_bytes, row_at};
-ghost use Rattle.interpolator_prepared.specs.StoredSteps.{steps_of};
-ghost use Rattle.interpolator_pieces.specs.Lines.{line_means};
-ghost use Rattle.interpolator_pieces.specs.Stored.{nodes_of};
+ghost use Rattle.interpolator_prepared.specs.{Programs.program, StoredSteps.steps_of};
+ghost use Rattle.interpolator_pieces.specs.{Lines.line_means, Stored.nodes_of};
 
 use crate::compile::compile;
 use crate::row::{Cells, NamedRow, PreparedRow, Row};

@@ -1,7 +1,6 @@
 //! Rows of values, in the order of names.
 ghost use Rattle.std.specs.Prelude.{◌≡◌, ⊤, ℕ, List, Option, IfOk, option_map, string_bytes, true};
-ghost use Rattle.std.specs.Option.{option_copied};
-ghost use Rattle.std.specs.Str.{bytes_eq, chars};
+ghost use Rattle.std.specs.{Option.option_copied, Str.bytes_eq, Str.chars};
 ghost use Rattle.interpolator_eval.specs.Slots.{Slots, slots_of};
 ghost use Rattle.interpolator_prepared.specs.Rows.{InOrder, cell_at, found_by_row, last_position};
 ghost use Rattle.interpolator_prepared.specs.Rows.{name_bytes, pair_names, row_at, slot_found};

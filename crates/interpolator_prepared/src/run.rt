@@ -2,15 +2,12 @@
 ghost use Rattle.std.specs.Prelude.{◌≡◌, ℕ, IsSome, Option, true};
 ghost use Rattle.std.specs.List.{All};
 ghost use Rattle.interpolator_syntax.specs.Faults.{result_answer};
-ghost use Rattle.interpolator_eval.specs.Escaping.{shows_by};
-ghost use Rattle.interpolator_eval.specs.Meaning.Environments.{environment};
-ghost use Rattle.interpolator_eval.specs.Meaning.Outcomes.{Outcome};
-ghost use Rattle.interpolator_eval.specs.Slots.{Slots};
+ghost use Rattle.interpolator_eval.specs.Meaning.{Environments.environment, Outcomes.Outcome};
+ghost use Rattle.interpolator_eval.specs.Meaning.{CodeEnvironments.environment_of, Sinks.Writes};
+ghost use Rattle.interpolator_eval.specs.{Escaping.shows_by, Slots.Slots};
 ghost use Rattle.interpolator_prepared.specs.Rows.{name_bytes};
 ghost use Rattle.interpolator_prepared.specs.StoredSteps.{Fit, fitting_means, steps_of};
 ghost use Rattle.interpolator_prepared.specs.StoredSteps.{stored_steps_mean, kept_step};
-ghost use Rattle.interpolator_eval.specs.Meaning.CodeEnvironments.{environment_of};
-ghost use Rattle.interpolator_eval.specs.Meaning.Sinks.{Writes};
 ghost use Rattle.interpolator_pieces.specs.Stored.{node_of, node_whole};
 ghost use Rattle.interpolator_pieces.specs.StoredMeanings.{stored_piece_means};
 

@@ -1,15 +1,12 @@
 //! Writes the steps of a prepared format with a row.
 ghost use Rattle.std.specs.Prelude.{◌≡◌, flat_map, length, map, Some};
 ghost use Rattle.std.specs.Str.{chars};
-ghost use Rattle.interpolator_syntax.specs.At.{outermost};
 ghost use Rattle.interpolator_syntax.specs.Faults.{result_answer, PlaceWithin};
-ghost use Rattle.interpolator_syntax.specs.Nodes.{nodes};
-ghost use Rattle.interpolator_eval.specs.Escaping.{shows_by};
-ghost use Rattle.interpolator_eval.specs.Meaning.Environments.{environment};
-ghost use Rattle.interpolator_eval.specs.Meaning.Meanings.{means};
+ghost use Rattle.interpolator_syntax.specs.{At.outermost, Nodes.nodes};
 ghost use Rattle.interpolator_eval.specs.Meaning.Outcomes.{Outcome, Formats};
-ghost use Rattle.interpolator_prepared.specs.Programs.{program};
-ghost use Rattle.interpolator_prepared.specs.Rows.{name_bytes};
+ghost use Rattle.interpolator_eval.specs.{Escaping.shows_by, Meaning.Environments.environment};
+ghost use Rattle.interpolator_eval.specs.Meaning.Meanings.{means};
+ghost use Rattle.interpolator_prepared.specs.{Programs.program, Rows.name_bytes};
 ghost use Rattle.interpolator_prepared.specs.StoredSteps.{steps_of};
 
 use crate::row::{NamedRow, PreparedRow};

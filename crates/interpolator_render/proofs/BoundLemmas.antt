@@ -1,15 +1,13 @@
 -- What a bounded writer took of a text, and why it refused the rest.
-use Rattle.std.proofs.Common.{◌≡◌, ◌⊎◌, inl, inr, ℕ, ◌+◌, ◌<◌, ◌≤◌, Bool, true, false}
-use Rattle.std.proofs.Common.{List, [], ◌∷◌, ◌++◌, length, take, drop, refl, sym, ◌∙◌, ap, arith, append-nil}
+use Rattle.std.proofs.Common.{◌≡◌, ◌⊎◌, inl, inr, ℕ, ◌+◌, ◌<◌, ◌≤◌, Bool, true, false, List, []}
+use Rattle.std.proofs.Common.{◌∷◌, ◌++◌, length, take, drop, refl, sym, ◌∙◌, ap, arith, append-nil}
 use Rattle.std.proofs.Common.{length-append, length-drop, length-take-le, take-append-drop}
-use Rattle.std.proofs.Common.{lt_of_not-le, encode_utf8_all}
-use Rattle.std.proofs.Common.{chars, IsUtf8, IsCharBoundary}
+use Rattle.std.proofs.Common.{lt_of_not-le, encode_utf8_all, chars, IsUtf8, IsCharBoundary}
 use Rattle.std.proofs.lemmas.Str.{encodes-chars, chars-append, chars-nil, IsUtf8-append}
-use Rattle.std.proofs.lemmas.Str.{IsUtf8-take, IsUtf8-drop, IsCharBoundary-past_char}
-use Rattle.std.proofs.lemmas.Str.{length-encode, len_utf8_bounds}
+use Rattle.std.proofs.lemmas.Str.{IsUtf8-take, IsUtf8-drop, IsCharBoundary-past_char, length-encode}
+use Rattle.std.proofs.lemmas.Str.{len_utf8_bounds}
 use Rattle.interpolator_render.specs.Written.{Written, Refuses, GoesOver, byte_count, first_size}
-use Rattle.interpolator_render.specs.Bounds.{BoundedText, IsReady, bounded}
-use Rattle.interpolator_render.specs.Bounds.{RefusesFor}
+use Rattle.interpolator_render.specs.Bounds.{BoundedText, IsReady, bounded, RefusesFor}
 use Rattle.interpolator_render.proofs.WrittenLemmas.{chars_nonempty}
 
 -- a writer that had refused before, or whose text would go over its bound

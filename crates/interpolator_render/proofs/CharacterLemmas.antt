@@ -1,12 +1,11 @@
 -- Texts walked character by character: where a number of characters ends.
-use Rattle.std.proofs.lemmas.Grind.{common_steps}
-use Rattle.std.proofs.Common.{◌≡◌, ℕ, ◌-◌, ◌+◌, List, ◌++◌, length, take}
-use Rattle.std.proofs.Common.{◌∙◌, ap, arith, append_assoc, append-nil, length-append}
-use Rattle.std.proofs.Common.{encode_utf8, chars, IsUtf8, IsCharBoundary}
-use Rattle.std.specs.Char.{IsScalar}
+use Rattle.std.proofs.Common.{◌≡◌, ℕ, ◌-◌, ◌+◌, List, ◌++◌, length, take, ◌∙◌, ap, arith}
+use Rattle.std.proofs.Common.{append_assoc, append-nil, length-append, encode_utf8, chars, IsUtf8}
+use Rattle.std.proofs.Common.{IsCharBoundary}
 use Rattle.std.proofs.lemmas.Str.{chars-append, chars-nil, IsUtf8-append, IsUtf8-encode}
 use Rattle.std.proofs.lemmas.Str.{IsCharBoundary-at_seam, cons_from_encodes, IsUtf8-past_char}
-use Rattle.std.proofs.Math.Seq.{take-append_seam}
+use Rattle.std.proofs.{lemmas.Grind.common_steps, Math.Seq.take-append_seam}
+use Rattle.std.specs.Char.{IsScalar}
 use Rattle.interpolator_render.proofs.WrittenLemmas.{chars-encode}
 
 pub scalar_first : (rest after : List ℕ) (c : ℕ) → IsUtf8 rest → rest ≡ encode_utf8 c ++ after →

@@ -1,16 +1,14 @@
 -- Runs of copies of a character, and what is written of them.
 use Rattle.std.proofs.Common.{◌≡◌, ℕ, zero, suc, ◌≤◌, ◌-◌, ◌+◌, ◌*◌, ◌^◌, min, ◌++◌, refl, arith}
-use Rattle.std.proofs.Common.{replicate, IsUtf8, chars, encode_utf8_all, slice_range}
-use Rattle.std.proofs.Common.{◌<◌, List, length, take, drop, append_assoc}
-use Rattle.std.specs.Str.{IsCharBoundary}
-use Rattle.std.specs.Char.{IsScalar, len_utf8}
+use Rattle.std.proofs.Common.{replicate, IsUtf8, chars, encode_utf8_all, slice_range, ◌<◌, List}
+use Rattle.std.proofs.Common.{length, take, drop, append_assoc}
 use Rattle.std.proofs.lemmas.Str.{IsCharBoundary-at_seam, encodes-append, chars_from_encodes}
 use Rattle.std.proofs.lemmas.Str.{IsUtf8-append, IsUtf8-encode, IsUtf8-nil, len_utf8_bounds}
 use Rattle.std.proofs.lemmas.Str.{IsUtf8-from_ascii, chars-append, chars-IsAscii}
-use Rattle.std.proofs.Math.Seq.{take-append-add}
 use Rattle.std.proofs.lemmas.List.{length-replicate, take-replicate, drop-replicate}
 use Rattle.std.proofs.lemmas.List.{replicate-append-replicate, take_at}
-use Rattle.std.proofs.lemmas.Nat.{mul-le}
+use Rattle.std.proofs.{Math.Seq.take-append-add, lemmas.Nat.mul-le}
+use Rattle.std.specs.{Str.IsCharBoundary, Char.IsScalar, Char.len_utf8}
 use Rattle.interpolator_render.specs.Padding.{between_fill}
 use Rattle.interpolator_render.specs.Written.{Written, byte_count, Appends, RefusesLong}
 use Rattle.interpolator_render.proofs.LayoutLemmas.{bytes_of_copies, refuses_in_first}

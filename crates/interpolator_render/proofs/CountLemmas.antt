@@ -1,22 +1,17 @@
 -- How many digits a number has in exponent form, and between which powers it lies.
-use Rattle.std.proofs.lemmas.Grind.{common_steps}
-use Rattle.std.proofs.Common.{◌≡◌, ℕ, ◌<◌, ◌≤◌, ◌-◌, ◌+◌, ◌*◌, ◌^◌, false, List, length}
-use Rattle.std.proofs.Common.{replicate, ◌++◌, zero, refl, arith}
-use Rattle.std.proofs.Common.{length-append, suc, Some, pow-add, pow-suc}
+use Rattle.std.proofs.Common.{◌≡◌, ℕ, ◌<◌, ◌≤◌, ◌-◌, ◌+◌, ◌*◌, ◌^◌, false, List, length, replicate}
+use Rattle.std.proofs.Common.{◌++◌, zero, refl, arith, length-append, suc, Some, pow-add, pow-suc}
 use Rattle.std.proofs.Common.{eq-zero-or-pos, lt_of_mul-lt-mul_right}
-use Rattle.std.proofs.lemmas.Bool.{cases_eq, cases_lt}
-use Rattle.std.proofs.lemmas.List.{length-replicate}
-use Rattle.std.proofs.Math.Nat.{pow-le-pow_right}
-use Rattle.interpolator_digits.specs.Digits.{digit_text}
-use Rattle.interpolator_digits.specs.Exponent.{exponent_of, nearest, rounding, scientific, IsNearest}
+use Rattle.std.proofs.{lemmas.Grind.common_steps, lemmas.Bool.cases_eq, lemmas.Bool.cases_lt}
+use Rattle.std.proofs.{lemmas.List.length-replicate, Math.Nat.pow-le-pow_right}
+use Rattle.interpolator_digits.specs.{Digits.digit_text, Exponent.exponent_of, Exponent.nearest}
+use Rattle.interpolator_digits.specs.{Exponent.rounding, Exponent.scientific, Exponent.IsNearest}
 use Rattle.interpolator_digits.proofs.DigitLemmas.{digit_text_some, digit_text_zero}
 use Rattle.interpolator_digits.proofs.DigitLemmas.{length-digit_text-le}
 use Rattle.interpolator_digits.proofs.ExponentLemmas.{pow_some, scientific_short, scientific_long}
-use Rattle.interpolator_digits.proofs.ExponentLemmas.{scientific_placed}
+use Rattle.interpolator_digits.proofs.ExponentLemmas.{scientific_placed, exponent_bounds_of}
 use Rattle.std.specs.Str.Parse.{digits_value}
-use Rattle.interpolator_digits.proofs.ExponentLemmas.{exponent_bounds_of}
-use Rattle.interpolator_render.proofs.LawLemmas.{nearest_is_nearest}
-use Rattle.interpolator_render.proofs.LawLemmas.{digits_read}
+use Rattle.interpolator_render.proofs.LawLemmas.{nearest_is_nearest, digits_read}
 
 -- a number between two powers of ten has one digit more than the lower says
 pub digits_between : (n places : ℕ) → 10 ^ places ≤ n → n < 10 ^ (places + 1) →

@@ -1,11 +1,10 @@
 -- What the text of a decimal in exponent form denotes.
-use Rattle.std.proofs.Common.{◌≡◌, ℕ, ◌<◌, ◌≤◌, ◌-◌, ◌+◌, ◌*◌, ◌^◌, false, true, List, []}
-use Rattle.std.proofs.Common.{◌∷◌, ◌++◌, length, refl, arith, nat_lt, None, Some, Option, Bool}
-use Rattle.std.proofs.Common.{zero, suc, replicate, sym, subst, ap, pow-add, length-append}
+use Rattle.std.proofs.Common.{◌≡◌, ℕ, ◌<◌, ◌≤◌, ◌-◌, ◌+◌, ◌*◌, ◌^◌, false, true, List, [], ◌∷◌}
+use Rattle.std.proofs.Common.{◌++◌, length, refl, arith, nat_lt, None, Some, Option, Bool, zero}
+use Rattle.std.proofs.Common.{suc, replicate, sym, subst, ap, pow-add, length-append, inl, inr}
+use Rattle.std.proofs.Common.{if◌then◌else◌}
+use Rattle.std.proofs.{lemmas.Bool.cases_eq, lemmas.Bool.cases_lt, lemmas.List.length-replicate}
 use Rattle.std.specs.Str.Parse.{AllDigits, IsNumeral, digits_value}
-use Rattle.std.proofs.Common.{inl, inr, if◌then◌else◌}
-use Rattle.std.proofs.lemmas.Bool.{cases_eq, cases_lt}
-use Rattle.std.proofs.lemmas.List.{length-replicate}
 use Rattle.interpolator_digits.specs.Decimals.{DenotesUnits, after_point, decimal_exponent_text}
 use Rattle.interpolator_digits.specs.Decimals.{rounded_units, scale_of, scaled_tail}
 use Rattle.interpolator_digits.specs.Digits.{digit_text}
@@ -15,11 +14,10 @@ use Rattle.interpolator_render.proofs.CountLemmas.{scientific_count, scientific_
 use Rattle.interpolator_render.proofs.CountLemmas.{scientific_whole}
 use Rattle.interpolator_render.proofs.DecimalLawLemmas.{digits_are, numeral, value_both}
 use Rattle.interpolator_render.proofs.DecimalLawLemmas.{zeros_before}
-use Rattle.interpolator_digits.proofs.DigitLemmas.{digit_text_some}
-use Rattle.interpolator_digits.proofs.ExponentLemmas.{pow_some, scientific_long}
-use Rattle.interpolator_digits.proofs.ExponentLemmas.{scientific_plain, scientific_short}
 use Rattle.interpolator_render.proofs.LawLemmas.{digits_read, trimmed_tail}
-use Rattle.interpolator_digits.proofs.ExponentLemmas.{exponent_of_zero}
+use Rattle.interpolator_digits.proofs.DigitLemmas.{digit_text_some}
+use Rattle.interpolator_digits.proofs.ExponentLemmas.{pow_some, scientific_long, scientific_plain}
+use Rattle.interpolator_digits.proofs.ExponentLemmas.{scientific_short, exponent_of_zero}
 
 -- ---- powers of ten
 
@@ -225,10 +223,6 @@ value_digits (Some places) n = elim (cases_lt places (exponent_of n)) [
 ]
 
 -- ---- the law
-
-zero_exponent : (precision : Option ℕ) → (scientific precision 0).exponent ≡ 0
-zero_exponent None = grind (arith, scientific_plain 0, exponent_of_zero)
-zero_exponent (Some places) = grind (arith, scientific_whole places 0, exponent_of_zero)
 
 zero_rounded : (precision : Option ℕ) → rounded_units precision 0 ≡ 0
 zero_rounded None = refl

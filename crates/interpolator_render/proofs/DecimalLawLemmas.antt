@@ -1,24 +1,21 @@
 -- What the text of a decimal spells, and how far it is from the decimal.
-use Rattle.std.proofs.Common.{◌≡◌, ℕ, ◌<◌, ◌≤◌, ◌-◌, ◌+◌, ◌*◌, ◌/◌, ◌%◌, ◌^◌, false, List, []}
-use Rattle.std.proofs.Common.{◌∷◌, ◌++◌, length, refl, arith, pow-suc, nat_lt, None}
-use Rattle.std.proofs.Common.{Some, Option, append-nil, Bool, zero, suc, map, replicate, sym, subst}
-use Rattle.std.proofs.Common.{⊎_elim, eq-zero-or-pos}
-use Rattle.std.specs.Char.{digit_value}
-use Rattle.std.specs.Fmt.{digit_glyph}
+use Rattle.std.proofs.Common.{◌≡◌, ℕ, ◌<◌, ◌≤◌, ◌-◌, ◌+◌, ◌*◌, ◌/◌, ◌%◌, ◌^◌, false, List, [], ◌∷◌}
+use Rattle.std.proofs.Common.{◌++◌, length, refl, arith, pow-suc, nat_lt, None, Some, Option}
+use Rattle.std.proofs.Common.{append-nil, Bool, zero, suc, map, replicate, sym, subst, ⊎_elim}
+use Rattle.std.proofs.Common.{eq-zero-or-pos}
+use Rattle.std.proofs.{lemmas.Bool.Decides.nat_tests, lemmas.Int.Digits.all_below_base_digits_of}
 use Rattle.std.specs.Int.Digits.{AllBelowBase, digits_of}
 use Rattle.std.specs.Str.Parse.{AllDigits, IsNumeral, digits_value, digits_value_after}
-use Rattle.std.proofs.lemmas.Bool.Decides.{nat_tests}
-use Rattle.std.proofs.lemmas.Int.Digits.{all_below_base_digits_of}
+use Rattle.std.specs.{Char.digit_value, Fmt.digit_glyph}
 use Rattle.interpolator_digits.specs.Decimals.{SpellsUnits, decimal_exponent_text, decimal_text}
 use Rattle.interpolator_digits.specs.Decimals.{placed, units_at, units_text}
-use Rattle.interpolator_digits.specs.Digits.{digit_text}
-use Rattle.interpolator_digits.specs.Exponent.{IsNearest, exponent_text}
+use Rattle.interpolator_digits.specs.{Digits.digit_text, Exponent.IsNearest, Exponent.exponent_text}
 use Rattle.interpolator_render.proofs.CountLemmas.{value_of_zeros}
+use Rattle.interpolator_render.proofs.LawLemmas.{digits_read, nearest_is_nearest}
 use Rattle.interpolator_digits.proofs.DecimalLemmas.{length-placed, placed_none, placed_some}
 use Rattle.interpolator_digits.proofs.DecimalLemmas.{remainder_fits}
 use Rattle.interpolator_digits.proofs.DigitLemmas.{digit_text_map, digit_text_some, digit_text_zero}
 use Rattle.interpolator_digits.proofs.ExponentLemmas.{pow_some}
-use Rattle.interpolator_render.proofs.LawLemmas.{digits_read, nearest_is_nearest}
 
 -- ---- texts of digits
 

@@ -1,30 +1,26 @@
 -- Decimals in a row or in parts: the digits after the point, the point, and the digits before it.
-use Rattle.interpolator_render.proofs.ExponentRowLemmas.{digits_before}
-use Rattle.std.proofs.lemmas.Grind.{common_steps}
+use Rattle.interpolator_render.proofs.ExponentRowLemmas.{digits_before, small_glyph, decimal_digits}
+use Rattle.interpolator_render.proofs.ExponentRowLemmas.{digits_row, two_digits}
+use Rattle.interpolator_render.proofs.{DigitBufferLemmas.grown_twice, NumberLemmas.number_parts}
 use Rattle.std.proofs.Common.{eq-zero-or-pos, length-append, if◌then◌else◌, append_assoc, replicate}
 use Rattle.std.proofs.Common.{append-nil, unwrap_or, length, nat_lt, Option, false, arith, codes, ℕ}
-use Rattle.std.proofs.Common.{zero, suc, drop, ap, ◌∙◌, ◌*◌, ◌/◌, ◌%◌, pow-suc, inl, inr}
-use Rattle.std.proofs.Math.Nat.{pow-le-pow_right}
+use Rattle.std.proofs.Common.{zero, suc, drop, ap, ◌∙◌, ◌*◌, ◌/◌, ◌%◌, pow-suc, inl, inr, Bool}
+use Rattle.std.proofs.Common.{List, ◌++◌, ◌==◌, ◌≡◌, ◌<◌, ◌≤◌, ◌-◌, ◌+◌, ◌^◌, min, ◌∷◌, []}
+use Rattle.std.proofs.lemmas.List.{length-replicate, replicate-append-replicate}
+use Rattle.std.proofs.{lemmas.Grind.common_steps, Math.Nat.pow-le-pow_right, lemmas.Bool.cases_lt}
 use Rattle.std.specs.Fmt.{digit_glyph}
 use Rattle.interpolator_digits.proofs.DigitLemmas.{digit_text_one, digit_text_step, digit_text_zero}
+use Rattle.interpolator_digits.proofs.DigitLemmas.{length-digit_text-le}
 use Rattle.interpolator_digits.proofs.ExponentLemmas.{pow_some}
-use Rattle.interpolator_render.proofs.ExponentRowLemmas.{small_glyph}
-use Rattle.std.proofs.Common.{Bool, List, ◌++◌, ◌==◌, ◌≡◌, ◌<◌, ◌≤◌, ◌-◌, ◌+◌, ◌^◌, min, ◌∷◌, []}
-use Rattle.std.proofs.lemmas.Bool.{cases_lt}
-use Rattle.std.proofs.lemmas.List.{length-replicate, replicate-append-replicate}
+use Rattle.interpolator_digits.proofs.DecimalLemmas.{length-placed, placed_none, placed_some}
 use Rattle.interpolator_render.specs.declared.view.Spec.{Spec}
+use Rattle.interpolator_render.specs.DigitBuffers.{Buffered, put_before}
+use Rattle.interpolator_render.specs.Padding.{IsNumberLayout, IsNumberRow, fill_of, row_fill}
+use Rattle.interpolator_render.specs.Padding.{padded_number}
 use Rattle.interpolator_digits.specs.Decimals.{placed, after_point, split_text, scaled_tail}
 use Rattle.interpolator_digits.specs.Decimals.{decimal_exponent_text, scale_of, shown_scaled}
 use Rattle.interpolator_digits.specs.Digits.{digit_text}
-use Rattle.interpolator_render.specs.DigitBuffers.{Buffered, put_before}
 use Rattle.interpolator_digits.specs.Exponent.{exponent_tail, mark, scientific}
-use Rattle.interpolator_render.specs.Padding.{IsNumberLayout, IsNumberRow, fill_of, row_fill}
-use Rattle.interpolator_render.specs.Padding.{padded_number}
-use Rattle.interpolator_digits.proofs.DecimalLemmas.{length-placed, placed_none, placed_some}
-use Rattle.interpolator_render.proofs.DigitBufferLemmas.{grown_twice}
-use Rattle.interpolator_digits.proofs.DigitLemmas.{length-digit_text-le}
-use Rattle.interpolator_render.proofs.ExponentRowLemmas.{decimal_digits, digits_row, two_digits}
-use Rattle.interpolator_render.proofs.NumberLemmas.{number_parts}
 
 -- ---- with a one before them
 

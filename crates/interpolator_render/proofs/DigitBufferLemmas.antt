@@ -1,20 +1,19 @@
 -- A row that grows at its front or at its end.
 use Rattle.std.proofs.Common.{append_assoc, ◌≡◌, ℕ, Bool, ◌<◌, ◌≤◌, ◌-◌, ◌+◌, ◌^◌, List, [], ◌∷◌}
-use Rattle.std.proofs.Common.{◌++◌, length, take, drop, set, replicate}
-use Rattle.std.proofs.Common.{arith, length-append, drop-drop, take-take, take-append-drop}
-use Rattle.std.proofs.Common.{length-take-le, unwrap_or, IsAscii, take-add, false}
+use Rattle.std.proofs.Common.{◌++◌, length, take, drop, set, replicate, arith, length-append}
+use Rattle.std.proofs.Common.{drop-drop, take-take, take-append-drop, length-take-le, unwrap_or}
+use Rattle.std.proofs.Common.{IsAscii, take-add, false}
 use Rattle.std.proofs.lemmas.List.{length-replicate, take-replicate, drop-replicate, drop-append-le}
 use Rattle.std.proofs.lemmas.List.{drop-set}
 use Rattle.std.proofs.lemmas.Str.{IsAscii-take, IsAscii-drop, IsAscii-append}
-use Rattle.std.proofs.Math.Seq.{take-append-add, drop-append-add}
-use Rattle.std.proofs.Math.Nat.{pow-le-pow_left}
-use Rattle.interpolator_render.specs.declared.number_form.Radix.{Radix}
-use Rattle.interpolator_render.specs.declared.view.Spec.{Spec}
-use Rattle.interpolator_digits.specs.Digits.{digit_text}
+use Rattle.std.proofs.{Math.Seq.take-append-add, Math.Seq.drop-append-add, Math.Nat.pow-le-pow_left}
 use Rattle.interpolator_render.specs.Numbers.{base_of, is_upper}
 use Rattle.interpolator_render.specs.Padding.{IsNumberRow, row_fill}
+use Rattle.interpolator_render.specs.DigitBuffers.{Buffered, IsBuffered, buffer_row, put_before}
+use Rattle.interpolator_render.specs.DigitBuffers.{put_after}
+use Rattle.interpolator_render.specs.{declared.number_form.Radix.Radix, declared.view.Spec.Spec}
+use Rattle.interpolator_digits.specs.Digits.{digit_text}
 use Rattle.interpolator_digits.proofs.DigitLemmas.{length-digit_text-le}
-use Rattle.interpolator_render.specs.DigitBuffers.{Buffered, IsBuffered, buffer_row, put_before, put_after}
 use Rattle.interpolator_render.proofs.LayoutLemmas.{IsAscii-replicate}
 
 -- a piece is in front of the text, and nothing else has changed

@@ -1,15 +1,14 @@
 -- Exponent form in a row: digits with their point, zeros, and the exponent after its mark.
-use Rattle.std.proofs.Common.{◌≡◌, ℕ, ◌<◌, ◌≤◌, ◌+◌, ◌^◌, false, Bool, List, [], ◌∷◌, ◌++◌}
-use Rattle.std.proofs.Common.{length, drop, replicate, refl, ap, arith, append-nil}
-use Rattle.std.proofs.Common.{append_assoc, length-append, Option, unwrap_or}
+use Rattle.std.proofs.Common.{◌≡◌, ℕ, ◌<◌, ◌≤◌, ◌+◌, ◌^◌, false, Bool, List, [], ◌∷◌, ◌++◌, length}
+use Rattle.std.proofs.Common.{drop, replicate, refl, ap, arith, append-nil, append_assoc}
+use Rattle.std.proofs.Common.{length-append, Option, unwrap_or}
+use Rattle.std.proofs.{lemmas.Bool.Decides.nat_tests, lemmas.List.length-replicate}
 use Rattle.std.specs.Fmt.{digit_glyph}
-use Rattle.std.proofs.lemmas.Bool.Decides.{nat_tests}
-use Rattle.std.proofs.lemmas.List.{length-replicate}
 use Rattle.interpolator_digits.specs.Digits.{digit_text}
-use Rattle.interpolator_render.specs.declared.view.Spec.{Spec}
-use Rattle.interpolator_render.specs.Padding.{IsNumberRow, row_fill}
 use Rattle.interpolator_digits.specs.Exponent.{exponent_tail, exponent_text, leading, with_point}
 use Rattle.interpolator_digits.specs.Exponent.{scientific, shown_text}
+use Rattle.interpolator_render.specs.declared.view.Spec.{Spec}
+use Rattle.interpolator_render.specs.Padding.{IsNumberRow, row_fill}
 use Rattle.interpolator_render.specs.DigitBuffers.{Buffered, put_before}
 use Rattle.interpolator_digits.proofs.DigitLemmas.{digit_count_step, length-digit_text-le}
 use Rattle.interpolator_digits.proofs.DigitLemmas.{digit_text_some, low_count, one_count}

@@ -1,27 +1,20 @@
 -- Floats in parts: digits with zeros after them, digits around a point, and exponent forms.
-use Rattle.std.proofs.Common.{◌≡◌, ℕ, zero, suc, ◌<◌, ◌≤◌, ◌-◌, ◌+◌, ◌*◌, ◌^◌, min, false, List, [], ◌∷◌}
-use Rattle.std.proofs.Common.{◌++◌, length, take, drop, replicate, if◌then◌else◌, ◌==◌, arith}
-use Rattle.std.proofs.Common.{append_assoc, append-nil, eq-zero-or-pos, inl, inr, None}
-use Rattle.std.proofs.Common.{Bool, ap, sym, refl, ◌∙◌, length-append}
-use Rattle.std.proofs.lemmas.List.{length-replicate}
-use Rattle.std.proofs.lemmas.Bool.Decides.{nat_tests}
+use Rattle.std.proofs.Common.{◌≡◌, ℕ, zero, suc, ◌<◌, ◌≤◌, ◌-◌, ◌+◌, ◌*◌, ◌^◌, min, false, List, []}
+use Rattle.std.proofs.Common.{◌∷◌, ◌++◌, length, take, drop, replicate, if◌then◌else◌, ◌==◌, arith}
+use Rattle.std.proofs.Common.{append_assoc, append-nil, eq-zero-or-pos, inl, inr, None, Bool, ap}
+use Rattle.std.proofs.Common.{sym, refl, ◌∙◌, length-append}
+use Rattle.std.proofs.{lemmas.List.length-replicate, lemmas.Bool.Decides.nat_tests}
 use Rattle.std.proofs.Math.Nat.{mul-le-mul_right}
-use Rattle.interpolator_digits.specs.Decimals.{decimal_text}
-use Rattle.interpolator_digits.specs.Digits.{digit_text}
 use Rattle.interpolator_digits.specs.Exponent.{exponent_of, with_point}
+use Rattle.interpolator_digits.specs.{Decimals.decimal_text, Digits.digit_text}
 use Rattle.interpolator_digits.proofs.DigitLemmas.{length-digit_text-le}
 use Rattle.interpolator_digits.proofs.ExponentLemmas.{exponent_bounds_of, pow_some}
-use Rattle.interpolator_floats.specs.LastDigits.{pointed_text}
-use Rattle.interpolator_floats.specs.ShortestDigits.{IsTrimmed}
-use Rattle.interpolator_floats.proofs.FormLemmas.{pow_less}
-use Rattle.interpolator_floats.proofs.PlainLemmas.{whole_plain}
-use Rattle.interpolator_render.specs.declared.view.Sign.TheVariants.{Unset}
-use Rattle.interpolator_render.specs.declared.view.Spec.{Spec}
-use Rattle.interpolator_render.specs.Forms.{is_far}
-use Rattle.interpolator_render.specs.Numbers.{sign_text}
+use Rattle.interpolator_floats.specs.{LastDigits.pointed_text, ShortestDigits.IsTrimmed}
+use Rattle.interpolator_floats.proofs.{FormLemmas.pow_less, PlainLemmas.whole_plain}
 use Rattle.interpolator_render.specs.Padding.{padded_number, unset_spec}
-use Rattle.interpolator_render.proofs.DigitBufferLemmas.{grown_twice}
-use Rattle.interpolator_render.proofs.ExponentRowLemmas.{grown_alone}
+use Rattle.interpolator_render.specs.{declared.view.Sign.TheVariants.Unset, declared.view.Spec.Spec}
+use Rattle.interpolator_render.specs.{Forms.is_far, Numbers.sign_text}
+use Rattle.interpolator_render.proofs.{DigitBufferLemmas.grown_twice, ExponentRowLemmas.grown_alone}
 use Rattle.interpolator_render.proofs.NumberLemmas.{bare_body}
 
 -- ---- digits with zeros after them

@@ -1,20 +1,18 @@
 -- Floats under a trait and a spec: the sign, the word, and the digits.
-use Rattle.std.proofs.Common.{◌≡◌, ℕ, Bool, true, false, [], refl, arith, None, Some, rules}
-use Rattle.std.proofs.Common.{◌++◌, ap, sym, ◌∙◌}
+use Rattle.std.proofs.Common.{◌≡◌, ℕ, Bool, true, false, [], refl, arith, None, Some, rules, ◌++◌}
+use Rattle.std.proofs.Common.{ap, sym, ◌∙◌}
 use Rattle.std.specs.Float.{Float, Format, nan, inf, fin, float_is_finite, binary64}
 use lib.Ieee.{is_nan}
 use Rattle.interpolator_floats.specs.declared.shortest.Shortest.{Shortest}
 use Rattle.interpolator_floats.specs.Floats.{float_scale, float_units, float_word, has_minus}
 use Rattle.interpolator_floats.specs.ShortestDigits.{shortest, shortest_text}
-use Rattle.interpolator_render.specs.declared.view.Sign.{Sign}
-use Rattle.interpolator_render.specs.declared.view.Spec.{Spec}
-use Rattle.interpolator_render.specs.declared.view.Sign.TheVariants.{Unset}
-use Rattle.interpolator_render.specs.declared.view.Trait.{Trait}
-use Rattle.interpolator_render.specs.declared.view.Trait.TheVariants.{Display}
-use Rattle.interpolator_render.specs.Forms.{decimal_body, float_body, float_front, short_body, worded}
-use Rattle.interpolator_render.specs.Numbers.{IsShortAscii, sign_text}
-use Rattle.interpolator_render.specs.Padding.{unset_spec}
+use Rattle.interpolator_render.specs.Forms.{decimal_body, float_body, float_front, short_body}
+use Rattle.interpolator_render.specs.Forms.{worded}
 use Rattle.interpolator_render.specs.Texts.{has_text, padded_decimal, padded_float}
+use Rattle.interpolator_render.specs.declared.{view.Sign.Sign, view.Spec.Spec}
+use Rattle.interpolator_render.specs.declared.{view.Sign.TheVariants.Unset, view.Trait.Trait}
+use Rattle.interpolator_render.specs.declared.view.Trait.TheVariants.{Display}
+use Rattle.interpolator_render.specs.{Numbers.IsShortAscii, Numbers.sign_text, Padding.unset_spec}
 use Rattle.interpolator_render.proofs.NumberLemmas.{bare_body}
 
 -- ---- sign and word

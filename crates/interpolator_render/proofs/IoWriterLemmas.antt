@@ -1,17 +1,14 @@
 -- What a writer of bytes has got of a text.
-use Rattle.std.proofs.Common.{arith, ◌≡◌, ℕ, Bool, true, false, ◌||◌, List, [], ◌∷◌, ◌++◌, length, refl, sym}
-use Rattle.std.proofs.Common.{◌∙◌, take, drop, take_all, take-append-drop, append_assoc, append-nil}
-use Rattle.std.proofs.Common.{length-append, Option, Some, None, Result, Ok, Err, OnOk, string_bytes}
-use Rattle.std.proofs.Common.{MatchResult, ap}
-use Rattle.std.proofs.Common.{encode_utf8_all, chars, IsUtf8}
+use Rattle.std.proofs.Common.{arith, ◌≡◌, ℕ, Bool, true, false, ◌||◌, List, [], ◌∷◌, ◌++◌, length}
+use Rattle.std.proofs.Common.{refl, sym, ◌∙◌, take, drop, take_all, take-append-drop, append_assoc}
+use Rattle.std.proofs.Common.{append-nil, length-append, Option, Some, None, Result, Ok, Err, OnOk}
+use Rattle.std.proofs.Common.{string_bytes, MatchResult, ap, encode_utf8_all, chars, IsUtf8}
 use Rattle.std.proofs.lemmas.Str.{encodes-append, encodes-chars, IsUtf8-string_bytes}
 use Rattle.std.proofs.Math.Seq.{take-append-add}
-use Rattle.std.specs.Io.KnownBytes.{Appends, Keeps}
-use Rattle.std.specs.declared.io.Error.{Error}
+use Rattle.std.specs.{Io.KnownBytes.Appends, Io.KnownBytes.Keeps, declared.io.Error.Error}
 use Rattle.interpolator_render.specs.PassedOn.{Gets, GetsFront}
 use Rattle.interpolator_render.specs.IoWriters.{HandsOn, refuses}
-use Rattle.interpolator_render.specs.declared.below.Below.{Below}
-use Rattle.interpolator_render.specs.declared.text_write.Refusal.{Refusal}
+use Rattle.interpolator_render.specs.declared.{below.Below.Below, text_write.Refusal.Refusal}
 use Rattle.interpolator_render.specs.declared.io_writer.IoWriter.{IoWriter}
 
 -- bytes that grow by some and then by more

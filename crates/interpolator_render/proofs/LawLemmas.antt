@@ -1,29 +1,21 @@
 -- The laws.
-use Rattle.std.proofs.lemmas.Grind.{common_steps}
 use Rattle.std.proofs.Common.{◌≡◌, ◌≢◌, ℕ, suc, ◌<◌, ◌≤◌, ◌-◌, ◌+◌, ◌*◌, ◌/◌, ◌^◌, max, ℤ, pos}
-use Rattle.std.proofs.Common.{negsuc, ◌+ℤ◌, ◌*ℤ◌, Bool, List, [], ◌∷◌, ◌++◌, length}
-use Rattle.std.proofs.Common.{map, get_or, replicate, refl, ap, arith, length-append}
-use Rattle.std.proofs.Common.{if◌then◌else◌, ◌==◌, ◌&&◌, inl, inr, unwrap_or, None, pow_pos}
-use Rattle.std.proofs.Common.{mul-le-mul_right, eq-zero-or-pos}
-use Rattle.std.specs.Fmt.{digit_glyph}
-use Rattle.std.specs.Int.Digits.{AllBelowBase}
-use Rattle.std.specs.Char.{digit_value}
-use Rattle.std.specs.Str.Parse.{digits_value}
-use Rattle.std.proofs.lemmas.Bool.{cases_lt, cases_order}
-use Rattle.std.proofs.lemmas.Bool.Decides.{nat_tests}
-use Rattle.std.proofs.lemmas.Int.{ints}
+use Rattle.std.proofs.Common.{negsuc, ◌+ℤ◌, ◌*ℤ◌, Bool, List, [], ◌∷◌, ◌++◌, length, map, get_or}
+use Rattle.std.proofs.Common.{replicate, refl, ap, arith, length-append, if◌then◌else◌, ◌==◌, ◌&&◌}
+use Rattle.std.proofs.Common.{inl, inr, unwrap_or, None, pow_pos, mul-le-mul_right, eq-zero-or-pos}
 use Rattle.std.proofs.lemmas.Int.Digits.{digits_value_is, number_digits_of}
 use Rattle.std.proofs.lemmas.Int.Digits.{all_below_base_digits_of, first_digits_of}
-use Rattle.std.proofs.lemmas.List.{length-replicate}
-use Rattle.interpolator_render.specs.declared.view.Bits.{Bits}
-use Rattle.interpolator_render.specs.declared.view.Spec.{Spec}
+use Rattle.std.proofs.{lemmas.Grind.common_steps, lemmas.Bool.cases_lt, lemmas.Bool.cases_order}
+use Rattle.std.proofs.{lemmas.Bool.Decides.nat_tests, lemmas.Int.ints, lemmas.List.length-replicate}
+use Rattle.std.specs.{Fmt.digit_glyph, Int.Digits.AllBelowBase, Char.digit_value}
+use Rattle.std.specs.Str.Parse.{digits_value}
+use Rattle.interpolator_render.specs.Padding.{padded_number, padded_text, displayed_text}
+use Rattle.interpolator_render.specs.{declared.view.Bits.Bits, declared.view.Spec.Spec}
+use Rattle.interpolator_render.specs.{Numbers.twos_complement, Numbers.remainder, Views.bit_count}
+use Rattle.interpolator_render.specs.{Written.Written, Written.Appends}
 use Rattle.interpolator_digits.specs.Digits.{digit_text}
 use Rattle.interpolator_digits.specs.Exponent.{nearest, significant_digits, less_zeros, IsNearest}
 use Rattle.interpolator_digits.specs.Exponent.{distance}
-use Rattle.interpolator_render.specs.Numbers.{twos_complement, remainder}
-use Rattle.interpolator_render.specs.Padding.{padded_number, padded_text, displayed_text}
-use Rattle.interpolator_render.specs.Views.{bit_count}
-use Rattle.interpolator_render.specs.Written.{Written, Appends}
 use Rattle.interpolator_digits.proofs.DigitLemmas.{digit_text_map, glyph_some}
 use Rattle.interpolator_render.proofs.NumberLemmas.{before_within}
 

@@ -1,15 +1,13 @@
 -- Texts written part after part, up to a refusal.
-use Rattle.std.proofs.lemmas.Grind.{common_steps}
 use Rattle.std.proofs.Common.{take-append-drop, length-append, append_assoc, MatchResult, replicate}
-use Rattle.std.proofs.Common.{append-nil, flat_map, IsAscii, length, get_or, Result, ℕ}
-use Rattle.std.proofs.Common.{IsUtf8, arith, chars, zero, List, ◌++◌, refl, take, drop, ◌≡◌, suc}
-use Rattle.std.proofs.Common.{◌<◌, ◌≤◌, ◌-◌, ◌+◌, ◌*◌, ◌^◌, min, ◌∷◌, sym, Err, [], ap, Ok}
+use Rattle.std.proofs.Common.{append-nil, flat_map, IsAscii, length, get_or, Result, ℕ, IsUtf8}
+use Rattle.std.proofs.Common.{arith, chars, zero, List, ◌++◌, refl, take, drop, ◌≡◌, suc, ◌<◌, ◌≤◌}
+use Rattle.std.proofs.Common.{◌-◌, ◌+◌, ◌*◌, ◌^◌, min, ◌∷◌, sym, Err, [], ap, Ok}
 use Rattle.std.proofs.lemmas.Str.{IsCharBoundary-at_seam, chars_from_encodes, encodes-IsAscii}
 use Rattle.std.proofs.lemmas.Str.{len_utf8_bounds, encodes-append, chars-IsAscii, encodes-chars}
 use Rattle.std.proofs.lemmas.Str.{IsUtf8-append, IsUtf8-encode, length-encode, IsUtf8-nil}
+use Rattle.std.proofs.lemmas.{Grind.common_steps, Grind.flat_map-append, List.take_more}
 use Rattle.std.specs.Char.{len_utf8}
-use Rattle.std.proofs.lemmas.List.{take_more}
-use Rattle.std.proofs.lemmas.Grind.{flat_map-append}
 use Rattle.interpolator_render.specs.declared.text_write.Refusal.{Refusal}
 use Rattle.interpolator_render.specs.Written.{Written, byte_count, Appends, AppendsBeginning}
 use Rattle.interpolator_render.specs.Written.{Refuses, RefusesLong, RefusesWhole, Puts, Writes}

@@ -1,48 +1,39 @@
 -- How many characters the text of a view has at most.
 use Rattle.std.proofs.Common.{length-append, FitsSigned, unwrap_or, pow-add, length, Option, nat_lt}
-use Rattle.std.proofs.Common.{arith, false, Bool, true, List, None, Some, ◌==◌, ◌||◌, ◌≡◌, ◌+◌}
-use Rattle.std.proofs.Common.{◌*◌, ◌^◌, ◌<◌, ◌≤◌, ◌∷◌, max, ◌/◌, [], ℕ, ℤ}
-use Rattle.std.specs.Float.{Float, fin, inf, nan}
-use Rattle.std.specs.List.{flat_map}
-use Rattle.std.proofs.lemmas.Bool.{cases_lt}
-use Rattle.std.proofs.lemmas.Bool.Decides.{nat_tests}
-use Rattle.std.proofs.lemmas.List.{length-take}
+use Rattle.std.proofs.Common.{arith, false, Bool, true, List, None, Some, ◌==◌, ◌||◌, ◌≡◌, ◌+◌, ◌*◌}
+use Rattle.std.proofs.Common.{◌^◌, ◌<◌, ◌≤◌, ◌∷◌, max, ◌/◌, [], ℕ, ℤ}
+use Rattle.std.proofs.{lemmas.Bool.cases_lt, lemmas.Bool.Decides.nat_tests, lemmas.List.length-take}
 use Rattle.std.proofs.Math.Nat.{div-le_self}
-use Rattle.interpolator_render.specs.declared.number_form.NumberForm.{NumberForm}
-use Rattle.interpolator_render.specs.declared.number_form.NumberForm.TheVariants.{Exponent as InExponent}
-use Rattle.interpolator_render.specs.declared.number_form.Radix.{Radix}
-use Rattle.interpolator_render.specs.declared.view.Bits.{Bits}
-use Rattle.interpolator_render.specs.declared.view.Bits.TheVariants.{B128}
-use Rattle.interpolator_render.specs.declared.view.Sign.{Sign}
-use Rattle.interpolator_render.specs.declared.view.Spec.{Spec}
-use Rattle.interpolator_render.specs.declared.view.Trait.{Trait}
+use Rattle.std.specs.{Float.Float, Float.fin, Float.inf, Float.nan, List.flat_map}
 use Rattle.interpolator_render.specs.Characters.{single_quote, space, delete}
-use Rattle.interpolator_digits.specs.Decimals.{decimal_exponent_text, decimal_text}
-use Rattle.interpolator_render.specs.Forms.{decimal_body, float_front}
-use Rattle.interpolator_digits.specs.Decimals.{units_at}
-use Rattle.interpolator_digits.specs.Digits.{digit_text}
-use Rattle.interpolator_digits.specs.Exponent.{exponent_of, significant_digits, scientific}
-use Rattle.interpolator_digits.specs.Exponent.{with_point, exponent_text}
 use Rattle.interpolator_render.specs.Lengths.{IsShownWithin, most_digits, most_front, most_body}
 use Rattle.interpolator_render.specs.Lengths.{most_number, most_text, most_written, HasAtMost}
 use Rattle.interpolator_render.specs.Lengths.{usize_count, IsBodyWithin, most_decimal, most_scaled}
 use Rattle.interpolator_render.specs.Numbers.{base_of, sign_text, distance_from_zero, number_form}
 use Rattle.interpolator_render.specs.Numbers.{has_minus, magnitude, front_text, number_text}
 use Rattle.interpolator_render.specs.Numbers.{is_negative}
-use Rattle.interpolator_render.specs.Padding.{displayed_text}
 use Rattle.interpolator_render.specs.Quoting.{escape_by, escape_of, quotation}
 use Rattle.interpolator_render.specs.Texts.{in_form, padded_decimal, padded_float, view_text}
 use Rattle.interpolator_render.specs.Views.{Shown, signed_number, unsigned_number, truth_value}
 use Rattle.interpolator_render.specs.Views.{decimal_number, one_character, some_text, plain_text}
 use Rattle.interpolator_render.specs.Views.{float_number, integer_width}
+use Rattle.interpolator_render.specs.declared.number_form.NumberForm.{NumberForm}
+use Rattle.interpolator_render.specs.declared.number_form.NumberForm.TheVariants.{Exponent as InExponent}
+use Rattle.interpolator_render.specs.{declared.number_form.Radix.Radix, declared.view.Bits.Bits}
+use Rattle.interpolator_render.specs.{declared.view.Bits.TheVariants.B128, declared.view.Sign.Sign}
+use Rattle.interpolator_render.specs.{declared.view.Spec.Spec, declared.view.Trait.Trait}
+use Rattle.interpolator_render.specs.{Forms.decimal_body, Forms.float_front, Padding.displayed_text}
+use Rattle.interpolator_digits.specs.Decimals.{decimal_exponent_text, decimal_text, units_at}
+use Rattle.interpolator_digits.specs.Digits.{digit_text}
+use Rattle.interpolator_digits.specs.Exponent.{exponent_of, significant_digits, scientific}
+use Rattle.interpolator_digits.specs.Exponent.{with_point, exponent_text}
 use Rattle.interpolator_render.proofs.CountLemmas.{scientific_count}
-use Rattle.interpolator_digits.proofs.DecimalLemmas.{length-placed, remainder_fits, scaled_quotient}
 use Rattle.interpolator_render.proofs.DecimalRowLemmas.{length-pointed, length-scaled_tail}
-use Rattle.interpolator_digits.proofs.DigitLemmas.{length-digit_text-le}
-use Rattle.interpolator_digits.proofs.ExponentLemmas.{pow_some}
 use Rattle.interpolator_render.proofs.ExponentRowLemmas.{two_digits, decimal_digits}
 use Rattle.interpolator_render.proofs.LawLemmas.{padded_text_count, padded_number_count}
 use Rattle.interpolator_render.proofs.LawLemmas.{trimmed_tail, twos_complement_below}
+use Rattle.interpolator_digits.proofs.DecimalLemmas.{length-placed, remainder_fits, scaled_quotient}
+use Rattle.interpolator_digits.proofs.{DigitLemmas.length-digit_text-le, ExponentLemmas.pow_some}
 
 -- ---- digits
 

@@ -1,23 +1,19 @@
 -- Quoted texts, written run by run.
 use Rattle.std.proofs.Common.{◌≡◌, ℕ, ◌<◌, ◌≤◌, ◌+◌, ◌-◌, List, [], ◌∷◌, ◌++◌, length, take, drop}
-use Rattle.std.proofs.Common.{get_or, slice_range, refl, arith, append_assoc}
-use Rattle.std.proofs.Common.{append-nil, length-append, length-take, length-drop, below_more}
-use Rattle.std.proofs.Common.{Result, encode_utf8, encode_utf8_all, take-append-drop}
-use Rattle.std.proofs.Common.{take-take, get_or-append-add, get_or-drop, get_or-take, flat_map}
-use Rattle.std.proofs.Common.{chars, IsUtf8, IsCharBoundary}
-use Rattle.std.proofs.lemmas.Bool.{cases_lt}
-use Rattle.std.proofs.lemmas.Grind.{flat_map-append}
-use Rattle.std.proofs.lemmas.List.{drop-take, take_more}
+use Rattle.std.proofs.Common.{get_or, slice_range, refl, arith, append_assoc, append-nil}
+use Rattle.std.proofs.Common.{length-append, length-take, length-drop, below_more, Result}
+use Rattle.std.proofs.Common.{encode_utf8, encode_utf8_all, take-append-drop, take-take}
+use Rattle.std.proofs.Common.{get_or-append-add, get_or-drop, get_or-take, flat_map, chars, IsUtf8}
+use Rattle.std.proofs.Common.{IsCharBoundary}
 use Rattle.std.proofs.lemmas.Str.{IsCharBoundary-before_ascii, IsCharBoundary-after_ascii}
 use Rattle.std.proofs.lemmas.Str.{IsCharBoundary-start, IsUtf8-between, chars-IsAscii, chars-append}
 use Rattle.std.proofs.lemmas.Str.{encodes-chars, encode_ascii, IsUtf8-take, IsUtf8-drop, chars-nil}
-use Rattle.std.proofs.lemmas.Str.Ascii.{IsAscii-cons}
-use Rattle.interpolator_render.specs.declared.text_write.Refusal.{Refusal}
-use Rattle.interpolator_render.specs.Quoting.{escape_of}
+use Rattle.std.proofs.lemmas.{Bool.cases_lt, Grind.flat_map-append, List.drop-take, List.take_more}
+use Rattle.std.proofs.lemmas.{Str.Ascii.IsAscii-cons, Bool.Decides.nat_tests}
 use Rattle.interpolator_render.specs.Written.{Written, Appends, AppendsBeginning, Puts, Writes}
+use Rattle.interpolator_render.specs.{declared.text_write.Refusal.Refusal, Quoting.escape_of}
 use Rattle.interpolator_render.proofs.LayoutLemmas.{writes_from_puts, stops_in_second, appends_none}
 use Rattle.interpolator_render.proofs.LayoutLemmas.{stops_in_first, writes_second}
-use Rattle.std.proofs.lemmas.Bool.Decides.{nat_tests}
 
 -- ---- characters that are written as they are
 

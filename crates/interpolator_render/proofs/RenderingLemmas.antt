@@ -1,24 +1,21 @@
 -- What a text is without options, and what `render` returns for what a writer returned.
-use Rattle.std.proofs.Common.{rules}
-use Rattle.std.proofs.Common.{◌≡◌, ℕ, List, refl, Result, None, Some, ℤ}
-use Rattle.std.proofs.Common.{◌++◌, ◌∙◌, ap, append-nil, arith, false}
-use Rattle.interpolator_render.specs.declared.number_form.NumberForm.{NumberForm}
-use Rattle.interpolator_render.specs.declared.number_form.NumberForm.TheVariants.{Digits as InDigits}
-use Rattle.interpolator_render.specs.declared.number_form.Radix.TheVariants.{Decimal}
-use Rattle.interpolator_render.specs.declared.text_write.Refusal.{Refusal}
-use Rattle.interpolator_render.specs.declared.view.Bits.{Bits}
-use Rattle.interpolator_render.specs.declared.view.RenderFault.{RenderFault}
-use Rattle.interpolator_render.specs.declared.view.Sign.TheVariants.{Unset as NoSign}
-use Rattle.interpolator_render.specs.declared.view.Spec.{Spec}
-use Rattle.interpolator_render.specs.declared.view.Trait.{Trait}
-use Rattle.interpolator_render.specs.declared.view.Trait.TheVariants.{Display}
-use Rattle.interpolator_digits.specs.Digits.{digit_text}
+use Rattle.std.proofs.Common.{rules, ◌≡◌, ℕ, List, refl, Result, None, Some, ℤ, ◌++◌, ◌∙◌, ap}
+use Rattle.std.proofs.Common.{append-nil, arith, false}
 use Rattle.interpolator_render.specs.Numbers.{number_form, number_text, has_minus, magnitude}
 use Rattle.interpolator_render.specs.Numbers.{distance_from_zero, is_negative, sign_text}
 use Rattle.interpolator_render.specs.Padding.{displayed_text, padded_text, unset_spec}
 use Rattle.interpolator_render.specs.Texts.{ViewText, has_text, Renders, render_answer, view_text}
 use Rattle.interpolator_render.specs.Views.{signed_number, some_text, unsigned_number}
 use Rattle.interpolator_render.specs.Written.{Written, Puts}
+use Rattle.interpolator_render.specs.declared.number_form.NumberForm.{NumberForm}
+use Rattle.interpolator_render.specs.declared.number_form.NumberForm.TheVariants.{Digits as InDigits}
+use Rattle.interpolator_render.specs.declared.number_form.Radix.TheVariants.{Decimal}
+use Rattle.interpolator_render.specs.{declared.text_write.Refusal.Refusal, declared.view.Bits.Bits}
+use Rattle.interpolator_render.specs.declared.view.RenderFault.{RenderFault}
+use Rattle.interpolator_render.specs.declared.view.Sign.TheVariants.{Unset as NoSign}
+use Rattle.interpolator_render.specs.{declared.view.Spec.Spec, declared.view.Trait.Trait}
+use Rattle.interpolator_render.specs.declared.view.Trait.TheVariants.{Display}
+use Rattle.interpolator_digits.specs.Digits.{digit_text}
 use Rattle.interpolator_render.proofs.NumberLemmas.{bare_number, before_within}
 
 -- with neither precision nor width, a text is displayed as it is

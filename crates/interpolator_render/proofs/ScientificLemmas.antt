@@ -1,16 +1,13 @@
 -- What exponent form shows of a number, found by powers of ten and by remainders.
-use Rattle.std.proofs.Common.{rules}
-use Rattle.std.proofs.Common.{◌≡◌, ◌≢◌, ℕ, ◌<◌, ◌≤◌, ◌+◌, ◌/◌, ◌%◌, ◌^◌, false, get_or, sym}
+use Rattle.std.proofs.Common.{rules, ◌≡◌, ◌≢◌, ℕ, ◌<◌, ◌≤◌, ◌+◌, ◌/◌, ◌%◌, ◌^◌, false, get_or, sym}
 use Rattle.std.proofs.Common.{arith, eqb, eqb→eq, eq-zero-or-pos}
 use Rattle.interpolator_render.specs.declared.scientific.TheConstants.{POWERS}
 use Rattle.interpolator_digits.specs.Digits.{digit_text}
 use Rattle.interpolator_digits.specs.Exponent.{exponent_of, significant_digits}
-use Rattle.interpolator_render.proofs.CountLemmas.{digits_between}
+use Rattle.interpolator_render.proofs.{CountLemmas.digits_between, DigitTableLemmas.at_below}
 use Rattle.interpolator_digits.proofs.DigitLemmas.{digit_text_some, digit_text_step, digit_text_one}
-use Rattle.interpolator_digits.proofs.DigitLemmas.{one_count}
-use Rattle.interpolator_render.proofs.DigitTableLemmas.{at_below}
+use Rattle.interpolator_digits.proofs.DigitLemmas.{one_count, glyph_some}
 use Rattle.interpolator_digits.proofs.ExponentLemmas.{trimmed_zero, trimmed_other}
-use Rattle.interpolator_digits.proofs.DigitLemmas.{glyph_some}
 
 -- the table of powers
 pub power_at : (i : ℕ) → i ≤ 38 → get_or POWERS i 0 ≡ 10 ^ i

@@ -1,5 +1,6 @@
 -- Equality of specs, field by field.
 use Rattle.std.proofs.Common.{◌≡◌, Bool, true, ◌&&◌, eqb, rules, arith}
+use Rattle.std.proofs.{lemmas.Bool.eqb-true, lemmas.Bool.Decides.nat_tests}
 use Rattle.std.specs.Option.{option_eq}
 use mathlib.Core.Bool.{beq}
 use denote.Enum.Bare.{sameb, same_true}
@@ -7,8 +8,6 @@ use Rattle.interpolator_render.specs.declared.view.Spec.{Spec}
 use Rattle.interpolator_render.specs.contracts.view.Alignment.{the_type as alignments}
 use Rattle.interpolator_render.specs.contracts.view.HexDebug.{the_type as hex_debugs}
 use Rattle.interpolator_render.specs.contracts.view.Sign.{the_type as signs}
-use Rattle.std.proofs.lemmas.Bool.{eqb-true}
-use Rattle.std.proofs.lemmas.Bool.Decides.{nat_tests}
 
 -- what a derived `==` of two specs computes
 abbrev pub same_fields : Spec → Spec → Bool

@@ -1,13 +1,9 @@
 -- A quoted text, read back, is the text.
-use Rattle.std.proofs.Common.{append_assoc, flat_map, Option}
-use Rattle.std.proofs.Common.{false, arith, codes, List, ◌++◌, ◌==◌, refl, Some}
-use Rattle.std.proofs.Common.{None, ◌≡◌, ◌≢◌, ◌<◌, ◌+◌, ◌*◌, ◌∷◌, map, [], ℕ}
-use Rattle.std.specs.Char.{digit_value}
-use Rattle.std.specs.Fmt.{digit_glyph}
-use Rattle.std.specs.Int.Digits.{AllBelowBase}
+use Rattle.std.proofs.Common.{append_assoc, flat_map, Option, false, arith, codes, List, ◌++◌, ◌==◌}
+use Rattle.std.proofs.Common.{refl, Some, None, ◌≡◌, ◌≢◌, ◌<◌, ◌+◌, ◌*◌, ◌∷◌, map, [], ℕ}
+use Rattle.std.proofs.{lemmas.Bool.Decides.nat_tests, lemmas.Int.Digits.all_below_base_digits_of}
 use Rattle.std.specs.Str.Parse.{digits_value, digits_value_after}
-use Rattle.std.proofs.lemmas.Bool.Decides.{nat_tests}
-use Rattle.std.proofs.lemmas.Int.Digits.{all_below_base_digits_of}
+use Rattle.std.specs.{Char.digit_value, Fmt.digit_glyph, Int.Digits.AllBelowBase}
 use Rattle.interpolator_digits.specs.Digits.{digit_text}
 use Rattle.interpolator_render.specs.Quoting.{escape_letter, escape_of, quotation}
 use Rattle.interpolator_render.specs.Unquoting.{IsQuote, preceded_by, escape_meaning, unquoted_from}

@@ -1,17 +1,13 @@
 -- What a writer over a `String` took or refused.
-use Rattle.std.proofs.lemmas.Grind.{common_steps}
-use Rattle.std.proofs.Common.{◌≡◌, ◌⊎◌, ℕ, ◌+◌, ◌<◌, Bool, true, false, List, [], ◌∷◌, ◌++◌}
-use Rattle.std.proofs.Common.{length, refl, None, Some}
-use Rattle.std.proofs.Common.{sym, ◌∙◌, ap, arith, append-nil, encode_utf8, encode_utf8_all}
-use Rattle.std.proofs.Common.{Result, MatchResult, Option}
-use Rattle.std.proofs.Common.{chars, IsUtf8}
+use Rattle.std.proofs.Common.{◌≡◌, ◌⊎◌, ℕ, ◌+◌, ◌<◌, Bool, true, false, List, [], ◌∷◌, ◌++◌, length}
+use Rattle.std.proofs.Common.{refl, None, Some, sym, ◌∙◌, ap, arith, append-nil, encode_utf8}
+use Rattle.std.proofs.Common.{encode_utf8_all, Result, MatchResult, Option, chars, IsUtf8}
+use Rattle.std.proofs.lemmas.{Grind.common_steps, Str.chars-append, Str.chars-nil}
+use Rattle.std.proofs.lemmas.{Str.IsUtf8-encode, Str.chars_past_char, Str.encodes-chars}
 use Rattle.interpolator_render.specs.declared.text_write.Refusal.{Refusal}
+use Rattle.interpolator_render.specs.Written.{Written, Appends, Refuses, AppendsWithin, StaysWithin}
+use Rattle.interpolator_render.specs.Written.{GoesOver, byte_count, first_size}
 use Rattle.std.specs.Char.{IsScalar}
-use Rattle.std.proofs.lemmas.Str.{chars-append, chars-nil, IsUtf8-encode, chars_past_char}
-use Rattle.std.proofs.lemmas.Str.{encodes-chars}
-use Rattle.interpolator_render.specs.Written.{Written, Appends, Refuses}
-use Rattle.interpolator_render.specs.Written.{AppendsWithin, StaysWithin, GoesOver, byte_count}
-use Rattle.interpolator_render.specs.Written.{first_size}
 
 -- an empty text changes nothing
 pub appends_nothing : (w : Written) (bytes : List ℕ) → length bytes ≡ 0 → Appends w (chars bytes) w

@@ -1,6 +1,6 @@
 -- The text of a decimal or a float in the form that a trait writes.
-use Rattle.std.specs.Prelude.{ℕ, ◌+◌, ◌*◌, ◌^◌, max, Bool, false, true, List, [], Option, Some, None}
-use Rattle.std.specs.Prelude.{if◌then◌else◌, nat_le, nat_lt, ◌||◌}
+use Rattle.std.specs.Prelude.{ℕ, ◌+◌, ◌*◌, ◌^◌, max, Bool, false, true, List, [], Option, Some}
+use Rattle.std.specs.Prelude.{None, if◌then◌else◌, nat_le, nat_lt, ◌||◌}
 use Rattle.std.specs.Float.Ieee.{Float, Format, fin, nan}
 use Rattle.interpolator_digits.specs.Decimals.{decimal_exponent_text, decimal_text}
 use Rattle.interpolator_digits.specs.Exponent.{exponent_of}
@@ -8,10 +8,9 @@ use Rattle.interpolator_floats.specs.declared.shortest.Shortest.{Shortest}
 use Rattle.interpolator_floats.specs.Floats.{float_scale, float_units, float_word, has_minus}
 use Rattle.interpolator_floats.specs.ShortestDigits.{shortest, shortest_exponent_text}
 use Rattle.interpolator_floats.specs.ShortestDigits.{shortest_text}
-use Rattle.interpolator_render.specs.declared.view.Sign.{Sign}
-use Rattle.interpolator_render.specs.declared.view.Trait.{Trait}
 use Rattle.interpolator_render.specs.declared.view.Trait.TheVariants.{Debug, Display, LowerExp}
 use Rattle.interpolator_render.specs.declared.view.Trait.TheVariants.{UpperExp}
+use Rattle.interpolator_render.specs.{declared.view.Sign.Sign, declared.view.Trait.Trait}
 use Rattle.interpolator_render.specs.Numbers.{sign_text}
 
 -- a decimal without its sign, in the form that a trait writes, if it writes decimals

@@ -1,11 +1,10 @@
 -- What a writer over a writer of bytes has taken, what it has passed on to that one, and why it refuses.
 use Rattle.std.specs.Prelude.{◌≡◌, ◌⊎◌, ℕ, ◌+◌, ◌<◌, ◌≤◌, max, Bool, false, true, ◌||◌, List, []}
-use Rattle.std.specs.Prelude.{◌++◌}
-use Rattle.std.specs.Prelude.{length, None, string_bytes, string_capacity, encode_utf8_all, Option}
+use Rattle.std.specs.Prelude.{◌++◌, length, None, string_bytes, string_capacity, encode_utf8_all}
+use Rattle.std.specs.Prelude.{Option}
 use Rattle.std.specs.Str.{chars}
-use Rattle.interpolator_render.specs.PassedOn.{Gets, GetsFront}
-use Rattle.interpolator_render.specs.Written.{Written, Origin}
-use Rattle.interpolator_render.specs.declared.io_writer.IoWriter.{IoWriter}
+use Rattle.interpolator_render.specs.{PassedOn.Gets, PassedOn.GetsFront, Written.Written}
+use Rattle.interpolator_render.specs.{Written.Origin, declared.io_writer.IoWriter.IoWriter}
 
 -- the origin of a writer over a writer of bytes that contained this at first, if that is known
 abbrev pub over : Option (List ℕ) → Origin

@@ -1,7 +1,5 @@
 -- The parts of a text, and the characters that they stand for.
-use Rattle.std.specs.Prelude.{ℕ, List, replicate}
-use Rattle.std.specs.List.{flat_map}
-use Rattle.std.specs.Str.{chars}
+use Rattle.std.specs.{Prelude.ℕ, Prelude.List, Prelude.replicate, List.flat_map, Str.chars}
 use Rattle.interpolator_render.specs.declared.layout.Part.{Part}
 use Rattle.interpolator_render.specs.declared.layout.Part.TheVariants.{Text, Copies}
 

@@ -1,26 +1,24 @@
 -- How many characters the text of a view has at most.
-use Rattle.std.specs.Prelude.{ℕ, List, zero, suc, ◌+◌, ◌*◌, ◌^◌, ◌<◌, ◌≤◌, ◌-◌, ⊤, max, min, false, length, unwrap_or}
-use Rattle.std.specs.Prelude.{Option, None, Some, FitsSigned}
-use Rattle.std.specs.Int.{w128}
-use Rattle.std.specs.Float.Ieee.{Float, Format}
-use Rattle.interpolator_render.specs.declared.number_form.NumberForm.{NumberForm}
+use Rattle.std.specs.Prelude.{ℕ, List, zero, suc, ◌+◌, ◌*◌, ◌^◌, ◌<◌, ◌≤◌, ◌-◌, ⊤, max, min, false}
+use Rattle.std.specs.Prelude.{length, unwrap_or, Option, None, Some, FitsSigned}
+use Rattle.std.specs.{Int.w128, Float.Ieee.Float, Float.Ieee.Format}
 use Rattle.interpolator_render.specs.declared.number_form.NumberForm.TheVariants.{Digits as InDigits}
 use Rattle.interpolator_render.specs.declared.number_form.NumberForm.TheVariants.{Exponent as InExponent}
-use Rattle.interpolator_render.specs.declared.number_form.Radix.{Radix}
 use Rattle.interpolator_render.specs.declared.number_form.Radix.TheVariants.{Decimal}
 use Rattle.interpolator_render.specs.declared.number_form.Radix.TheVariants.{Binary as InBinary}
 use Rattle.interpolator_render.specs.declared.number_form.Radix.TheVariants.{Octal as InOctal}
 use Rattle.interpolator_render.specs.declared.number_form.Radix.TheVariants.{LowerHex as InLowerHex}
 use Rattle.interpolator_render.specs.declared.number_form.Radix.TheVariants.{UpperHex as InUpperHex}
-use Rattle.interpolator_render.specs.declared.view.Spec.{Spec}
-use Rattle.interpolator_render.specs.declared.view.Trait.{Trait}
-use Rattle.interpolator_render.specs.declared.view.Trait.TheVariants.{Debug, Display, LowerExp, UpperExp}
-use Rattle.interpolator_digits.specs.Decimals.{decimal_text}
-use Rattle.interpolator_render.specs.Forms.{float_body}
+use Rattle.interpolator_render.specs.declared.view.Trait.TheVariants.{Debug, Display, LowerExp}
+use Rattle.interpolator_render.specs.declared.view.Trait.TheVariants.{UpperExp}
 use Rattle.interpolator_render.specs.Numbers.{distance_from_zero, front_text, number_form}
 use Rattle.interpolator_render.specs.Texts.{ViewText, has_text}
 use Rattle.interpolator_render.specs.Views.{Shown, signed_number, unsigned_number, some_text}
 use Rattle.interpolator_render.specs.Views.{decimal_number, float_number, plain_text, integer_width}
+use Rattle.interpolator_render.specs.declared.number_form.NumberForm.{NumberForm}
+use Rattle.interpolator_render.specs.{declared.number_form.Radix.Radix, declared.view.Spec.Spec}
+use Rattle.interpolator_render.specs.{declared.view.Trait.Trait, Forms.float_body}
+use Rattle.interpolator_digits.specs.Decimals.{decimal_text}
 
 -- the digits of a number below 2 ^ 128 in a base
 abbrev pub most_digits : Radix → ℕ

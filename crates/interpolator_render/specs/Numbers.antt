@@ -2,29 +2,24 @@
 use Rattle.std.specs.Prelude.{ℕ, ℤ, pos, negsuc, ◌+◌, ◌-◌, ◌%◌, ◌^◌, ◌≤◌, Bool, true, false, List}
 use Rattle.std.specs.Prelude.{[], ◌++◌, length, Option, Some, None, if◌then◌else◌, codes}
 use Rattle.std.specs.Str.{IsAscii}
-use Rattle.interpolator_render.specs.declared.number_form.Radix.{Radix}
 use Rattle.interpolator_render.specs.declared.number_form.Radix.TheVariants.{Decimal}
 use Rattle.interpolator_render.specs.declared.number_form.Radix.TheVariants.{Binary as InBinary}
 use Rattle.interpolator_render.specs.declared.number_form.Radix.TheVariants.{Octal as InOctal}
 use Rattle.interpolator_render.specs.declared.number_form.Radix.TheVariants.{LowerHex as InLowerHex}
 use Rattle.interpolator_render.specs.declared.number_form.Radix.TheVariants.{UpperHex as InUpperHex}
-use Rattle.interpolator_render.specs.declared.number_form.NumberForm.{NumberForm}
 use Rattle.interpolator_render.specs.declared.number_form.NumberForm.TheVariants.{Digits as InDigits}
 use Rattle.interpolator_render.specs.declared.number_form.NumberForm.TheVariants.{Exponent as InExponent}
-use Rattle.interpolator_render.specs.declared.view.Bits.{Bits}
-use Rattle.interpolator_render.specs.declared.view.HexDebug.{HexDebug}
 use Rattle.interpolator_render.specs.declared.view.HexDebug.TheVariants.{No, Lower, Upper}
-use Rattle.interpolator_render.specs.declared.view.Sign.{Sign}
 use Rattle.interpolator_render.specs.declared.view.Sign.TheVariants.{Plus, Minus, Unset}
-use Rattle.interpolator_render.specs.declared.view.Spec.{Spec}
-use Rattle.interpolator_render.specs.declared.view.Trait.{Trait}
 use Rattle.interpolator_render.specs.declared.view.Trait.TheVariants.{Binary, Debug, Display}
 use Rattle.interpolator_render.specs.declared.view.Trait.TheVariants.{LowerExp, LowerHex, Octal}
 use Rattle.interpolator_render.specs.declared.view.Trait.TheVariants.{UpperExp, UpperHex, Iter}
-use Rattle.interpolator_digits.specs.Digits.{digit_text}
-use Rattle.interpolator_digits.specs.Exponent.{exponent_text}
-use Rattle.interpolator_render.specs.Padding.{padded_number}
-use Rattle.interpolator_render.specs.Views.{bit_count}
+use Rattle.interpolator_render.specs.declared.number_form.Radix.{Radix}
+use Rattle.interpolator_render.specs.declared.{number_form.NumberForm.NumberForm, view.Bits.Bits}
+use Rattle.interpolator_render.specs.declared.{view.HexDebug.HexDebug, view.Sign.Sign}
+use Rattle.interpolator_render.specs.declared.{view.Spec.Spec, view.Trait.Trait}
+use Rattle.interpolator_render.specs.{Padding.padded_number, Views.bit_count}
+use Rattle.interpolator_digits.specs.{Digits.digit_text, Exponent.exponent_text}
 
 -- ---- how a number is written
 

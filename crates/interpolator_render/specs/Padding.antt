@@ -6,10 +6,9 @@ use Rattle.interpolator_render.specs.declared.view.Alignment.TheVariants.{Unset,
 use Rattle.interpolator_render.specs.declared.view.Alignment.TheVariants.{Right}
 use Rattle.interpolator_render.specs.declared.view.HexDebug.TheVariants as hex_debugs
 use Rattle.interpolator_render.specs.declared.view.Sign.TheVariants as signs
-use Rattle.interpolator_render.specs.declared.view.Spec.{Spec}
-use Rattle.interpolator_digits.specs.Characters.{zero_digit}
 use Rattle.interpolator_render.specs.Characters.{cut, space}
-use Rattle.interpolator_render.specs.DigitBuffers.{Buffered}
+use Rattle.interpolator_render.specs.{declared.view.Spec.Spec, DigitBuffers.Buffered}
+use Rattle.interpolator_digits.specs.Characters.{zero_digit}
 
 -- the spec that sets nothing
 abbrev pub unset_spec : Spec

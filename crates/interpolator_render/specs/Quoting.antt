@@ -4,8 +4,7 @@ use Rattle.std.specs.Prelude.{codes, ◌==◌, ◌||◌, nat_lt}
 use Rattle.std.specs.List.{flat_map}
 use Rattle.interpolator_render.specs.Characters.{backslash, carriage_return, delete, letter_n}
 use Rattle.interpolator_render.specs.Characters.{letter_r, letter_t, newline, null, space, tab}
-use Rattle.interpolator_digits.specs.Characters.{zero_digit}
-use Rattle.interpolator_digits.specs.Digits.{digit_text}
+use Rattle.interpolator_digits.specs.{Characters.zero_digit, Digits.digit_text}
 
 -- the character that is written after a backslash for c, if there is one: the quote, a backslash,
 -- `0`, `t`, `r` or `n`

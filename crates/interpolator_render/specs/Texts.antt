@@ -2,26 +2,24 @@
 use Rattle.std.specs.Prelude.{◌≡◌, Bool, true, false, ℕ, List, [], ◌∷◌, Option, Some, None, Result}
 use Rattle.std.specs.Prelude.{Ok, Err, codes}
 use Rattle.std.specs.Float.Ieee.{Float}
-use Rattle.interpolator_render.specs.declared.number_form.NumberForm.{NumberForm}
-use Rattle.interpolator_render.specs.declared.text_write.Refusal.{Refusal}
-use Rattle.interpolator_render.specs.declared.view.RenderFault.{RenderFault}
 use Rattle.interpolator_render.specs.declared.view.RenderFault.TheVariants.{Refused}
 use Rattle.interpolator_render.specs.declared.view.RenderFault.TheVariants.{NotImplemented as Nothing}
 use Rattle.interpolator_render.specs.declared.view.RenderFault.TheVariants.{Failed as FailedFault}
-use Rattle.interpolator_render.specs.declared.view.Spec.{Spec}
-use Rattle.interpolator_render.specs.declared.view.Trait.{Trait}
 use Rattle.interpolator_render.specs.declared.view.Trait.TheVariants.{Debug, Display}
 use Rattle.interpolator_render.specs.Characters.{double_quote, single_quote}
 use Rattle.interpolator_render.specs.Forms.{decimal_body, float_body, float_front}
 use Rattle.interpolator_render.specs.Numbers.{number_form, number_text, has_minus, magnitude}
 use Rattle.interpolator_render.specs.Numbers.{distance_from_zero, is_negative, sign_text}
 use Rattle.interpolator_render.specs.Padding.{displayed_text, padded_number}
-use Rattle.interpolator_render.specs.Quoting.{quotation}
 use Rattle.interpolator_render.specs.Views.{Shown, signed_number, unsigned_number, truth_value}
-use Rattle.interpolator_render.specs.Views.{decimal_number, float_number}
-use Rattle.interpolator_render.specs.Views.{one_character, some_text, plain_text}
-use Rattle.interpolator_render.specs.Views.{nothing_implemented, failure}
+use Rattle.interpolator_render.specs.Views.{decimal_number, float_number, one_character, some_text}
+use Rattle.interpolator_render.specs.Views.{plain_text, nothing_implemented, failure}
 use Rattle.interpolator_render.specs.Written.{Written, Appends, AppendsBeginning}
+use Rattle.interpolator_render.specs.declared.number_form.NumberForm.{NumberForm}
+use Rattle.interpolator_render.specs.declared.text_write.Refusal.{Refusal}
+use Rattle.interpolator_render.specs.declared.view.RenderFault.{RenderFault}
+use Rattle.interpolator_render.specs.{declared.view.Spec.Spec, declared.view.Trait.Trait}
+use Rattle.interpolator_render.specs.Quoting.{quotation}
 
 -- a text, or one of the two reasons why there is none
 pub data ViewText : Type 0 where

@@ -1,15 +1,14 @@
 -- What a view shows: the view without its borrows.
 use Rattle.std.specs.Prelude.{◌≡◌, ℕ, ℤ, pos, negsuc, ◌-◌, ◌^◌, nat_lt, Bool, if◌then◌else◌, List}
 use Rattle.std.specs.Prelude.{FitsSigned, IsTrue}
-use Rattle.std.specs.Float.Ieee.{Float as Ieee, Format, binary32, binary64, eq}
-use Rattle.std.specs.Int.{Width, w8, w16, w32, w64, w128}
-use Rattle.std.specs.Str.{chars}
-use Rattle.interpolator_render.specs.declared.view.Bits.{Bits}
+use Rattle.std.specs.Float.{Ieee.Float as Ieee, Ieee.Format, Ieee.binary32, Ieee.binary64, Ieee.eq}
+use Rattle.std.specs.{Int.Width, Int.w8, Int.w16, Int.w32, Int.w64, Int.w128, Str.chars}
 use Rattle.interpolator_render.specs.declared.view.Bits.TheVariants.{B8, B16, B32, B64, B128}
-use Rattle.interpolator_render.specs.declared.view.View.{View}
 use Rattle.interpolator_render.specs.declared.view.View.TheVariants.{Signed, Unsigned, Truth}
-use Rattle.interpolator_render.specs.declared.view.View.TheVariants.{Decimal, Character, Text, Plain}
-use Rattle.interpolator_render.specs.declared.view.View.TheVariants.{Float, Float32, NotImplemented, Failed}
+use Rattle.interpolator_render.specs.declared.view.View.TheVariants.{Decimal, Character, Text}
+use Rattle.interpolator_render.specs.declared.view.View.TheVariants.{Plain, Float, Float32}
+use Rattle.interpolator_render.specs.declared.view.View.TheVariants.{NotImplemented, Failed}
+use Rattle.interpolator_render.specs.{declared.view.Bits.Bits, declared.view.View.View}
 
 -- the width as std's clauses name it
 abbrev pub integer_width : Bits → Width

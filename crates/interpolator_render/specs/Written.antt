@@ -1,7 +1,6 @@
 -- What is known of a writer, and the outcomes of a call that writes a text.
 use Rattle.std.specs.Prelude.{◌≡◌, ◌⊎◌, ℕ, ◌+◌, ◌<◌, ◌≤◌, ◌-◌, ◌^◌, min, Bool, true, false, List}
-use Rattle.std.specs.Prelude.{[], ◌∷◌, ◌++◌, length, take, Option, None, Some}
-use Rattle.std.specs.Prelude.{IsUtf8, encode_utf8}
+use Rattle.std.specs.Prelude.{[], ◌∷◌, ◌++◌, length, take, Option, None, Some, IsUtf8, encode_utf8}
 use Rattle.std.specs.Prelude.{encode_utf8_all, Result, MatchResult}
 use Rattle.interpolator_render.specs.declared.text_write.Refusal.{Refusal}
 

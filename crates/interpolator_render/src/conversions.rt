@@ -1,11 +1,10 @@
 //! Views made of values, so that one map can hold values of several kinds.
 ghost use Rattle.std.specs.Prelude.{◌≡◌, string_bytes};
-ghost use Rattle.std.specs.Float.{binary32, binary64};
-ghost use Rattle.std.specs.Str.{chars};
+ghost use Rattle.std.specs.{Float.binary32, Float.binary64, Str.chars};
 ghost use Rattle.interpolator_render.specs.declared.view.Bits.TheVariants.{B8, B16, B32, B64, B128};
 ghost use Rattle.interpolator_render.specs.Views.{float_number, shown_by, signed_number};
-ghost use Rattle.interpolator_render.specs.Views.{unsigned_number};
-ghost use Rattle.interpolator_render.specs.Views.{truth_value, one_character, some_text};
+ghost use Rattle.interpolator_render.specs.Views.{unsigned_number, truth_value, one_character};
+ghost use Rattle.interpolator_render.specs.Views.{some_text};
 
 use crate::view::{Bits, View};
 

@@ -1,13 +1,10 @@
 //! Copies of a character, alone and on both sides of a text, written by slices.
 ghost use Rattle.std.specs.Prelude.{◌≡◌, ◌+◌, ◌-◌, ◌*◌, ◌++◌, ◌^◌, ◌<◌, ◌≤◌, min, replicate};
 ghost use Rattle.std.specs.Prelude.{encode_utf8, encode_utf8_all, length};
-ghost use Rattle.std.specs.Char.{len_utf8};
-ghost use Rattle.std.specs.Str.{chars};
+ghost use Rattle.std.specs.{Char.len_utf8, Str.chars};
 ghost use Rattle.interpolator_digits.specs.Characters.{zero_digit};
-ghost use Rattle.interpolator_render.specs.Characters.{space};
-ghost use Rattle.interpolator_render.specs.Copies.{IsRun};
-ghost use Rattle.interpolator_render.specs.Padding.{between_fill};
 ghost use Rattle.interpolator_render.specs.Written.{Puts, byte_count};
+ghost use Rattle.interpolator_render.specs.{Characters.space, Copies.IsRun, Padding.between_fill};
 
 use crate::layout::{byte_len, put_text};
 use crate::places::block_around;

@@ -1,15 +1,14 @@
 //! Decimals, written by their digits.
-ghost use Rattle.std.specs.Prelude.{◌≡◌, ◌+◌, ◌^◌, ◌<◌, ◌≤◌, ◌++◌, [], false, replicate};
-ghost use Rattle.std.specs.Prelude.{Bool, ℕ, None, if◌then◌else◌, true, unwrap_or, ◌==◌, ◌∷◌};
-ghost use Rattle.interpolator_render.specs.declared.view.Sign.TheVariants.{Unset};
-ghost use Rattle.interpolator_digits.specs.Characters.{point, zero_digit};
-ghost use Rattle.interpolator_digits.specs.Decimals.{after_point, decimal_text, placed, split_text};
-ghost use Rattle.interpolator_render.specs.DigitBuffers.{put_before};
-ghost use Rattle.interpolator_digits.specs.Digits.{digit_text};
+ghost use Rattle.std.specs.Prelude.{◌≡◌, ◌+◌, ◌^◌, ◌<◌, ◌≤◌, ◌++◌, [], false, replicate, Bool, ℕ};
+ghost use Rattle.std.specs.Prelude.{None, if◌then◌else◌, true, unwrap_or, ◌==◌, ◌∷◌};
 ghost use Rattle.interpolator_render.specs.Numbers.{IsShortAscii, distance_from_zero, is_negative};
 ghost use Rattle.interpolator_render.specs.Numbers.{sign_text};
 ghost use Rattle.interpolator_render.specs.Padding.{row_fill, padded_number};
-ghost use Rattle.interpolator_render.specs.Written.{Puts};
+ghost use Rattle.interpolator_render.specs.declared.view.Sign.TheVariants.{Unset};
+ghost use Rattle.interpolator_render.specs.{DigitBuffers.put_before, Written.Puts};
+ghost use Rattle.interpolator_digits.specs.Characters.{point, zero_digit};
+ghost use Rattle.interpolator_digits.specs.Decimals.{after_point, decimal_text, placed, split_text};
+ghost use Rattle.interpolator_digits.specs.Digits.{digit_text};
 
 use crate::decimal_digits::{DecimalDigits, GREATEST_SHORT_SCALE, decimal_digits, short_split};
 use crate::decimal_parts::{DecimalParts, put_padded_decimal};

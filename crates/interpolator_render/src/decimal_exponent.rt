@@ -1,11 +1,10 @@
 //! Decimals in exponent form.
 ghost use Rattle.std.specs.Prelude.{◌≡◌, ◌<◌, ◌≤◌, Bool, unwrap_or};
-ghost use Rattle.interpolator_digits.specs.Decimals.{decimal_exponent_text, scaled_tail};
-ghost use Rattle.interpolator_digits.specs.Decimals.{scale_of, shown_scaled};
-ghost use Rattle.interpolator_render.specs.DigitBuffers.{put_before};
+ghost use Rattle.interpolator_digits.specs.Decimals.{decimal_exponent_text, scaled_tail, scale_of};
+ghost use Rattle.interpolator_digits.specs.Decimals.{shown_scaled};
 ghost use Rattle.interpolator_render.specs.Numbers.{distance_from_zero, is_negative, sign_text};
 ghost use Rattle.interpolator_render.specs.Padding.{row_fill, padded_number};
-ghost use Rattle.interpolator_render.specs.Written.{Puts};
+ghost use Rattle.interpolator_render.specs.{DigitBuffers.put_before, Written.Puts};
 
 use crate::digit_buffer::DigitBuffer;
 use crate::exponent::{mark, put_leading, put_tail};

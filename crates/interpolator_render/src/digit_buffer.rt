@@ -1,9 +1,7 @@
 //! A short text in one buffer, which grows at its front.
 ghost use Rattle.std.specs.Prelude.{◌≡◌, ◌<◌, ◌≤◌, ◌∷◌, [], false, drop, length, replicate};
-ghost use Rattle.std.specs.Fmt.{digit_glyph};
-ghost use Rattle.std.specs.Str.{IsAscii};
-ghost use Rattle.interpolator_digits.specs.Characters.{zero_digit};
-ghost use Rattle.interpolator_digits.specs.Digits.{digit_text};
+ghost use Rattle.std.specs.{Fmt.digit_glyph, Str.IsAscii};
+ghost use Rattle.interpolator_digits.specs.{Characters.zero_digit, Digits.digit_text};
 ghost use Rattle.interpolator_render.specs.DigitBuffers.{Buffered, IsBuffered, buffer_row};
 ghost use Rattle.interpolator_render.specs.DigitBuffers.{put_before, put_after};
 

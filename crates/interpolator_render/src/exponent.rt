@@ -1,13 +1,11 @@
 //! Whole numbers in exponent form.
 ghost use Rattle.std.specs.Prelude.{◌≡◌, ◌<◌, ◌≤◌, false, replicate, unwrap_or};
-ghost use Rattle.interpolator_digits.specs.Characters.{zero_digit};
-ghost use Rattle.interpolator_digits.specs.Digits.{digit_text};
 ghost use Rattle.interpolator_digits.specs.Exponent.{exponent_tail, leading, mark, shown_text};
+ghost use Rattle.interpolator_digits.specs.{Characters.zero_digit, Digits.digit_text};
 ghost use Rattle.interpolator_render.specs.Numbers.{number_text, sign_text};
 ghost use Rattle.interpolator_render.specs.Padding.{row_fill, padded_number};
-ghost use Rattle.interpolator_render.specs.DigitBuffers.{put_before};
 ghost use Rattle.interpolator_render.specs.Texts.{Renders, has_text};
-ghost use Rattle.interpolator_render.specs.Written.{Puts};
+ghost use Rattle.interpolator_render.specs.{DigitBuffers.put_before, Written.Puts};
 
 use crate::digit_buffer::{BUFFER_WIDTH, DigitBuffer};
 use crate::digits::GREATEST_U64;

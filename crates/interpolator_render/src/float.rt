@@ -1,22 +1,17 @@
 //! Floats that are finite, written by their digits.
-ghost use Rattle.std.specs.Prelude.{◌≡◌, ◌*◌, ◌^◌, ◌<◌, ◌≤◌, ◌++◌, IsTrue, None, Some, false, length};
-ghost use Rattle.std.specs.Prelude.{replicate};
-ghost use Rattle.std.specs.Float.{float_is_finite};
-ghost use Rattle.std.specs.Str.{IsAscii};
-ghost use Rattle.interpolator_digits.specs.Characters.{zero_digit};
+ghost use Rattle.std.specs.Prelude.{◌≡◌, ◌*◌, ◌^◌, ◌<◌, ◌≤◌, ◌++◌, IsTrue, None, Some, false};
+ghost use Rattle.std.specs.Prelude.{length, replicate};
+ghost use Rattle.std.specs.{Float.float_is_finite, Str.IsAscii};
 ghost use Rattle.interpolator_digits.specs.Decimals.{decimal_exponent_text, decimal_text};
-ghost use Rattle.interpolator_digits.specs.Digits.{digit_text};
+ghost use Rattle.interpolator_digits.specs.{Characters.zero_digit, Digits.digit_text};
 ghost use Rattle.interpolator_floats.specs.ExponentTexts.{scientific_text, signed_tail};
 ghost use Rattle.interpolator_floats.specs.Floats.{float_scale, float_units};
 ghost use Rattle.interpolator_floats.specs.LastDigits.{pointed_text};
 ghost use Rattle.interpolator_floats.specs.ShortestDigits.{IsTrimmed, shortest_exponent_text};
 ghost use Rattle.interpolator_floats.specs.ShortestDigits.{shortest_text};
 ghost use Rattle.interpolator_render.specs.declared.view.Sign.TheVariants.{Unset};
-ghost use Rattle.interpolator_render.specs.DigitBuffers.{put_before};
-ghost use Rattle.interpolator_render.specs.Forms.{debugged, is_far};
-ghost use Rattle.interpolator_render.specs.Numbers.{sign_text};
-ghost use Rattle.interpolator_render.specs.Padding.{padded_number};
-ghost use Rattle.interpolator_render.specs.Written.{Puts};
+ghost use Rattle.interpolator_render.specs.{DigitBuffers.put_before, Forms.debugged, Forms.is_far};
+ghost use Rattle.interpolator_render.specs.{Numbers.sign_text, Padding.padded_number, Written.Puts};
 
 use crate::decimal::{point_str, put_any_units, put_bare_decimal, put_digits};
 use crate::decimal_digits::{DecimalDigits, GREATEST_SHORT_SCALE, decimal_digits};

@@ -1,16 +1,14 @@
 //! Floats under a trait and a spec.
 ghost use Rattle.std.specs.Prelude.{◌≡◌, IsTrue, None, Some};
-ghost use Rattle.std.specs.Float.{binary32, binary64, float_is_finite};
-ghost use Rattle.std.specs.Str.{IsAscii};
+ghost use Rattle.std.specs.{Float.binary32, Float.binary64, Float.float_is_finite, Str.IsAscii};
 ghost use Rattle.interpolator_floats.specs.Floats.{float_scale, float_units, float_word, has_minus};
 ghost use Rattle.interpolator_floats.specs.ShortestDigits.{IsTrimmed};
-ghost use Rattle.interpolator_render.specs.Forms.{decimal_body, float_body, float_front, short_body};
-ghost use Rattle.interpolator_render.specs.Forms.{worded};
-ghost use Rattle.interpolator_render.specs.Numbers.{IsShortAscii};
-ghost use Rattle.interpolator_render.specs.declared.view.Trait.TheVariants.{Display};
+ghost use Rattle.interpolator_render.specs.Forms.{decimal_body, float_body, float_front};
+ghost use Rattle.interpolator_render.specs.Forms.{short_body, worded};
 ghost use Rattle.interpolator_render.specs.Padding.{padded_number, unset_spec};
 ghost use Rattle.interpolator_render.specs.Texts.{Renders, padded_decimal, padded_float};
-ghost use Rattle.interpolator_render.specs.Written.{Puts};
+ghost use Rattle.interpolator_render.specs.Numbers.{IsShortAscii};
+ghost use Rattle.interpolator_render.specs.{declared.view.Trait.TheVariants.Display, Written.Puts};
 
 use crate::float::{
     put_bare_shortest, put_debugged, put_places, put_places_exponent, put_shortest,

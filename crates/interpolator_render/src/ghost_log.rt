@@ -1,7 +1,6 @@
 //! What a writer has passed on, which only proofs read.
 ghost use Rattle.std.specs.Prelude.{◌≡◌, ℕ, List, [], ◌++◌, Option, string_bytes};
-ghost use Rattle.std.specs.Borrow.{ftrue};
-ghost use Rattle.std.specs.Str.{chars};
+ghost use Rattle.std.specs.{Borrow.ftrue, Str.chars};
 
 use std::io::Write;
 use std::marker::{Model, PhantomData};

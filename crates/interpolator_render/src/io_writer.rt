@@ -2,9 +2,7 @@
 ghost use Rattle.std.specs.Prelude.{◌≡◌, ◌≤◌, ◌<◌, ◌+◌, ◌++◌, ◌∷◌, [], true, false, length, max};
 ghost use Rattle.std.specs.Prelude.{string_bytes, string_capacity, encode_utf8, encode_utf8_all};
 ghost use Rattle.std.specs.Prelude.{◌⊎◌, IfErr, MatchResult, OnErr, OnOk};
-ghost use Rattle.std.specs.IoError.{error_kind};
-ghost use Rattle.std.specs.declared.io.ErrorKind.TheVariants.{Other};
-ghost use Rattle.std.specs.Str.{chars};
+ghost use Rattle.std.specs.{IoError.error_kind, declared.io.ErrorKind.TheVariants.Other, Str.chars};
 ghost use Rattle.interpolator_render.specs.PassedOn.{Gets, GetsFront, got};
 
 use crate::appends::{append, append_char};

@@ -1,24 +1,21 @@
 //! Laws: what the definitions that contracts cite mean, said in other words and proved for all
 //! values. The contract of each function is the law. Most bodies are empty; the others compare,
 //! make or clone values.
-ghost use Rattle.std.specs.Prelude.{◌≡◌, ◌+◌, ◌-◌, ◌*◌, ◌^◌, ◌<◌, ◌≤◌, ◌≢◌, ◌↔◌, ◌++◌, ◌+ℤ◌};
-ghost use Rattle.std.specs.Prelude.{◌*ℤ◌, max, ℕ, ℤ, pos, Bool, List, Option, Some, None, IsTrue, false};
+ghost use Rattle.std.specs.Prelude.{◌≡◌, ◌+◌, ◌-◌, ◌*◌, ◌^◌, ◌<◌, ◌≤◌, ◌≢◌, ◌↔◌, ◌++◌, ◌+ℤ◌, ◌*ℤ◌};
+ghost use Rattle.std.specs.Prelude.{max, ℕ, ℤ, pos, Bool, List, Option, Some, None, IsTrue, false};
 ghost use Rattle.std.specs.Prelude.{length, replicate, slice_index, unwrap_or};
 ghost use Rattle.std.specs.Str.Parse.{digits_value};
-ghost use Rattle.interpolator_digits.specs.Characters.{zero_digit};
 ghost use Rattle.interpolator_digits.specs.Decimals.{SpellsUnits, decimal_text, units_at};
 ghost use Rattle.interpolator_digits.specs.Decimals.{DenotesUnits, decimal_exponent_text};
 ghost use Rattle.interpolator_digits.specs.Decimals.{rounded_units};
-ghost use Rattle.interpolator_digits.specs.Digits.{digit_text};
-ghost use Rattle.interpolator_digits.specs.Exponent.{exponent_of, exponent_text, nearest, scientific};
-ghost use Rattle.interpolator_digits.specs.Exponent.{significant_digits};
-ghost use Rattle.interpolator_digits.specs.Exponent.{IsNearest};
-ghost use Rattle.interpolator_render.specs.Numbers.{twos_complement};
+ghost use Rattle.interpolator_digits.specs.Exponent.{exponent_of, exponent_text, nearest};
+ghost use Rattle.interpolator_digits.specs.Exponent.{scientific, significant_digits, IsNearest};
+ghost use Rattle.interpolator_digits.specs.{Characters.zero_digit, Digits.digit_text};
 ghost use Rattle.interpolator_render.specs.Padding.{padded_number, padded_text, displayed_text};
-ghost use Rattle.interpolator_render.specs.Quoting.{quotation};
 ghost use Rattle.interpolator_render.specs.Unquoting.{IsQuote, text_in_quotes};
 ghost use Rattle.interpolator_render.specs.Views.{AreEqual, bit_count, shown_in_bytes};
 ghost use Rattle.interpolator_render.specs.Written.{Written, Appends};
+ghost use Rattle.interpolator_render.specs.{Numbers.twos_complement, Quoting.quotation};
 
 pub mod clones;
 pub mod lengths;

@@ -1,14 +1,13 @@
 //! Whole numbers, written by their digits or in exponent form.
 ghost use Rattle.std.specs.Prelude.{◌≡◌, ◌<◌, ◌≤◌, ◌++◌, Bool, false, true, ℕ, List, codes, length};
 ghost use Rattle.std.specs.Prelude.{unwrap_or};
-ghost use Rattle.interpolator_render.specs.DigitBuffers.{put_before};
-ghost use Rattle.interpolator_digits.specs.Digits.{digit_text};
-ghost use Rattle.interpolator_render.specs.declared.view.Sign.TheVariants.{Unset};
 ghost use Rattle.interpolator_render.specs.Numbers.{base_of, distance_from_zero, is_negative};
 ghost use Rattle.interpolator_render.specs.Numbers.{is_upper, number_text, sign_text};
 ghost use Rattle.interpolator_render.specs.Padding.{row_fill, padded_number};
 ghost use Rattle.interpolator_render.specs.Texts.{Renders, has_text};
-ghost use Rattle.interpolator_render.specs.Written.{Puts};
+ghost use Rattle.interpolator_render.specs.DigitBuffers.{put_before};
+ghost use Rattle.interpolator_render.specs.{declared.view.Sign.TheVariants.Unset, Written.Puts};
+ghost use Rattle.interpolator_digits.specs.Digits.{digit_text};
 
 use crate::digit_buffer::DigitBuffer;
 use crate::digit_tables::pair_digits;

@@ -1,11 +1,9 @@
 //! Texts between quotes, with escapes.
 ghost use Rattle.std.specs.Prelude.{◌≡◌, ◌<◌, ◌++◌, ◌∷◌, [], false, true, codes};
-ghost use Rattle.std.specs.List.{flat_map};
-ghost use Rattle.std.specs.Str.{chars};
-ghost use Rattle.interpolator_render.specs.Characters.{backslash};
-ghost use Rattle.interpolator_digits.specs.Digits.{digit_text};
+ghost use Rattle.std.specs.{List.flat_map, Str.chars};
 ghost use Rattle.interpolator_render.specs.Quoting.{escape_letter, escape_of, quotation};
-ghost use Rattle.interpolator_render.specs.Written.{Puts, Writes};
+ghost use Rattle.interpolator_render.specs.{Characters.backslash, Written.Puts, Written.Writes};
+ghost use Rattle.interpolator_digits.specs.Digits.{digit_text};
 
 use crate::digits::digit_str;
 use crate::layout::{Part, put_char, put_parts, put_text};

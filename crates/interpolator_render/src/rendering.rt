@@ -1,17 +1,14 @@
 //! The text of a view, written.
 ghost use Rattle.std.specs.Prelude.{◌≡◌, ◌+◌, ◌∷◌, [], ◌<◌, ◌≤◌, None, Some, length, true};
 ghost use Rattle.std.specs.Str.{chars};
-ghost use Rattle.interpolator_render.specs.Characters.{single_quote};
-ghost use Rattle.interpolator_render.specs.Padding.{displayed_text};
-ghost use Rattle.interpolator_render.specs.Quoting.{quotation};
-ghost use Rattle.interpolator_render.specs.Forms.{decimal_body};
+ghost use Rattle.interpolator_render.specs.Padding.{displayed_text, unset_spec};
 ghost use Rattle.interpolator_render.specs.Texts.{padded_decimal, under, truth_text, view_text};
 ghost use Rattle.interpolator_render.specs.Texts.{Renders};
 ghost use Rattle.interpolator_render.specs.Numbers.{distance_from_zero, is_negative, number_form};
-ghost use Rattle.interpolator_render.specs.declared.view.Trait.TheVariants.{Display};
-ghost use Rattle.interpolator_render.specs.Padding.{unset_spec};
 ghost use Rattle.interpolator_render.specs.Views.{IsInRange, shown_by, unsigned_number};
-ghost use Rattle.interpolator_render.specs.Written.{Puts};
+ghost use Rattle.interpolator_render.specs.{Characters.single_quote, Quoting.quotation};
+ghost use Rattle.interpolator_render.specs.Forms.{decimal_body};
+ghost use Rattle.interpolator_render.specs.{declared.view.Trait.TheVariants.Display, Written.Puts};
 
 use crate::characters::cut;
 use crate::copies::{put_between, put_between_spaces, put_in_block};

@@ -1,10 +1,9 @@
 //! The arithmetic of exponent form: the digits that are shown, and the exponent.
 ghost use Rattle.std.specs.Prelude.{◌≡◌, ◌+◌, ◌/◌, ◌%◌, ◌^◌, ◌<◌, ◌≤◌, ◌++◌, false, replicate};
 ghost use Rattle.std.specs.Prelude.{unwrap_or};
-ghost use Rattle.interpolator_digits.specs.Characters.{zero_digit};
-ghost use Rattle.interpolator_digits.specs.Digits.{digit_text};
 ghost use Rattle.interpolator_digits.specs.Exponent.{exponent_of, nearest, rounding, scientific};
 ghost use Rattle.interpolator_digits.specs.Exponent.{significant_digits};
+ghost use Rattle.interpolator_digits.specs.{Characters.zero_digit, Digits.digit_text};
 
 use crate::digits::GREATEST_U64;
 

@@ -1,10 +1,9 @@
 //! A writer that keeps its text in memory.
-ghost use Rattle.std.specs.Prelude.{◌≡◌, ◌+◌, ◌<◌, ◌≤◌, ◌∷◌, [], false, length};
-ghost use Rattle.std.specs.Prelude.{encode_utf8, string_bytes, string_capacity};
-ghost use Rattle.std.specs.Prelude.{MatchResult, OnOk, OnErr, None};
+ghost use Rattle.std.specs.Prelude.{◌≡◌, ◌+◌, ◌<◌, ◌≤◌, ◌∷◌, [], false, length, encode_utf8};
+ghost use Rattle.std.specs.Prelude.{string_bytes, string_capacity, MatchResult, OnOk, OnErr, None};
 ghost use Rattle.std.specs.Str.{chars};
-ghost use Rattle.interpolator_render.specs.Written.{Appends, Refuses, RefusesWhole};
-ghost use Rattle.interpolator_render.specs.Written.{as_writer, byte_count, MayRefuse, plain};
+ghost use Rattle.interpolator_render.specs.Written.{Appends, Refuses, RefusesWhole, as_writer};
+ghost use Rattle.interpolator_render.specs.Written.{byte_count, MayRefuse, plain};
 
 use crate::places::{make_ready, put_at};
 use crate::text_write::{Refusal, TextWrite};

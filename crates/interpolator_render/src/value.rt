@@ -1,13 +1,11 @@
 //! Values that have a view.
 ghost use Rattle.std.specs.Prelude.{◌≡◌, string_bytes};
-ghost use Rattle.std.specs.Float.{binary32, binary64};
-ghost use Rattle.std.specs.Str.{chars};
+ghost use Rattle.std.specs.{Float.binary32, Float.binary64, Str.chars};
 ghost use Rattle.interpolator_render.specs.declared.view.Bits.TheVariants.{B8, B16, B32, B64, B128};
-ghost use Rattle.interpolator_render.specs.declared.view.Spec.{Spec};
-ghost use Rattle.interpolator_render.specs.declared.view.Trait.{Trait};
 ghost use Rattle.interpolator_render.specs.Views.{IsInRange, Shown, shown_by, signed_number};
 ghost use Rattle.interpolator_render.specs.Views.{unsigned_number, truth_value, one_character};
 ghost use Rattle.interpolator_render.specs.Views.{float_number, some_text, shown_as_value};
+ghost use Rattle.interpolator_render.specs.{declared.view.Spec.Spec, declared.view.Trait.Trait};
 
 use crate::view::{Bits, Spec, Trait, View};
 

@@ -1,13 +1,11 @@
 -- What `==` of the parts of an argument tests, part by part.
-use Rattle.std.proofs.lemmas.Grind.{common_steps}
 use Rattle.std.proofs.Common.{◌≡◌, rules, arith, Bool, Option, Decides, int_eq, option_map}
 use Rattle.std.proofs.lemmas.Bool.Decides.{Decides-and, Decides-eqb}
-use Rattle.std.proofs.lemmas.Slice.Eq.{bytes_eq-Decides}
+use Rattle.std.proofs.{lemmas.Grind.common_steps, lemmas.Slice.Eq.bytes_eq-Decides}
 use Rattle.std.specs.Option.{option_eq}
 use denote.Enum.Bare.{same_true, true_same}
 use Rattle.interpolator_render.specs.contracts.view.Trait.{the_type as traits}
-use Rattle.interpolator_render.specs.declared.view.Spec.{Spec}
-use Rattle.interpolator_render.specs.declared.view.Trait.{Trait}
+use Rattle.interpolator_render.specs.{declared.view.Spec.Spec, declared.view.Trait.Trait}
 use Rattle.interpolator_render.proofs.SpecLemmas.{same_fields, same_from_fields, fields_from_same}
 use Rattle.interpolator_syntax.specs.InBytes.{argument_in_bytes, group_in_bytes, kind_in_bytes}
 use Rattle.interpolator_syntax.specs.declared.argument.Kind.TheVariants.{Value, List as ListKind}

@@ -1,9 +1,8 @@
 -- The longest front of one class, and the rest after it.
-use Rattle.std.proofs.lemmas.Grind.{common_steps}
 use Rattle.std.proofs.Common.{IsCharBoundary, length-append, append_assoc, encode_utf8, length, ◌≡◌}
 use Rattle.std.proofs.Common.{IsUtf8, arith, chars, Bool, List, ◌++◌, take, refl, ◌-◌, ◌∷◌, [], ℕ}
 use Rattle.std.proofs.lemmas.Str.{chars-append, IsCharBoundary-at_seam, IsUtf8-take}
-use Rattle.std.proofs.lemmas.List.{append_cancel_right}
+use Rattle.std.proofs.{lemmas.Grind.common_steps, lemmas.List.append_cancel_right}
 use Rattle.std.proofs.Math.Seq.{take-append_seam}
 use Rattle.interpolator_syntax.specs.Classes.{front_of, after_of}
 

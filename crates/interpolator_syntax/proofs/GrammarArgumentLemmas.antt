@@ -6,16 +6,13 @@ use Rattle.interpolator_syntax.specs.Classes.{front_of, in_class, close_brace, c
 use Rattle.interpolator_syntax.specs.Readers.{on, give}
 use Rattle.interpolator_syntax.specs.SpecTexts.{Request, spec_after}
 use Rattle.interpolator_syntax.specs.Arguments.{Argument, argument, asked_by, asked_at, argument_at}
-use Rattle.interpolator_syntax.specs.Faults.{Fault}
-use Rattle.interpolator_syntax.specs.Grammar.{NotFirst}
-use Rattle.interpolator_syntax.specs.GrammarParts.{Lies}
 use Rattle.interpolator_syntax.specs.ArgumentGrammar.{IsNamed, Asks, AsksNothing, request_in}
 use Rattle.interpolator_syntax.specs.ArgumentGrammar.{IsArgument, IsNoArgument}
 use Rattle.interpolator_syntax.specs.declared.class.Class.TheVariants.{WhiteSpace, Name}
-use Rattle.interpolator_syntax.proofs.FrontLemmas.{front_after}
+use Rattle.interpolator_syntax.specs.{Faults.Fault, Grammar.NotFirst, GrammarParts.Lies}
 use Rattle.interpolator_syntax.proofs.LongestLemmas.{at_same, front_longest, longest_front}
 use Rattle.interpolator_syntax.proofs.GrammarPartLemmas.{ok_pair, Stripped, stripped}
-use Rattle.interpolator_syntax.proofs.GrammarSpecLemmas.{law_spec}
+use Rattle.interpolator_syntax.proofs.{FrontLemmas.front_after, GrammarSpecLemmas.law_spec}
 use Rattle.interpolator_syntax.proofs.LocalLemmas.{still}
 
 -- ---- the name

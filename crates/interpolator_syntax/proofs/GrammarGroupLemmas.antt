@@ -4,20 +4,17 @@ use Rattle.std.proofs.Common.{arith, refl, ap, ◌∙◌, Ok, Err, Option, Some,
 use Rattle.std.proofs.Common.{ne_eqb, append-nil, eqb-true}
 use Rattle.std.proofs.lemmas.Bool.{eqb-false, cond_both}
 use Rattle.std.specs.Char.{len_utf8}
-use Rattle.interpolator_syntax.specs.At.{At, size, first_of}
 use Rattle.interpolator_syntax.specs.Classes.{front_of, after_of, in_class, hash, open_bracket}
 use Rattle.interpolator_syntax.specs.Classes.{close_bracket}
 use Rattle.interpolator_syntax.specs.Groups.{Group, after_hashes, here_or_later, close_from}
 use Rattle.interpolator_syntax.specs.Groups.{closed_group, bracket_first, group_at}
 use Rattle.interpolator_syntax.specs.GroupGrammar.{sign_text, open_text, close_text, NoneCloses}
 use Rattle.interpolator_syntax.specs.GroupGrammar.{IsGroup, IsNoGroup, ends, no_bracket, no_end}
-use Rattle.interpolator_syntax.specs.ListGrammar.{group}
-use Rattle.interpolator_syntax.specs.Faults.{Fault}
+use Rattle.interpolator_syntax.specs.{At.At, At.size, At.first_of, ListGrammar.group, Faults.Fault}
 use Rattle.interpolator_syntax.specs.declared.class.Class.TheVariants.{Hash}
-use Rattle.interpolator_syntax.proofs.FrontLemmas.{front_after}
 use Rattle.interpolator_syntax.proofs.GrammarPartLemmas.{Says, Agrees}
 use Rattle.interpolator_syntax.proofs.LocalityLemmas.{size-append, stands}
-use Rattle.interpolator_syntax.proofs.CaseLemmas.{none_some}
+use Rattle.interpolator_syntax.proofs.{FrontLemmas.front_after, CaseLemmas.none_some}
 
 -- ---- signs
 

@@ -1,16 +1,14 @@
 -- At most one list of pieces is the text, each piece of the first kind that its place allows.
-use Rattle.std.proofs.lemmas.Grind.{common_steps}
 use Rattle.std.proofs.Common.{◌≡◌, ℕ, ◌+◌, IsTrue, List, [], ◌∷◌, ◌++◌, arith, refl, sym, Result}
 use Rattle.std.proofs.Common.{Ok, Err, append_assoc, append-nil, flat_map}
-use Rattle.std.proofs.lemmas.List.{append_cancel_right}
-use Rattle.interpolator_syntax.specs.At.{At, size}
+use Rattle.std.proofs.{lemmas.Grind.common_steps, lemmas.List.append_cancel_right}
 use Rattle.interpolator_syntax.specs.Classes.{open_brace, close_brace, is_brace}
-use Rattle.interpolator_syntax.specs.Arguments.{Argument, argument_at}
-use Rattle.interpolator_syntax.specs.Faults.{Fault}
 use Rattle.interpolator_syntax.specs.Pieces.{PieceKind, Piece, literal, doubled, lone_close, closed}
 use Rattle.interpolator_syntax.specs.Pieces.{unclosed, broken}
 use Rattle.interpolator_syntax.specs.Grammar.{from_place, NotFirst, Fits, Stands, StandsFirst}
 use Rattle.interpolator_syntax.specs.Grammar.{IsPieces}
+use Rattle.interpolator_syntax.specs.{At.At, At.size, Arguments.Argument, Arguments.argument_at}
+use Rattle.interpolator_syntax.specs.Faults.{Fault}
 
 -- what a piece of this kind in front of this rest says about a text that begins with c at p
 abbrev pub Shows : (p c : ℕ) (cs : List ℕ) → PieceKind → (rest : List ℕ) → Type 0

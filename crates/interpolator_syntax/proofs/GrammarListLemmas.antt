@@ -3,29 +3,25 @@
 use Rattle.std.proofs.Common.{rules, ◌≡◌, ℕ, ◌+◌, Bool, List, ◌∷◌, arith, refl, Option, Some, None}
 use Rattle.std.proofs.Common.{option_map}
 use Rattle.interpolator_render.specs.declared.view.Trait.{Trait}
-use Rattle.interpolator_syntax.specs.Classes.{point, equals}
 use Rattle.interpolator_syntax.specs.Readers.{◌>>=◌, give, flag}
 use Rattle.interpolator_syntax.specs.Ranges.{second_point, first_point, points as read_points}
 use Rattle.interpolator_syntax.specs.Ranges.{upper_at, range_at}
-use Rattle.interpolator_syntax.specs.Groups.{group_at, group_if}
-use Rattle.interpolator_syntax.specs.Lists.{list_at}
 use Rattle.interpolator_syntax.specs.SpecTexts.{of_value, of_list, kind_at}
 use Rattle.interpolator_syntax.specs.ListGrammar.{points, upper, range, opens_group, group}
 use Rattle.interpolator_syntax.specs.ListGrammar.{group_there, list}
-use Rattle.interpolator_syntax.specs.SpecGrammar.{kind}
 use Rattle.interpolator_syntax.specs.Moved.{moved_group, moved_list, moved_kind}
-use Rattle.interpolator_syntax.proofs.CaseLemmas.{tail_same}
-use Rattle.interpolator_syntax.proofs.GrammarGroupLemmas.{agrees_group}
+use Rattle.interpolator_syntax.specs.{Classes.point, Classes.equals, Groups.group_at}
+use Rattle.interpolator_syntax.specs.{Groups.group_if, Lists.list_at, SpecGrammar.kind}
 use Rattle.interpolator_syntax.proofs.GrammarOptionLemmas.{law_where, law_bound}
 use Rattle.interpolator_syntax.proofs.GrammarPartLemmas.{ok_pair, Agrees, stripped, strip_not}
-use Rattle.interpolator_syntax.proofs.GroupReaderLemmas.{reads_group}
 use Rattle.interpolator_syntax.proofs.LocalLemmas.{Setting, stays, elsewhere, IsSettled, Reads}
 use Rattle.interpolator_syntax.proofs.LocalLemmas.{local_stay, local_strip, local_strip_at}
 use Rattle.interpolator_syntax.proofs.LocalLemmas.{local_on, reads_then}
-use Rattle.interpolator_syntax.proofs.LocalityLemmas.{takes_then}
-use Rattle.interpolator_syntax.proofs.LongestLemmas.{at_same}
 use Rattle.interpolator_syntax.proofs.SimpleReaderLemmas.{law_of, reads_give, law_flag, Law}
 use Rattle.interpolator_syntax.proofs.SimpleReaderLemmas.{law_then, law_same, law_ends}
+use Rattle.interpolator_syntax.proofs.{CaseLemmas.tail_same, GrammarGroupLemmas.agrees_group}
+use Rattle.interpolator_syntax.proofs.{GroupReaderLemmas.reads_group, LocalityLemmas.takes_then}
+use Rattle.interpolator_syntax.proofs.LongestLemmas.{at_same}
 use Rattle.interpolator_render.specs.declared.view.Trait.TheVariants as traits
 
 -- ---- points

@@ -3,20 +3,18 @@ use Rattle.std.proofs.Common.{rules, ◌≡◌, ℕ, ◌+◌, ◌*◌, ◌^◌, 
 use Rattle.std.proofs.Common.{List, [], ◌∷◌, ◌++◌, length, arith, refl, ◌≢◌, subst, Result, Ok, Err}
 use Rattle.std.proofs.Common.{inl, inr, eqb-true, append-nil, append_assoc, ℤ, pos, length-append}
 use Rattle.std.proofs.Common.{pow-suc, le-mul_of_pos_right}
-use Rattle.std.proofs.lemmas.Grind.{common_steps}
-use Rattle.std.specs.Char.{is_ascii_digit}
 use Rattle.std.proofs.lemmas.Bool.{eqb-false, cond_both}
 use Rattle.std.proofs.lemmas.List.Elements.{All-nil, All-cons, All-head, All-tail, All-append}
-use Rattle.std.proofs.Math.Nat.{one-le-pow}
-use Rattle.interpolator_syntax.specs.Classes.{minus}
+use Rattle.std.proofs.{lemmas.Grind.common_steps, Math.Nat.one-le-pow}
+use Rattle.std.specs.Char.{is_ascii_digit}
 use Rattle.interpolator_syntax.specs.Numbers.{with_digit, digits_after, natural, with_sign}
 use Rattle.interpolator_syntax.specs.Numbers.{negation, negative, integer}
 use Rattle.interpolator_syntax.specs.NumberGrammar.{decimal_value, AreDigits, IsNumber, IsStopped}
 use Rattle.interpolator_syntax.specs.NumberGrammar.{IsStop, IsNoNumber, IsSigned, Spelling}
 use Rattle.interpolator_syntax.specs.NumberGrammar.{naturals, integers}
-use Rattle.interpolator_syntax.specs.declared.error.NumberError.{NumberError}
 use Rattle.interpolator_syntax.specs.declared.error.NumberError.TheVariants.{Empty, PosOverflow}
 use Rattle.interpolator_syntax.specs.declared.error.NumberError.TheVariants.{NegOverflow}
+use Rattle.interpolator_syntax.specs.{Classes.minus, declared.error.NumberError.NumberError}
 
 abbrev Digit : ℕ → Type 0
 Digit c = IsTrue (is_ascii_digit c)

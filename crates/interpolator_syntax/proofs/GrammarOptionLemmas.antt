@@ -1,27 +1,6 @@
 -- Parts that may be absent, and numbers: the laws of their readers.
 use Rattle.interpolator_syntax.proofs.LocalLemmas.{nothing_more, Setting, stays, elsewhere, IsLocal}
 use Rattle.interpolator_syntax.proofs.LocalLemmas.{IsSettled, local_stay, local_strip, local_on}
-use Rattle.std.proofs.Common.{◌≡◌, ℕ, ◌+◌, Bool, cond, List, arith, refl, Result, Ok, Err, Option}
-use Rattle.std.proofs.Common.{Some, None}
-use Rattle.std.specs.Char.{is_ascii_digit}
-use Rattle.std.proofs.lemmas.Bool.{cond_both}
-use Rattle.interpolator_syntax.specs.At.{At, first, strip}
-use Rattle.interpolator_syntax.specs.Numbers.{natural, integer}
-use Rattle.interpolator_syntax.specs.Readers.{Reader, ◌>>=◌ as ◌>>>◌, run as read_run}
-use Rattle.interpolator_syntax.specs.Classes.{in_class, point}
-use Rattle.interpolator_syntax.specs.SpecTexts.{number_or, number_at, width_at, if_point}
-use Rattle.interpolator_syntax.specs.SpecTexts.{precision_at}
-use Rattle.interpolator_syntax.specs.Ranges.{bound_or, bound_if}
-use Rattle.interpolator_syntax.specs.NumberGrammar.{Spelling, naturals, integers}
-use Rattle.interpolator_syntax.specs.GrammarParts.{Part, where_first, where_after, spelling_of}
-use Rattle.interpolator_syntax.specs.GrammarParts.{number}
-use Rattle.interpolator_syntax.specs.SpecGrammar.{width, precision}
-use Rattle.interpolator_syntax.specs.ListGrammar.{bound}
-use Rattle.interpolator_syntax.specs.Faults.{Fault, ParseFault, parse, parse_place, range_bound}
-use Rattle.interpolator_syntax.specs.Faults.{invalid_width, invalid_precision}
-use Rattle.interpolator_syntax.specs.Moved.{moved_parse_fault}
-use Rattle.interpolator_syntax.specs.declared.error.NumberError.{NumberError}
-use Rattle.interpolator_syntax.specs.declared.class.Class.TheVariants.{Number}
 use Rattle.interpolator_syntax.proofs.CaseLemmas.{head_same}
 use Rattle.interpolator_syntax.proofs.GrammarNumberLemmas.{Tells, Decides, naturals_decide}
 use Rattle.interpolator_syntax.proofs.GrammarNumberLemmas.{integers_decide}
@@ -30,6 +9,25 @@ use Rattle.interpolator_syntax.proofs.GrammarPartLemmas.{agrees_same, agrees_pla
 use Rattle.interpolator_syntax.proofs.GrammarPartLemmas.{stripped, strip_lies, strip_not}
 use Rattle.interpolator_syntax.proofs.LocalityLemmas.{Takes, takes_none}
 use Rattle.interpolator_syntax.proofs.SimpleReaderLemmas.{law_of, reads_run, Law, law_same}
+use Rattle.std.proofs.Common.{◌≡◌, ℕ, ◌+◌, Bool, cond, List, arith, refl, Result, Ok, Err, Option}
+use Rattle.std.proofs.Common.{Some, None}
+use Rattle.std.proofs.lemmas.Bool.{cond_both}
+use Rattle.std.specs.Char.{is_ascii_digit}
+use Rattle.interpolator_syntax.specs.At.{At, first, strip}
+use Rattle.interpolator_syntax.specs.Readers.{Reader, ◌>>=◌ as ◌>>>◌, run as read_run}
+use Rattle.interpolator_syntax.specs.SpecTexts.{number_or, number_at, width_at, if_point}
+use Rattle.interpolator_syntax.specs.SpecTexts.{precision_at}
+use Rattle.interpolator_syntax.specs.NumberGrammar.{Spelling, naturals, integers}
+use Rattle.interpolator_syntax.specs.GrammarParts.{Part, where_first, where_after, spelling_of}
+use Rattle.interpolator_syntax.specs.GrammarParts.{number}
+use Rattle.interpolator_syntax.specs.Faults.{Fault, ParseFault, parse, parse_place, range_bound}
+use Rattle.interpolator_syntax.specs.Faults.{invalid_width, invalid_precision}
+use Rattle.interpolator_syntax.specs.{Numbers.natural, Numbers.integer, Classes.in_class}
+use Rattle.interpolator_syntax.specs.{Classes.point, Ranges.bound_or, Ranges.bound_if}
+use Rattle.interpolator_syntax.specs.{SpecGrammar.width, SpecGrammar.precision, ListGrammar.bound}
+use Rattle.interpolator_syntax.specs.Moved.{moved_parse_fault}
+use Rattle.interpolator_syntax.specs.declared.error.NumberError.{NumberError}
+use Rattle.interpolator_syntax.specs.declared.class.Class.TheVariants.{Number}
 
 -- ---- a part that is there if a character that passes comes first
 

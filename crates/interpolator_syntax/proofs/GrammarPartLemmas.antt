@@ -3,14 +3,12 @@ use Rattle.std.proofs.Common.{◌≡◌, ℕ, ◌+◌, List, [], ◌∷◌, arit
 use Rattle.std.proofs.Common.{Option, Some, None, eqb-true}
 use Rattle.std.specs.Char.{len_utf8}
 use Rattle.interpolator_syntax.specs.At.{At, size, first, strip, after}
-use Rattle.interpolator_syntax.specs.Classes.{front_of, in_class}
 use Rattle.interpolator_syntax.specs.Readers.{Reader, ◌>>=◌ as ◌>>>◌, give, letter as read_letter}
 use Rattle.interpolator_syntax.specs.Readers.{flag as read_flag, run_before, run as read_run}
-use Rattle.interpolator_syntax.specs.Grammar.{from_place, NotFirst}
 use Rattle.interpolator_syntax.specs.GrammarParts.{Part, ◌>>=◌, ends, at_place, Lies, letter, flag}
 use Rattle.interpolator_syntax.specs.GrammarParts.{IsRun, run}
-use Rattle.interpolator_syntax.specs.Faults.{Fault}
-use Rattle.interpolator_syntax.specs.declared.class.Class.{Class}
+use Rattle.interpolator_syntax.specs.{Classes.front_of, Classes.in_class, Grammar.from_place}
+use Rattle.interpolator_syntax.specs.{Grammar.NotFirst, Faults.Fault, declared.class.Class.Class}
 use Rattle.interpolator_syntax.proofs.LongestLemmas.{at_same, front_longest, longest_front}
 use Rattle.interpolator_syntax.proofs.CaseLemmas.{head_same}
 

@@ -4,18 +4,16 @@ use Rattle.std.proofs.Common.{arith, refl, ap, sym, Result, Ok, Option, Some, No
 use Rattle.std.proofs.Common.{append-nil, eqb-true}
 use Rattle.std.proofs.lemmas.Bool.{eqb-false, cond_both}
 use Rattle.interpolator_syntax.specs.At.{At, size, strip, strip_of}
-use Rattle.interpolator_syntax.specs.Classes.{open_brace, close_brace}
-use Rattle.interpolator_syntax.specs.Arguments.{Argument, argument_at}
-use Rattle.interpolator_syntax.specs.Faults.{Fault}
 use Rattle.interpolator_syntax.specs.Pieces.{PieceKind, Step, argument_step, argument_or_broken}
 use Rattle.interpolator_syntax.specs.Pieces.{argument_from, open_step, close_step, piece_from, past}
 use Rattle.interpolator_syntax.specs.Pieces.{pieces}
 use Rattle.interpolator_syntax.specs.Grammar.{rank, from_place, NotFirst, Fits, IsPieces}
+use Rattle.interpolator_syntax.specs.{Classes.open_brace, Classes.close_brace, Arguments.Argument}
+use Rattle.interpolator_syntax.specs.{Arguments.argument_at, Faults.Fault}
 use Rattle.interpolator_syntax.proofs.PieceLemmas.{piece_within, pieces_none, pieces_next}
 use Rattle.interpolator_syntax.proofs.PieceLemmas.{strip_after, closed_text}
-use Rattle.interpolator_syntax.proofs.CaseLemmas.{err_ok}
 use Rattle.interpolator_syntax.proofs.GrammarLemmas.{Shows, stands_shown, same_ok}
-use Rattle.interpolator_syntax.proofs.LocalityLemmas.{size-append}
+use Rattle.interpolator_syntax.proofs.{CaseLemmas.err_ok, LocalityLemmas.size-append}
 use Rattle.interpolator_syntax.proofs.ReaderLemmas.{argument_takes}
 
 -- stripping a text that begins with the character c

@@ -3,30 +3,26 @@ use Rattle.std.proofs.Common.{◌≡◌, ℕ, ◌+◌, true, eqb, eqb-true, List
 use Rattle.std.proofs.Common.{◌∙◌, sym, Result, Ok, Option, None, inl, inr, ◌||◌, ne_eqb}
 use Rattle.std.specs.Char.{len_utf8}
 use Rattle.interpolator_render.specs.declared.view.Alignment.{Alignment}
-use Rattle.interpolator_syntax.specs.At.{At}
 use Rattle.interpolator_syntax.specs.Classes.{is_alignment, hash, zero_digit, close_brace}
 use Rattle.interpolator_syntax.specs.SpecTexts.{Request, plain_display, alignment_letter}
 use Rattle.interpolator_syntax.specs.SpecTexts.{sign_letter, spec_from_sign, spec_from_alignment}
 use Rattle.interpolator_syntax.specs.SpecTexts.{fill_or_fault, fill_of, fill_at, spec_parts}
 use Rattle.interpolator_syntax.specs.SpecTexts.{spec_of, spec_after}
-use Rattle.interpolator_syntax.specs.Grammar.{from_place}
 use Rattle.interpolator_syntax.specs.GrammarParts.{◌>>=◌, letter}
 use Rattle.interpolator_syntax.specs.SpecGrammar.{from_sign, Fills, NoneFills, fill, parts}
 use Rattle.interpolator_syntax.specs.SpecGrammar.{IsUnread, spec}
-use Rattle.interpolator_syntax.specs.Faults.{Fault}
-use Rattle.interpolator_syntax.specs.Moved.{moved_kind}
-use Rattle.interpolator_syntax.proofs.GrammarListLemmas.{law_kind}
+use Rattle.interpolator_syntax.specs.{At.At, Grammar.from_place, Faults.Fault, Moved.moved_kind}
 use Rattle.interpolator_syntax.proofs.GrammarOptionLemmas.{law_width, law_precision}
 use Rattle.interpolator_syntax.proofs.GrammarPartLemmas.{ok_pair, Says, Agrees, agrees_then}
 use Rattle.interpolator_syntax.proofs.GrammarPartLemmas.{lies_here}
-use Rattle.interpolator_syntax.proofs.GrammarTraitLemmas.{law_trait}
 use Rattle.interpolator_syntax.proofs.LocalLemmas.{Setting, still, stays, elsewhere, IsSettled}
 use Rattle.interpolator_syntax.proofs.LocalLemmas.{nothing_more, IsLocal, local_stay, local_either}
 use Rattle.interpolator_syntax.proofs.LocalLemmas.{local_then}
 use Rattle.interpolator_syntax.proofs.LocalityLemmas.{stands, takes_none, takes_one}
-use Rattle.interpolator_syntax.proofs.LongestLemmas.{at_same}
 use Rattle.interpolator_syntax.proofs.SimpleReaderLemmas.{law_of, Law, law_then, law_ends}
 use Rattle.interpolator_syntax.proofs.SimpleReaderLemmas.{law_letter, law_flag}
+use Rattle.interpolator_syntax.proofs.{GrammarListLemmas.law_kind, GrammarTraitLemmas.law_trait}
+use Rattle.interpolator_syntax.proofs.LongestLemmas.{at_same}
 use Rattle.interpolator_render.specs.declared.view.Alignment.TheVariants as alignments
 use Rattle.interpolator_render.specs.declared.view.Sign.TheVariants as signs
 

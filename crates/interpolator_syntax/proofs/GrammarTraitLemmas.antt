@@ -2,20 +2,17 @@
 use Rattle.std.proofs.Common.{◌≡◌, ◌≢◌, ℕ, ◌+◌, Bool, true, false, eqb, All, List, [], ◌∷◌, arith}
 use Rattle.std.proofs.Common.{refl, Result, Ok, Err, Option, Some, eqb-true, get_or, ltb, cond}
 use Rattle.std.proofs.Common.{codes, ne_eqb, ltb-true}
-use Rattle.std.proofs.lemmas.Grind.{common_steps}
-use Rattle.std.specs.Char.{len_utf8}
 use Rattle.std.proofs.lemmas.Bool.{eqb-false, cond_both}
-use Rattle.std.proofs.lemmas.List.Elements.{All-get_or}
-use Rattle.interpolator_render.specs.declared.view.Trait.{Trait}
-use Rattle.interpolator_render.specs.declared.view.HexDebug.{HexDebug}
-use Rattle.interpolator_syntax.specs.At.{At, strip}
+use Rattle.std.proofs.{lemmas.Grind.common_steps, lemmas.List.Elements.All-get_or}
+use Rattle.std.specs.Char.{len_utf8}
+use Rattle.interpolator_render.specs.{declared.view.Trait.Trait, declared.view.HexDebug.HexDebug}
 use Rattle.interpolator_syntax.specs.Classes.{close_brace, question_mark, lower_x, upper_x}
 use Rattle.interpolator_syntax.specs.SpecTexts.{Wanted, trait_alone, hexadecimal, trait_letter}
 use Rattle.interpolator_syntax.specs.SpecTexts.{letter_trait, trait_from, trait_first, trait_at}
-use Rattle.interpolator_syntax.specs.Grammar.{from_place, NotFirst}
-use Rattle.interpolator_syntax.specs.GrammarParts.{Lies}
 use Rattle.interpolator_syntax.specs.SpecGrammar.{trait_text, MayEnd, AsksDisplay, trait_part}
 use Rattle.interpolator_syntax.specs.Faults.{Fault, parse, expected}
+use Rattle.interpolator_syntax.specs.{At.At, At.strip, Grammar.from_place, Grammar.NotFirst}
+use Rattle.interpolator_syntax.specs.GrammarParts.{Lies}
 use Rattle.interpolator_syntax.proofs.GrammarPartLemmas.{ok_pair, Says, Agrees, lies_here, lies_end}
 use Rattle.interpolator_syntax.proofs.GrammarPartLemmas.{lies_cons, Stripped, stripped, strip_not}
 use Rattle.interpolator_syntax.proofs.CaseLemmas.{none_some, some_same}

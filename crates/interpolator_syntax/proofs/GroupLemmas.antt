@@ -1,7 +1,6 @@
 -- Where a group closes.
 use Rattle.std.proofs.Common.{◌≡◌, ℕ, zero, suc, ◌+◌, ◌-◌, ◌<◌, ◌≤◌, List, [], ◌∷◌, ◌++◌, length}
-use Rattle.std.proofs.Common.{take}
-use Rattle.std.proofs.Common.{arith, refl, ◌∙◌, Option, Some, None, append_assoc, append-nil}
+use Rattle.std.proofs.Common.{take, arith, refl, ◌∙◌, Option, Some, None, append_assoc, append-nil}
 use Rattle.std.proofs.Common.{length-append, eqb-true, chars, IsUtf8}
 use Rattle.std.proofs.lemmas.List.{append_cancel_right}
 use Rattle.std.proofs.lemmas.Str.{encodes-chars, encodes-append, IsUtf8-take, chars-append}
@@ -11,11 +10,10 @@ use Rattle.interpolator_syntax.specs.Classes.{front_of, after_of, in_class, hash
 use Rattle.interpolator_syntax.specs.Groups.{Reached, ReachesNext, after_front, after_hashes}
 use Rattle.interpolator_syntax.specs.Groups.{close_from, here_or_later, next_close}
 use Rattle.interpolator_syntax.specs.declared.class.Class.TheVariants.{Hash, Enclosed}
-use Rattle.interpolator_syntax.proofs.CharacterLemmas.{size-chars}
-use Rattle.interpolator_syntax.proofs.FrontLemmas.{IsRest, front_after, rest_boundary, cut_at_rest}
 use Rattle.interpolator_syntax.specs.Grammar.{IsLongest}
-use Rattle.interpolator_syntax.proofs.LongestLemmas.{front_longest}
+use Rattle.interpolator_syntax.proofs.FrontLemmas.{IsRest, front_after, rest_boundary, cut_at_rest}
 use Rattle.interpolator_syntax.proofs.CaseLemmas.{none_some, some_same}
+use Rattle.interpolator_syntax.proofs.{CharacterLemmas.size-chars, LongestLemmas.front_longest}
 
 -- ---- signs
 

@@ -1,19 +1,16 @@
 -- The reader of a group is local.
 use Rattle.std.proofs.Common.{◌≡◌, ℕ, zero, suc, ◌+◌, eqb, List, [], ◌∷◌, ◌++◌, length, arith, refl}
 use Rattle.std.proofs.Common.{Some, append_assoc, Option, append-nil}
-use Rattle.interpolator_syntax.specs.At.{At}
-use Rattle.interpolator_syntax.specs.Classes.{open_bracket, close_bracket}
 use Rattle.interpolator_syntax.specs.Groups.{close_from, closed_group, bracket_first, bracket_at}
 use Rattle.interpolator_syntax.specs.Groups.{group_at}
 use Rattle.interpolator_syntax.specs.GroupGrammar.{sign_text, close_text, NoneCloses}
-use Rattle.interpolator_syntax.specs.Moved.{moved_group}
-use Rattle.interpolator_syntax.specs.declared.class.Class.TheVariants.{Hash}
+use Rattle.interpolator_syntax.specs.{At.At, Classes.open_bracket, Classes.close_bracket}
+use Rattle.interpolator_syntax.specs.{Moved.moved_group, declared.class.Class.TheVariants.Hash}
 use Rattle.interpolator_syntax.proofs.GrammarGroupLemmas.{IsClose, Closes, close_says, only_close}
 use Rattle.interpolator_syntax.proofs.GrammarGroupLemmas.{only_no_close, close_size}
 use Rattle.interpolator_syntax.proofs.LocalLemmas.{Setting, elsewhere, IsLocal, Reads, local_past}
 use Rattle.interpolator_syntax.proofs.LocalLemmas.{local_either, local_first, reads_then}
-use Rattle.interpolator_syntax.proofs.LocalityLemmas.{Takes}
-use Rattle.interpolator_syntax.proofs.SimpleReaderLemmas.{reads_span}
+use Rattle.interpolator_syntax.proofs.{LocalityLemmas.Takes, SimpleReaderLemmas.reads_span}
 
 -- signs in front of a bracket are the same whatever comes after the bracket
 signs_before :

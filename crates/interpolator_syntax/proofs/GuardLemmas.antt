@@ -8,20 +8,16 @@ use Rattle.interpolator_render.specs.declared.view.Alignment.{Alignment}
 use Rattle.interpolator_render.specs.declared.view.Alignment.TheVariants as alignments
 use Rattle.interpolator_render.specs.declared.view.HexDebug.{HexDebug}
 use Rattle.interpolator_render.specs.declared.view.Sign.TheVariants as signs
-use Rattle.interpolator_syntax.specs.At.{At}
 use Rattle.interpolator_syntax.specs.Classes.{hash, zero_digit, colon}
-use Rattle.interpolator_syntax.specs.Arguments.{Argument, argument_at}
-use Rattle.interpolator_syntax.specs.ArgumentGrammar.{Asks, request_in}
-use Rattle.interpolator_syntax.specs.Groups.{Group}
-use Rattle.interpolator_syntax.specs.GroupGrammar.{IsGroup}
 use Rattle.interpolator_syntax.specs.GrammarParts.{Part, ◌>>=◌, Lies}
-use Rattle.interpolator_syntax.specs.ListGrammar.{group_there, IsList}
-use Rattle.interpolator_syntax.specs.Lists.{ListRequest}
-use Rattle.interpolator_syntax.specs.Readers.{Reader}
 use Rattle.interpolator_syntax.specs.SpecGrammar.{kind, from_sign, fill, parts, trait_part}
 use Rattle.interpolator_syntax.specs.SpecGrammar.{trait_text, IsSpec}
 use Rattle.interpolator_syntax.specs.SpecTexts.{Kind, of_value, of_list, Request, Wanted}
 use Rattle.interpolator_syntax.specs.SpecTexts.{alignment_letter, sign_letter}
+use Rattle.interpolator_syntax.specs.{At.At, Arguments.Argument, Arguments.argument_at}
+use Rattle.interpolator_syntax.specs.{ArgumentGrammar.Asks, ArgumentGrammar.request_in}
+use Rattle.interpolator_syntax.specs.{Groups.Group, GroupGrammar.IsGroup, ListGrammar.group_there}
+use Rattle.interpolator_syntax.specs.{ListGrammar.IsList, Lists.ListRequest, Readers.Reader}
 use Rattle.interpolator_syntax.proofs.GrammarArgumentLemmas.{argument_is}
 use Rattle.interpolator_syntax.proofs.GrammarListLemmas.{law_range, law_group}
 use Rattle.interpolator_syntax.proofs.GrammarOptionLemmas.{law_width, law_precision}

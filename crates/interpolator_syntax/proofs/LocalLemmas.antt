@@ -4,10 +4,9 @@ use Rattle.std.proofs.Common.{◌≡◌, ℕ, ◌+◌, ◌≤◌, Bool, cond, Li
 use Rattle.std.proofs.Common.{Result, Ok, Err, Option, Some, None, inl, inr, ◌⊎◌, eqb-true}
 use Rattle.std.specs.Char.{len_utf8}
 use Rattle.interpolator_syntax.specs.At.{At, size, first, first_of, strip_of}
-use Rattle.interpolator_syntax.specs.ArgumentFaults.{IsArgumentFault}
 use Rattle.interpolator_syntax.specs.Readers.{Reader, on, ◌>>=◌}
 use Rattle.interpolator_syntax.specs.Faults.{Fault, fault_place}
-use Rattle.interpolator_syntax.specs.Moved.{moved_fault}
+use Rattle.interpolator_syntax.specs.{ArgumentFaults.IsArgumentFault, Moved.moved_fault}
 use Rattle.interpolator_syntax.proofs.LocalityLemmas.{Takes, stands, takes_none, takes_one, Guarded}
 use Rattle.interpolator_syntax.proofs.LocalityLemmas.{takes_then, takes_reaches, takes_guards}
 

@@ -1,14 +1,11 @@
 -- The pieces of a text: the first, and then those of the text after it.
 use Rattle.std.proofs.Common.{◌≡◌, ℕ, zero, suc, ◌<◌, ◌≤◌, List, [], ◌∷◌, length, arith, refl, ap}
 use Rattle.std.proofs.Common.{◌∙◌, sym, Option, Some, None}
-use Rattle.interpolator_syntax.specs.At.{At}
-use Rattle.interpolator_syntax.specs.Arguments.{Argument}
-use Rattle.interpolator_syntax.specs.Faults.{Fault}
 use Rattle.interpolator_syntax.specs.Pieces.{PieceKind, closed, unclosed, broken, argument_from}
-use Rattle.interpolator_syntax.specs.SpecTexts.{Kind}
 use Rattle.interpolator_syntax.specs.Tokens.{Token, first_token, past_token, argument}
 use Rattle.interpolator_syntax.specs.Nodes.{Node, argument_node, nodes, piece_node, token_node}
 use Rattle.interpolator_syntax.specs.Nodes.{leading_nodes, nodes_within}
+use Rattle.interpolator_syntax.specs.{At.At, Arguments.Argument, Faults.Fault, SpecTexts.Kind}
 use Rattle.interpolator_syntax.proofs.TokenLemmas.{token_shorter, scan_shorter}
 use Rattle.interpolator_syntax.proofs.SizeLemmas.{KindIn, argument_in}
 use Rattle.interpolator_syntax.specs.declared.piece_kind.PieceKind as told

@@ -6,14 +6,12 @@ use Rattle.interpolator_syntax.specs.At.{At, at, strip, strip_of}
 use Rattle.interpolator_syntax.specs.Classes.{after_of, open_brace, close_brace, is_brace}
 use Rattle.interpolator_syntax.specs.Arguments.{Argument, argument_at, argument_after}
 use Rattle.interpolator_syntax.specs.Arguments.{plain_argument}
-use Rattle.interpolator_syntax.specs.declared.argument.ArgumentName.{ArgumentName}
 use Rattle.interpolator_syntax.specs.Pieces.{Step, argument_from, piece_from, past, pieces_within}
 use Rattle.interpolator_syntax.specs.Pieces.{pieces, step, literal, argument_or_broken, text_up_to}
-use Rattle.interpolator_syntax.proofs.FrontLemmas.{cut_at_rest}
-use Rattle.interpolator_syntax.proofs.LocalityLemmas.{takes_shorter}
+use Rattle.interpolator_syntax.specs.{declared.argument.ArgumentName.ArgumentName, Faults.Fault}
+use Rattle.interpolator_syntax.proofs.{FrontLemmas.cut_at_rest, LocalityLemmas.takes_shorter}
 use Rattle.interpolator_syntax.proofs.ReaderLemmas.{argument_takes}
 use Rattle.std.specs.Char.{len_utf8}
-use Rattle.interpolator_syntax.specs.Faults.{Fault}
 
 pub after_shorter : (passes : ℕ → Bool) (cs : List ℕ) → length (after_of passes cs) ≤ length cs
 after_shorter passes [] = omega arith

@@ -5,13 +5,12 @@ use Rattle.std.proofs.Common.{append-nil}
 use Rattle.interpolator_syntax.specs.At.{At, size, strip}
 use Rattle.interpolator_syntax.specs.Classes.{close_brace, colon}
 use Rattle.interpolator_syntax.specs.Readers.{Reader, ◌>>=◌, give, here, span}
-use Rattle.interpolator_syntax.specs.SpecTexts.{plain_display}
 use Rattle.interpolator_syntax.specs.Arguments.{Argument, argument, asked_by, asked_at}
 use Rattle.interpolator_syntax.specs.Arguments.{argument_parts, argument_at}
-use Rattle.interpolator_syntax.specs.ArgumentFaults.{IsArgumentFault}
 use Rattle.interpolator_syntax.specs.Faults.{Fault, fault_place}
 use Rattle.interpolator_syntax.specs.Moved.{moved_at, moved_fault, moved_argument}
 use Rattle.interpolator_syntax.specs.declared.class.Class.TheVariants.{WhiteSpace, Name}
+use Rattle.interpolator_syntax.specs.{SpecTexts.plain_display, ArgumentFaults.IsArgumentFault}
 use Rattle.interpolator_syntax.proofs.GrammarSpecLemmas.{moved_request, law_spec}
 use Rattle.interpolator_syntax.proofs.LocalLemmas.{Setting, elsewhere, IsLocalValue, IsLocalFault}
 use Rattle.interpolator_syntax.proofs.LocalLemmas.{Reads, local_stay, local_strip, local_on}

@@ -10,9 +10,8 @@ use Rattle.interpolator_syntax.specs.Pieces.{Piece, Step, argument_from, open_st
 use Rattle.interpolator_syntax.specs.Pieces.{past, pieces}
 use Rattle.interpolator_syntax.specs.Tokens.{Token, open_scan, close_scan, first_token, past_token}
 use Rattle.interpolator_syntax.specs.declared.class.Class.TheVariants.{Literal}
-use Rattle.interpolator_syntax.proofs.LocalityLemmas.{stands}
-use Rattle.interpolator_syntax.proofs.LongestLemmas.{at_same}
 use Rattle.interpolator_syntax.proofs.PieceLemmas.{literal_step, pieces_none, pieces_next}
+use Rattle.interpolator_syntax.proofs.{LocalityLemmas.stands, LongestLemmas.at_same}
 
 -- the first piece of a text, and those of the text after it
 abbrev of_step : Step → List Piece

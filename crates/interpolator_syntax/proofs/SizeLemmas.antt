@@ -2,16 +2,13 @@
 use Rattle.std.proofs.Common.{◌≡◌, ℕ, ◌+◌, ◌<◌, ◌≤◌, List, [], ◌∷◌, ◌++◌, length, arith, refl, ap}
 use Rattle.std.proofs.Common.{append-nil, length-append, append_assoc, Ok, Option, Some, None}
 use Rattle.std.specs.Prelude.{⊤}
-use Rattle.interpolator_syntax.specs.At.{At, size}
-use Rattle.interpolator_syntax.specs.Classes.{close_brace, open_brace}
-use Rattle.interpolator_syntax.specs.Groups.{Group}
-use Rattle.interpolator_syntax.specs.GroupGrammar.{open_text, close_text}
-use Rattle.interpolator_syntax.specs.Lists.{ListRequest}
 use Rattle.interpolator_syntax.specs.SpecTexts.{Kind, of_value, of_list}
-use Rattle.interpolator_syntax.specs.Arguments.{Argument, argument_at}
 use Rattle.interpolator_syntax.specs.Pieces.{Piece, PieceKind, closed, unclosed, pieces, broken}
-use Rattle.interpolator_syntax.specs.Faults.{fault_place}
 use Rattle.interpolator_syntax.specs.Grammar.{Fits, Stands, IsPieces}
+use Rattle.interpolator_syntax.specs.{At.At, At.size, Classes.close_brace, Classes.open_brace}
+use Rattle.interpolator_syntax.specs.{Groups.Group, GroupGrammar.open_text, GroupGrammar.close_text}
+use Rattle.interpolator_syntax.specs.{Lists.ListRequest, Arguments.Argument, Arguments.argument_at}
+use Rattle.interpolator_syntax.specs.Faults.{fault_place}
 use Rattle.interpolator_syntax.proofs.GrammarPieceLemmas.{pieces_are}
 use Rattle.interpolator_syntax.proofs.GuardLemmas.{GroupAfter, KindAfter, no_longer, kind_grows}
 use Rattle.interpolator_syntax.proofs.GuardLemmas.{argument_after}

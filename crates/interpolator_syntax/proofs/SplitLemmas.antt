@@ -14,13 +14,12 @@ use Rattle.interpolator_syntax.specs.Splits.{literal_nodes, split_node, split_ag
 use Rattle.interpolator_syntax.specs.Splits.{begins_literal, NoTwoLiterals}
 use Rattle.interpolator_syntax.specs.declared.class.Class.TheVariants as classes
 use Rattle.interpolator_syntax.specs.declared.piece_kind.PieceKind.TheVariants.{Literal}
-use Rattle.interpolator_syntax.proofs.GrammarLemmas.{pieces_joined}
-use Rattle.interpolator_syntax.proofs.GrammarPieceLemmas.{pieces_are}
 use Rattle.interpolator_syntax.proofs.LocalityLemmas.{stands, size-append, takes_reaches}
 use Rattle.interpolator_syntax.proofs.ScanLemmas.{hands_on, hands_nothing}
 use Rattle.interpolator_syntax.proofs.NodeLemmas.{by_token, argument_kind, nodes_lead, nodes_first}
 use Rattle.interpolator_syntax.proofs.NodeLemmas.{nodes_none}
 use Rattle.interpolator_syntax.proofs.TokenTextLemmas.{takes_token, scan_taken}
+use Rattle.interpolator_syntax.proofs.{GrammarLemmas.pieces_joined, GrammarPieceLemmas.pieces_are}
 
 -- ---- nodes that are not of literals
 

@@ -6,8 +6,7 @@ use Rattle.std.proofs.lemmas.Str.{len_utf8_ascii, IsCharBoundary-after_ascii}
 use Rattle.interpolator_syntax.specs.At.{At, strip, strip_of, after}
 use Rattle.interpolator_syntax.specs.Classes.{front_of, in_class, open_brace, close_brace}
 use Rattle.interpolator_syntax.specs.Tokens.{literals, first_token}
-use Rattle.interpolator_syntax.specs.declared.class.Class.TheVariants.{Literal}
-use Rattle.interpolator_syntax.specs.Grammar.{NotFirst}
+use Rattle.interpolator_syntax.specs.{declared.class.Class.TheVariants.Literal, Grammar.NotFirst}
 
 pub strip_here : (wanted p : ℕ) (bs rest : List ℕ) → wanted < 128 → IsUtf8 bs → bs ≡ wanted ∷ rest
     → strip_of wanted p (chars bs) ≡ Some (record { place = p + 1; text = chars rest })

@@ -5,15 +5,13 @@ use Rattle.std.specs.Char.{len_utf8}
 use Rattle.interpolator_syntax.specs.At.{At, size, strip, all_after}
 use Rattle.interpolator_syntax.specs.Classes.{in_class, open_brace, close_brace}
 use Rattle.interpolator_syntax.specs.Arguments.{Argument, argument_at}
-use Rattle.interpolator_syntax.specs.Faults.{Fault}
 use Rattle.interpolator_syntax.specs.Pieces.{argument_from, argument_or_broken, argument_step}
 use Rattle.interpolator_syntax.specs.Tokens.{Token, literals, doubled, lone_close, argument}
 use Rattle.interpolator_syntax.specs.Tokens.{open_scan, close_scan, no_open_scan, scan_by}
 use Rattle.interpolator_syntax.specs.Tokens.{first_token, past_token, literal_scan}
-use Rattle.interpolator_syntax.specs.declared.class.Class.TheVariants.{Literal}
-use Rattle.interpolator_syntax.proofs.FrontLemmas.{front_after}
+use Rattle.interpolator_syntax.specs.{Faults.Fault, declared.class.Class.TheVariants.Literal}
 use Rattle.interpolator_syntax.proofs.LocalityLemmas.{Takes, takes_none, takes_then, takes_after}
-use Rattle.interpolator_syntax.proofs.PieceLemmas.{strip_after}
+use Rattle.interpolator_syntax.proofs.{FrontLemmas.front_after, PieceLemmas.strip_after}
 use Rattle.interpolator_syntax.proofs.ReaderLemmas.{argument_takes}
 
 -- the end of the text

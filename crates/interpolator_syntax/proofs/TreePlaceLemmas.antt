@@ -2,18 +2,16 @@
 use Rattle.std.proofs.Common.{◌≡◌, ℕ, ◌+◌, ◌<◌, ◌≤◌, length, arith, refl, Option, Some, None}
 use Rattle.std.proofs.Common.{Result, Ok}
 use Rattle.std.specs.Prelude.{⊤}
-use Rattle.interpolator_syntax.specs.ArgumentFaults.{IsArgumentFault}
-use Rattle.interpolator_syntax.specs.Arguments.{Argument, argument_at}
-use Rattle.interpolator_syntax.specs.At.{At, size}
-use Rattle.interpolator_syntax.specs.Faults.{Fault, fault_place}
-use Rattle.interpolator_syntax.specs.Groups.{Group, inside}
 use Rattle.interpolator_syntax.specs.Nodes.{Node, node, Branch, no_branch, branch, Forest, no_nodes}
 use Rattle.interpolator_syntax.specs.Nodes.{nodes_and, as_forest, nodes, Content, text_content}
 use Rattle.interpolator_syntax.specs.Nodes.{argument_content, fault_content, group_branch}
 use Rattle.interpolator_syntax.specs.Nodes.{item_branch, join_branch, piece_node, token_node}
 use Rattle.interpolator_syntax.specs.Pieces.{argument_from, argument_or_broken, argument_step}
-use Rattle.interpolator_syntax.specs.SpecTexts.{Kind}
 use Rattle.interpolator_syntax.specs.Tokens.{Token, argument, first_token, past_token}
+use Rattle.interpolator_syntax.specs.{ArgumentFaults.IsArgumentFault, Arguments.Argument}
+use Rattle.interpolator_syntax.specs.{Arguments.argument_at, At.At, At.size, Faults.Fault}
+use Rattle.interpolator_syntax.specs.{Faults.fault_place, Groups.Group, Groups.inside}
+use Rattle.interpolator_syntax.specs.SpecTexts.{Kind}
 use Rattle.interpolator_syntax.proofs.ArgumentFaultLemmas.{fault_of_argument}
 use Rattle.interpolator_syntax.proofs.GrammarArgumentLemmas.{broken_is}
 use Rattle.interpolator_syntax.proofs.TokenTextLemmas.{WrittenSize, takes_token, scan_taken}

@@ -1,10 +1,9 @@
 -- What is written through a writer on top of a formatter is written to the formatter.
 use Rattle.std.proofs.Common.{arith, ◌≡◌, List, [], ◌∷◌, ℕ, Option, Result, OnOk}
+use Rattle.std.proofs.Output.{has_written_styled_nil, has_written_styled_append}
 use Rattle.std.specs.List.{FoldsTo, concat}
 use Rattle.std.specs.Fmt.{IsFlush, HasWrittenStyled, WritesText, DisplaysOnOk, DisplaysStyledOnOk}
-use Rattle.std.specs.declared.fmt.Formatter.{Formatter}
-use Rattle.std.specs.declared.fmt.Error.{Error}
-use Rattle.std.proofs.Output.{has_written_styled_nil, has_written_styled_append}
+use Rattle.std.specs.{declared.fmt.Formatter.Formatter, declared.fmt.Error.Error}
 
 module _ {W : Type 0} (took : W → List ℕ → W → Type 0) where
   -- a text that is written whatever the options are is written if there are none

@@ -1,14 +1,12 @@
 -- An argument by its parts, one after the other, each at its place; and why no argument begins.
 use Rattle.std.specs.Prelude.{◌≡◌, ◌⊎◌, ℕ, ◌+◌, List, [], ◌∷◌, ◌++◌}
-use Rattle.interpolator_syntax.specs.At.{At, size}
 use Rattle.interpolator_syntax.specs.Classes.{close_brace, colon, in_class}
-use Rattle.interpolator_syntax.specs.SpecTexts.{Request, plain_display}
-use Rattle.interpolator_syntax.specs.Arguments.{Argument}
-use Rattle.interpolator_syntax.specs.Grammar.{IsLongest}
-use Rattle.interpolator_syntax.specs.GrammarParts.{IsFirst, Lies}
-use Rattle.interpolator_syntax.specs.SpecGrammar.{IsSpec, IsNoSpec}
 use Rattle.interpolator_syntax.specs.Faults.{Fault, parse, unclosed}
-use Rattle.interpolator_syntax.specs.declared.class.Class.TheVariants.{WhiteSpace, Name}
+use Rattle.interpolator_syntax.specs.{At.At, At.size, SpecTexts.Request, SpecTexts.plain_display}
+use Rattle.interpolator_syntax.specs.{Arguments.Argument, Grammar.IsLongest, GrammarParts.IsFirst}
+use Rattle.interpolator_syntax.specs.{GrammarParts.Lies, SpecGrammar.IsSpec, SpecGrammar.IsNoSpec}
+use Rattle.interpolator_syntax.specs.declared.class.Class.TheVariants.{WhiteSpace}
+use Rattle.interpolator_syntax.specs.declared.class.Class.TheVariants.{Name}
 
 -- after all the white space at a comes the name, at p, up to the first `:` or `}`, and after it
 -- the text at b

@@ -1,20 +1,18 @@
 -- The argument after an opening brace: how it is read, and how the code represents it.
 use Rattle.std.specs.Prelude.{◌≡◌, ℕ, List, drop, Option, None, Some, option_map, Result, Ok, Err}
 use Rattle.std.specs.Str.{chars}
-use Rattle.interpolator_render.specs.declared.view.Spec.{Spec}
-use Rattle.interpolator_render.specs.declared.view.Trait.{Trait}
+use Rattle.interpolator_render.specs.{declared.view.Spec.Spec, declared.view.Trait.Trait}
 use Rattle.interpolator_render.specs.declared.view.Trait.TheVariants as traits
 use Rattle.interpolator_syntax.specs.At.{At, at, strip}
 use Rattle.interpolator_syntax.specs.Classes.{close_brace, colon}
 use Rattle.interpolator_syntax.specs.Readers.{Reader, ◌>>=◌, give, here, span}
-use Rattle.interpolator_syntax.specs.Groups.{group_of}
-use Rattle.interpolator_syntax.specs.SpecTexts.{Kind, of_value, of_list, Request}
-use Rattle.interpolator_syntax.specs.SpecTexts.{plain_display, plain_spec, spec_after}
-use Rattle.interpolator_syntax.specs.Lists.{ListRequest}
-use Rattle.interpolator_syntax.specs.Faults.{Fault, Answer, fault, parse, unclosed, argument_fault_of}
-use Rattle.interpolator_syntax.specs.Faults.{answer_of}
-use Rattle.interpolator_syntax.specs.declared.error.Error.{Error}
+use Rattle.interpolator_syntax.specs.SpecTexts.{Kind, of_value, of_list, Request, plain_display}
+use Rattle.interpolator_syntax.specs.SpecTexts.{plain_spec, spec_after}
+use Rattle.interpolator_syntax.specs.Faults.{Fault, Answer, fault, parse, unclosed}
+use Rattle.interpolator_syntax.specs.Faults.{argument_fault_of, answer_of}
 use Rattle.interpolator_syntax.specs.declared.class.Class.TheVariants.{WhiteSpace, Name}
+use Rattle.interpolator_syntax.specs.{Groups.group_of, Lists.ListRequest}
+use Rattle.interpolator_syntax.specs.declared.error.Error.{Error}
 use Rattle.interpolator_syntax.specs.declared.argument_fault.ArgumentFault.{ArgumentFault}
 use Rattle.interpolator_syntax.specs.declared.argument.Kind as code_kind
 use Rattle.interpolator_syntax.specs.declared.argument.Kind.TheVariants.{Value, List as ListKind}

@@ -1,8 +1,7 @@
 -- Places in the outermost format text, counted in bytes, and the characters from there on.
 use Rattle.std.specs.Prelude.{ℕ, Bool, ◌+◌, ◌==◌, if◌then◌else◌, List, [], ◌∷◌, map, Option, Some}
 use Rattle.std.specs.Prelude.{None}
-use Rattle.std.specs.Char.{len_utf8}
-use Rattle.std.specs.Str.{chars}
+use Rattle.std.specs.{Char.len_utf8, Str.chars}
 use Rattle.interpolator_syntax.specs.Classes.{front_of, after_of}
 use Rattle.interpolator_syntax.specs.declared.cursor.Cursor.{Cursor}
 

@@ -5,18 +5,16 @@ use Rattle.interpolator_render.specs.declared.view.Trait.{Trait}
 use Rattle.interpolator_render.specs.declared.view.Trait.TheVariants.{Binary, Debug, Display}
 use Rattle.interpolator_render.specs.declared.view.Trait.TheVariants.{LowerExp, LowerHex, Octal}
 use Rattle.interpolator_render.specs.declared.view.Trait.TheVariants.{UpperExp, UpperHex, Iter}
-use Rattle.interpolator_syntax.specs.declared.error.NumberError.{NumberError}
 use Rattle.interpolator_syntax.specs.declared.error.NumberError.TheVariants.{Empty, InvalidDigit}
 use Rattle.interpolator_syntax.specs.declared.error.NumberError.TheVariants.{PosOverflow}
 use Rattle.interpolator_syntax.specs.declared.error.NumberError.TheVariants.{NegOverflow}
-use Rattle.interpolator_syntax.specs.declared.error.ParseError.{ParseError}
-use Rattle.interpolator_syntax.specs.declared.error.Error.{Error}
 use Rattle.interpolator_syntax.specs.Faults.{ParseFault, Fault, Answer, unclosed, expected}
-use Rattle.interpolator_syntax.specs.Faults.{invalid_width}
-use Rattle.interpolator_syntax.specs.Faults.{invalid_precision, fill, iter, range_bound}
-use Rattle.interpolator_syntax.specs.Faults.{missing_trait_impl, fmt, parse, missing_value}
-use Rattle.interpolator_syntax.specs.Faults.{unsupported_option, fault, no_memory, parse_fault_of}
-use Rattle.interpolator_syntax.specs.Faults.{answer_of}
+use Rattle.interpolator_syntax.specs.Faults.{invalid_width, invalid_precision, fill, iter}
+use Rattle.interpolator_syntax.specs.Faults.{range_bound, missing_trait_impl, fmt, parse}
+use Rattle.interpolator_syntax.specs.Faults.{missing_value, unsupported_option, fault, no_memory}
+use Rattle.interpolator_syntax.specs.Faults.{parse_fault_of, answer_of}
+use Rattle.interpolator_syntax.specs.declared.error.NumberError.{NumberError}
+use Rattle.interpolator_syntax.specs.declared.{error.ParseError.ParseError, error.Error.Error}
 
 -- the name of a trait
 abbrev pub trait_name : Trait → List ℕ

@@ -6,17 +6,16 @@ use Rattle.interpolator_render.specs.declared.view.Trait.{Trait}
 use Rattle.interpolator_syntax.specs.declared.error.NumberError.{NumberError}
 use Rattle.interpolator_syntax.specs.declared.error.ParseError.{ParseError}
 use Rattle.interpolator_syntax.specs.declared.error.ParseError.TheVariants.{FormatSpecUnclosed}
-use Rattle.interpolator_syntax.specs.declared.error.ParseError.TheVariants.{Expected}
-use Rattle.interpolator_syntax.specs.declared.error.ParseError.TheVariants.{InvalidWidth}
-use Rattle.interpolator_syntax.specs.declared.error.ParseError.TheVariants.{InvalidPrecision}
-use Rattle.interpolator_syntax.specs.declared.error.ParseError.TheVariants.{Fill, Iter, RangeBound}
+use Rattle.interpolator_syntax.specs.declared.error.ParseError.TheVariants.{Expected, InvalidWidth}
+use Rattle.interpolator_syntax.specs.declared.error.ParseError.TheVariants.{InvalidPrecision, Fill}
+use Rattle.interpolator_syntax.specs.declared.error.ParseError.TheVariants.{Iter, RangeBound}
 use Rattle.interpolator_syntax.specs.declared.argument_fault.ArgumentFault.{ArgumentFault}
-use Rattle.interpolator_syntax.specs.declared.argument_fault.ArgumentFault.TheVariants.{Text, Pointer}
+use Rattle.interpolator_syntax.specs.declared.argument_fault.ArgumentFault.TheVariants.{Text}
+use Rattle.interpolator_syntax.specs.declared.argument_fault.ArgumentFault.TheVariants.{Pointer}
 use Rattle.interpolator_syntax.specs.declared.error.Error.{Error}
 use Rattle.interpolator_syntax.specs.declared.error.Error.TheVariants.{MissingTraitImpl, Fmt, Parse}
 use Rattle.interpolator_syntax.specs.declared.error.Error.TheVariants.{MissingValue}
-use Rattle.interpolator_syntax.specs.declared.error.Error.TheVariants.{UnsupportedOption}
-use Rattle.interpolator_syntax.specs.declared.error.Error.TheVariants.{NoMemory}
+use Rattle.interpolator_syntax.specs.declared.error.Error.TheVariants.{UnsupportedOption, NoMemory}
 
 -- a fault of the format text, with its place and, for `expected`, the bytes of the expected text
 pub data ParseFault : Type 0 where

@@ -1,12 +1,11 @@
 -- The pieces of a text as a relation: each piece is of the first kind that its place allows.
 use Rattle.std.specs.Prelude.{◌≡◌, ◌≢◌, ℕ, ◌+◌, ◌≤◌, Bool, IsTrue, IsFalse, All, List, [], ◌∷◌}
 use Rattle.std.specs.Prelude.{◌++◌, Ok, Err}
-use Rattle.interpolator_syntax.specs.At.{At, size}
 use Rattle.interpolator_syntax.specs.Classes.{open_brace, close_brace, is_brace}
-use Rattle.interpolator_syntax.specs.Arguments.{Argument, argument_at}
-use Rattle.interpolator_syntax.specs.Faults.{Fault}
 use Rattle.interpolator_syntax.specs.Pieces.{PieceKind, Piece, literal, doubled, lone_close, closed}
 use Rattle.interpolator_syntax.specs.Pieces.{unclosed, broken}
+use Rattle.interpolator_syntax.specs.{At.At, At.size, Arguments.Argument, Arguments.argument_at}
+use Rattle.interpolator_syntax.specs.Faults.{Fault}
 
 -- how early a kind is tried, the earliest first
 abbrev pub rank : PieceKind → ℕ

@@ -1,15 +1,12 @@
 -- Parts of a text as relations: what is at a place, or why it is not there. A part computes
 -- nothing; parts come one after the other.
-use Rattle.std.specs.Prelude.{◌≡◌, ◌≢◌, ◌⊎◌, ℕ, ◌+◌, Bool, true, false, IsTrue, IsFalse}
-use Rattle.std.specs.Prelude.{List, [], ◌∷◌, ◌++◌, Option, Some, None}
-use Rattle.interpolator_syntax.specs.At.{At, size}
-use Rattle.interpolator_syntax.specs.Classes.{in_class}
-use Rattle.interpolator_syntax.specs.Grammar.{NotFirst, IsLongest}
-use Rattle.interpolator_syntax.specs.NumberGrammar.{Spelling}
+use Rattle.std.specs.Prelude.{◌≡◌, ◌≢◌, ◌⊎◌, ℕ, ◌+◌, Bool, true, false, IsTrue, IsFalse, List, []}
+use Rattle.std.specs.Prelude.{◌∷◌, ◌++◌, Option, Some, None}
 use Rattle.interpolator_syntax.specs.Faults.{Fault, ParseFault, parse, unclosed}
-use Rattle.interpolator_syntax.specs.declared.error.NumberError.{NumberError}
-use Rattle.interpolator_syntax.specs.declared.class.Class.{Class}
+use Rattle.interpolator_syntax.specs.declared.{error.NumberError.NumberError, class.Class.Class}
 use Rattle.interpolator_syntax.specs.declared.class.Class.TheVariants.{Number}
+use Rattle.interpolator_syntax.specs.{At.At, At.size, Classes.in_class, Grammar.NotFirst}
+use Rattle.interpolator_syntax.specs.{Grammar.IsLongest, NumberGrammar.Spelling}
 
 -- `is a x q`: x is at a, and after it the text at q; `is_not a f`: none is at a, and f is the fault
 pub record Part (A : Type 0) : Type 1 where

@@ -1,9 +1,8 @@
 -- Which texts are groups, and why the others are not.
 use Rattle.std.specs.Prelude.{◌≡◌, ◌≢◌, ℕ, zero, suc, ◌+◌, List, [], ◌∷◌, ◌++◌, codes}
-use Rattle.interpolator_syntax.specs.At.{At, size}
 use Rattle.interpolator_syntax.specs.Classes.{hash, open_bracket, close_bracket}
-use Rattle.interpolator_syntax.specs.Groups.{Group}
 use Rattle.interpolator_syntax.specs.Faults.{Fault, parse, unclosed, expected}
+use Rattle.interpolator_syntax.specs.{At.At, At.size, Groups.Group}
 
 -- k signs `#`
 abbrev pub sign_text : ℕ → List ℕ

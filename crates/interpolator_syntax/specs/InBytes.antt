@@ -1,8 +1,7 @@
 -- Arguments as the code has them, with each text by its bytes, wherever these lie in memory.
 use Rattle.std.specs.Prelude.{option_map}
-use Rattle.interpolator_syntax.specs.Arguments.{Argument}
-use Rattle.interpolator_syntax.specs.Groups.{Group}
 use Rattle.interpolator_syntax.specs.SpecTexts.{Kind, of_value, of_list}
+use Rattle.interpolator_syntax.specs.{Arguments.Argument, Groups.Group}
 use Rattle.interpolator_syntax.specs.declared.argument.Argument as code_argument
 use Rattle.interpolator_syntax.specs.declared.argument.Kind as code_kind
 use Rattle.interpolator_syntax.specs.declared.argument.Kind.TheVariants.{Value, List}

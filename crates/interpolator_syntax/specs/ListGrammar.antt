@@ -1,18 +1,13 @@
 -- The text after the letter of a list by its parts, one after the other: a range and two groups.
-use Rattle.std.specs.Prelude.{◌≡◌, ◌≢◌, ◌⊎◌, ℕ, ℤ, Bool, true, false, ◌==◌, ◌||◌, List, ◌∷◌}
-use Rattle.std.specs.Prelude.{Option, Some, None, codes}
-use Rattle.interpolator_syntax.specs.At.{At}
+use Rattle.std.specs.Prelude.{◌≡◌, ◌≢◌, ◌⊎◌, ℕ, ℤ, Bool, true, false, ◌==◌, ◌||◌, List, ◌∷◌, Option}
+use Rattle.std.specs.Prelude.{Some, None, codes}
 use Rattle.interpolator_syntax.specs.Classes.{in_class, point, equals, hash, open_bracket}
-use Rattle.interpolator_syntax.specs.Ranges.{range_of}
-use Rattle.interpolator_syntax.specs.Groups.{Group}
-use Rattle.interpolator_syntax.specs.Lists.{ListRequest}
-use Rattle.interpolator_syntax.specs.NumberGrammar.{integers}
-use Rattle.interpolator_syntax.specs.Grammar.{NotFirst}
 use Rattle.interpolator_syntax.specs.GrammarParts.{Part, ◌>>=◌, ends, Lies, where_first, number}
 use Rattle.interpolator_syntax.specs.GroupGrammar.{IsGroup, IsNoGroup}
 use Rattle.interpolator_syntax.specs.Faults.{Fault, range_bound}
-use Rattle.interpolator_syntax.specs.declared.class.Class.TheVariants.{Number}
-use Rattle.interpolator_syntax.specs.declared.range.Range.{Range}
+use Rattle.interpolator_syntax.specs.declared.{class.Class.TheVariants.Number, range.Range.Range}
+use Rattle.interpolator_syntax.specs.{At.At, Ranges.range_of, Groups.Group, Lists.ListRequest}
+use Rattle.interpolator_syntax.specs.{NumberGrammar.integers, Grammar.NotFirst}
 
 -- a bound, if there is a digit or a `-`
 abbrev pub bound : (start : ℕ) → Part (Option ℤ)

@@ -1,9 +1,8 @@
 -- The form of a list: which of its items are written, how each is, and what is between two.
 use Rattle.std.specs.Prelude.{ℕ, Option, None}
 use Rattle.interpolator_syntax.specs.Groups.{Group, group_if}
-use Rattle.interpolator_syntax.specs.Ranges.{range_at}
 use Rattle.interpolator_syntax.specs.Readers.{Reader, ◌>>=◌, give}
-use Rattle.interpolator_syntax.specs.declared.range.Range.{Range}
+use Rattle.interpolator_syntax.specs.{Ranges.range_at, declared.range.Range.Range}
 
 -- a range, an item format and a join, each of which may be absent
 pub record ListRequest : Type 0 where

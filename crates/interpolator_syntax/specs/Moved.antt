@@ -1,16 +1,13 @@
 -- What a text means at another base: the same, with every place moved by `by` bytes.
 use Rattle.std.specs.Prelude.{ℕ, ◌+◌, option_map}
-use Rattle.interpolator_syntax.specs.At.{At}
-use Rattle.interpolator_syntax.specs.Groups.{Group}
-use Rattle.interpolator_syntax.specs.Lists.{ListRequest}
 use Rattle.interpolator_syntax.specs.SpecTexts.{Kind, of_value, of_list}
-use Rattle.interpolator_syntax.specs.Arguments.{Argument}
 use Rattle.interpolator_syntax.specs.Pieces.{PieceKind, Piece, literal, doubled, lone_close, closed}
 use Rattle.interpolator_syntax.specs.Pieces.{unclosed, broken}
 use Rattle.interpolator_syntax.specs.Faults.{ParseFault, unclosed as unclosed_fault, expected}
 use Rattle.interpolator_syntax.specs.Faults.{invalid_width, invalid_precision, fill, iter}
 use Rattle.interpolator_syntax.specs.Faults.{range_bound, Fault, missing_trait_impl, fmt, parse}
 use Rattle.interpolator_syntax.specs.Faults.{missing_value, unsupported_option}
+use Rattle.interpolator_syntax.specs.{At.At, Groups.Group, Lists.ListRequest, Arguments.Argument}
 
 module _ (by : ℕ) where
   -- the text at a place that is `by` bytes further on

@@ -1,13 +1,12 @@
 -- Which texts spell a number, and why the others spell none.
-use Rattle.std.specs.Prelude.{◌≡◌, ◌≢◌, ◌⊎◌, ℕ, ℤ, pos, ◌+◌, ◌-◌, ◌*◌, ◌^◌, ◌<◌, ◌≤◌}
-use Rattle.std.specs.Prelude.{IsTrue, IsFalse, All, List, [], ◌∷◌, ◌++◌, length}
+use Rattle.std.specs.Prelude.{◌≡◌, ◌≢◌, ◌⊎◌, ℕ, ℤ, pos, ◌+◌, ◌-◌, ◌*◌, ◌^◌, ◌<◌, ◌≤◌, IsTrue}
+use Rattle.std.specs.Prelude.{IsFalse, All, List, [], ◌∷◌, ◌++◌, length}
 use Rattle.std.specs.Char.{is_ascii_digit}
 use Rattle.interpolator_syntax.specs.Classes.{zero_digit, minus}
-use Rattle.interpolator_syntax.specs.Numbers.{negation}
-use Rattle.interpolator_syntax.specs.declared.error.NumberError.{NumberError}
 use Rattle.interpolator_syntax.specs.declared.error.NumberError.TheVariants.{Empty, InvalidDigit}
 use Rattle.interpolator_syntax.specs.declared.error.NumberError.TheVariants.{PosOverflow}
 use Rattle.interpolator_syntax.specs.declared.error.NumberError.TheVariants.{NegOverflow}
+use Rattle.interpolator_syntax.specs.{Numbers.negation, declared.error.NumberError.NumberError}
 
 -- the number that digits spell, the first of them the most significant
 abbrev pub decimal_value : List ℕ → ℕ

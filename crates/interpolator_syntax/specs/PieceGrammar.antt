@@ -1,16 +1,13 @@
 -- Pieces that begin with a brace, by the relation of arguments; and the pieces of a token.
 use Rattle.std.specs.Prelude.{◌≡◌, ℕ, ◌+◌, List, [], ◌∷◌, ◌++◌}
 use Rattle.std.specs.Char.{len_utf8}
-use Rattle.interpolator_syntax.specs.At.{At}
 use Rattle.interpolator_syntax.specs.Classes.{open_brace, close_brace}
-use Rattle.interpolator_syntax.specs.Arguments.{Argument}
 use Rattle.interpolator_syntax.specs.ArgumentGrammar.{IsArgument, IsNoArgument}
-use Rattle.interpolator_syntax.specs.Faults.{Fault}
 use Rattle.interpolator_syntax.specs.Grammar.{from_place, NotFirst}
-use Rattle.interpolator_syntax.specs.Pieces.{Piece, literal, doubled, lone_close}
-use Rattle.interpolator_syntax.specs.Pieces.{argument_from}
-use Rattle.interpolator_syntax.specs.Tokens.{Token, literals, argument}
-use Rattle.interpolator_syntax.specs.Tokens.{doubled as doubled_token, lone_close as lone_token}
+use Rattle.interpolator_syntax.specs.Pieces.{Piece, literal, doubled, lone_close, argument_from}
+use Rattle.interpolator_syntax.specs.Tokens.{Token, literals, argument, doubled as doubled_token}
+use Rattle.interpolator_syntax.specs.Tokens.{lone_close as lone_token}
+use Rattle.interpolator_syntax.specs.{At.At, Arguments.Argument, Faults.Fault}
 
 -- from a brace at p to its closing brace: an argument follows the former, and ends in front of the
 -- latter

@@ -1,11 +1,9 @@
 -- How a range of list indices is read.
 use Rattle.std.specs.Prelude.{ℕ, ℤ, Bool, true, if◌then◌else◌, Option, None, Some, Result, Ok, Err}
-use Rattle.interpolator_syntax.specs.At.{At, first, strip}
-use Rattle.interpolator_syntax.specs.Classes.{in_class, point, equals}
-use Rattle.interpolator_syntax.specs.Numbers.{integer}
 use Rattle.interpolator_syntax.specs.Readers.{Reader, ◌>>=◌, give, flag, run}
-use Rattle.interpolator_syntax.specs.Faults.{Fault, parse, range_bound}
-use Rattle.interpolator_syntax.specs.declared.error.NumberError.{NumberError}
+use Rattle.interpolator_syntax.specs.{At.At, At.first, At.strip, Classes.in_class, Classes.point}
+use Rattle.interpolator_syntax.specs.{Classes.equals, Numbers.integer, Faults.Fault, Faults.parse}
+use Rattle.interpolator_syntax.specs.{Faults.range_bound, declared.error.NumberError.NumberError}
 use Rattle.interpolator_syntax.specs.declared.class.Class.TheVariants.{Number}
 use Rattle.interpolator_syntax.specs.declared.range.Range.{Range}
 

@@ -1,10 +1,9 @@
 -- Readers of a text, one after the other: each returns what it read, or why it could not.
-use Rattle.std.specs.Prelude.{ℕ, Bool, true, false, List, [], ◌∷◌, Option, None, Some, Result}
-use Rattle.std.specs.Prelude.{Ok, Err}
+use Rattle.std.specs.Prelude.{ℕ, Bool, true, false, List, [], ◌∷◌, Option, None, Some, Result, Ok}
+use Rattle.std.specs.Prelude.{Err}
 use Rattle.interpolator_syntax.specs.At.{At, first, after, strip}
-use Rattle.interpolator_syntax.specs.Classes.{front_of, in_class}
-use Rattle.interpolator_syntax.specs.Faults.{Fault, parse, unclosed}
-use Rattle.interpolator_syntax.specs.declared.class.Class.{Class}
+use Rattle.interpolator_syntax.specs.{Classes.front_of, Classes.in_class, Faults.Fault}
+use Rattle.interpolator_syntax.specs.{Faults.parse, Faults.unclosed, declared.class.Class.Class}
 
 -- reads the front of a text: its meaning and the text after it, or a fault
 abbrev pub Reader : Type 0 → Type 0

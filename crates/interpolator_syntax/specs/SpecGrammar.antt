@@ -9,18 +9,16 @@ use Rattle.interpolator_render.specs.declared.view.Alignment.TheVariants as alig
 use Rattle.interpolator_render.specs.declared.view.Sign.TheVariants as signs
 use Rattle.interpolator_render.specs.declared.view.HexDebug.{HexDebug}
 use Rattle.interpolator_render.specs.declared.view.HexDebug.TheVariants as hex_debugs
-use Rattle.interpolator_syntax.specs.At.{At}
 use Rattle.interpolator_syntax.specs.Classes.{is_alignment, hash, zero_digit, point, open_brace}
 use Rattle.interpolator_syntax.specs.Classes.{close_brace, question_mark, lower_p}
 use Rattle.interpolator_syntax.specs.SpecTexts.{Kind, of_value, of_list, Request, plain_display}
 use Rattle.interpolator_syntax.specs.SpecTexts.{Wanted, trait_alone, alignment_letter, sign_letter}
-use Rattle.interpolator_syntax.specs.NumberGrammar.{naturals}
-use Rattle.interpolator_syntax.specs.Grammar.{NotFirst}
 use Rattle.interpolator_syntax.specs.GrammarParts.{Part, ◌>>=◌, ends, IsFirst, Lies, letter, flag}
 use Rattle.interpolator_syntax.specs.GrammarParts.{FirstPasses, where_first, where_after, number}
-use Rattle.interpolator_syntax.specs.ListGrammar.{list}
 use Rattle.interpolator_syntax.specs.Faults.{Fault, parse, unclosed, expected, fill as no_fill}
 use Rattle.interpolator_syntax.specs.Faults.{invalid_width, invalid_precision, unsupported_option}
+use Rattle.interpolator_syntax.specs.{At.At, NumberGrammar.naturals, Grammar.NotFirst}
+use Rattle.interpolator_syntax.specs.ListGrammar.{list}
 
 -- a number, if there is a digit
 abbrev pub width : (start : ℕ) → Part (Option ℕ)

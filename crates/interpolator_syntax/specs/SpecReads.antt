@@ -5,11 +5,10 @@ use Rattle.std.specs.Char.{is_ascii_digit}
 use Rattle.interpolator_render.specs.declared.view.Trait.{Trait}
 use Rattle.interpolator_render.specs.declared.view.Sign.TheVariants as signs
 use Rattle.interpolator_render.specs.declared.view.Spec.{Spec}
-use Rattle.interpolator_syntax.specs.At.{At, at}
-use Rattle.interpolator_syntax.specs.Classes.{zero_digit}
 use Rattle.interpolator_syntax.specs.Readers.{Reader, ◌>>=◌, give}
 use Rattle.interpolator_syntax.specs.SpecTexts.{Request, trait_at, kind_at}
-use Rattle.interpolator_syntax.specs.Faults.{Fault, argument_fault_of}
+use Rattle.interpolator_syntax.specs.{At.At, At.at, Classes.zero_digit, Faults.Fault}
+use Rattle.interpolator_syntax.specs.Faults.{argument_fault_of}
 use Rattle.interpolator_syntax.specs.declared.argument_fault.ArgumentFault.{ArgumentFault}
 use Rattle.interpolator_syntax.specs.declared.cursor.Cursor.{Cursor}
 

@@ -4,26 +4,23 @@ use Rattle.std.specs.Prelude.{Option, None, Some, Result, Ok, Err, codes}
 use Rattle.std.specs.Char.{is_ascii_digit, len_utf8}
 use Rattle.interpolator_render.specs.declared.view.Trait.{Trait}
 use Rattle.interpolator_render.specs.declared.view.Trait.TheVariants as traits
-use Rattle.interpolator_render.specs.declared.view.Spec.{Spec}
-use Rattle.interpolator_render.specs.declared.view.Alignment.{Alignment}
+use Rattle.interpolator_render.specs.{declared.view.Spec.Spec, declared.view.Alignment.Alignment}
 use Rattle.interpolator_render.specs.declared.view.Alignment.TheVariants as alignments
 use Rattle.interpolator_render.specs.declared.view.Sign.{Sign}
 use Rattle.interpolator_render.specs.declared.view.Sign.TheVariants as signs
 use Rattle.interpolator_render.specs.declared.view.HexDebug.{HexDebug}
 use Rattle.interpolator_render.specs.declared.view.HexDebug.TheVariants as hex_debugs
-use Rattle.interpolator_syntax.specs.At.{At, first, strip}
 use Rattle.interpolator_syntax.specs.Classes.{in_class, is_alignment, left_angle, caret}
 use Rattle.interpolator_syntax.specs.Classes.{right_angle, plus, minus, hash, zero_digit, point}
 use Rattle.interpolator_syntax.specs.Classes.{question_mark, open_brace, close_brace, upper_x}
-use Rattle.interpolator_syntax.specs.Classes.{lower_x, upper_e, lower_e, lower_b, lower_i}
-use Rattle.interpolator_syntax.specs.Classes.{lower_o, lower_p}
-use Rattle.interpolator_syntax.specs.Lists.{ListRequest, list_at}
-use Rattle.interpolator_syntax.specs.Numbers.{natural}
+use Rattle.interpolator_syntax.specs.Classes.{lower_x, upper_e, lower_e, lower_b, lower_i, lower_o}
+use Rattle.interpolator_syntax.specs.Classes.{lower_p}
 use Rattle.interpolator_syntax.specs.Readers.{Reader, ◌>>=◌, give, letter, flag, run}
 use Rattle.interpolator_syntax.specs.Faults.{Fault, parse, unclosed, expected, fill as no_fill}
 use Rattle.interpolator_syntax.specs.Faults.{invalid_width, invalid_precision, unsupported_option}
 use Rattle.interpolator_syntax.specs.Faults.{ParseFault}
-use Rattle.interpolator_syntax.specs.declared.error.NumberError.{NumberError}
+use Rattle.interpolator_syntax.specs.{At.At, At.first, At.strip, Lists.ListRequest, Lists.list_at}
+use Rattle.interpolator_syntax.specs.{Numbers.natural, declared.error.NumberError.NumberError}
 use Rattle.interpolator_syntax.specs.declared.class.Class.TheVariants.{Number}
 
 -- the kind of an argument: a value under a trait, or a list

@@ -1,16 +1,14 @@
 -- The tree of a text beside its pieces: neighbouring literals are one node, and every other piece is
 -- a node of its own.
-use Rattle.std.specs.Prelude.{◌≡◌, ℕ, ◌+◌, ◌<◌, Bool, true, false, ◌&&◌, IsFalse, ⊤, List, [], ◌∷◌, ◌++◌}
-use Rattle.std.specs.Prelude.{map, flat_map, Some}
+use Rattle.std.specs.Prelude.{◌≡◌, ℕ, ◌+◌, ◌<◌, Bool, true, false, ◌&&◌, IsFalse, ⊤, List, [], ◌∷◌}
+use Rattle.std.specs.Prelude.{◌++◌, map, flat_map, Some}
 use Rattle.std.specs.Char.{len_utf8}
-use Rattle.interpolator_syntax.specs.At.{At, size}
-use Rattle.interpolator_syntax.specs.Pieces.{Piece, pieces}
 use Rattle.interpolator_syntax.specs.Nodes.{Node, node, text_content, text_node, piece_node, nodes}
-use Rattle.interpolator_syntax.specs.Nodes.{Branch, no_branch, branch}
-use Rattle.interpolator_syntax.specs.Nodes.{Forest, no_nodes, nodes_and}
-use Rattle.interpolator_syntax.specs.declared.piece_kind.PieceKind.{PieceKind}
+use Rattle.interpolator_syntax.specs.Nodes.{Branch, no_branch, branch, Forest, no_nodes, nodes_and}
 use Rattle.interpolator_syntax.specs.declared.piece_kind.PieceKind.TheVariants.{Literal, Closed}
 use Rattle.interpolator_syntax.specs.declared.piece_kind.PieceKind.TheVariants.{Unclosed}
+use Rattle.interpolator_syntax.specs.{At.At, At.size, Pieces.Piece, Pieces.pieces}
+use Rattle.interpolator_syntax.specs.declared.piece_kind.PieceKind.{PieceKind}
 
 -- a piece as a node: that of an argument has the trees of its groups under it
 abbrev pub node_alone : Piece → Node

@@ -1,7 +1,6 @@
 -- The tokens of the scan: neighbouring literals as one, a doubled brace, a closing brace by itself,
 -- or the beginning of an argument.
-use Rattle.std.specs.Prelude.{ℕ, ◌+◌, ◌^◌, ◌<◌, ⊤, List, [], ◌∷◌, length}
-use Rattle.std.specs.Prelude.{Option, Some, None}
+use Rattle.std.specs.Prelude.{ℕ, ◌+◌, ◌^◌, ◌<◌, ⊤, List, [], ◌∷◌, length, Option, Some, None}
 use Rattle.std.specs.Str.{chars}
 use Rattle.interpolator_syntax.specs.At.{At, at, strip, after}
 use Rattle.interpolator_syntax.specs.Classes.{front_of, in_class, open_brace, close_brace}

@@ -1,9 +1,8 @@
 //! Whole numbers in a format. A number is read from the longest run of ASCII digits and `-`.
 ghost use Rattle.std.specs.Prelude.{◌≡◌, ◌+◌, ◌*◌, ◌^◌, ◌<◌, ◌≤◌, IfOk, MatchOption};
-ghost use Rattle.interpolator_syntax.specs.At.{at, after};
-ghost use Rattle.interpolator_syntax.specs.Classes.{in_class, front_of};
 ghost use Rattle.interpolator_syntax.specs.Numbers.{digits_after, digits_or, natural, negation};
 ghost use Rattle.interpolator_syntax.specs.Numbers.{integer};
+ghost use Rattle.interpolator_syntax.specs.{At.at, At.after, Classes.in_class, Classes.front_of};
 ghost use Rattle.interpolator_syntax.specs.declared.class.Class.TheVariants.{Number};
 
 use crate::class::Class;

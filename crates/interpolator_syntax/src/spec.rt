@@ -1,21 +1,19 @@
 //! The spec after the colon of an argument, up to and including the letter of a list.
 ghost use Rattle.std.specs.Prelude.{◌≡◌, ◌<◌, ℕ, Err, Ok, None, Some, false};
 ghost use Rattle.interpolator_syntax.specs.At.{At, at, first, strip};
-ghost use Rattle.interpolator_syntax.specs.Classes.{question_mark};
-ghost use Rattle.interpolator_syntax.specs.Readers.{flag, letter};
 ghost use Rattle.interpolator_syntax.specs.SpecTexts.{alignment_letter, sign_letter, width_at};
 ghost use Rattle.interpolator_syntax.specs.SpecTexts.{no_trait, precision_at, trait_letter};
 ghost use Rattle.interpolator_syntax.specs.SpecTexts.{hexadecimal, plain_spec, spec_from_sign};
 ghost use Rattle.interpolator_syntax.specs.SpecTexts.{fill_at, spec_from_alignment, spec_after};
 ghost use Rattle.interpolator_syntax.specs.SpecReads.{part_read, part_left, trait_left};
 ghost use Rattle.interpolator_syntax.specs.SpecReads.{HasNoOptions, options_left, spec_left};
+ghost use Rattle.interpolator_syntax.specs.{Classes.question_mark, Readers.flag, Readers.letter};
 ghost use Rattle.interpolator_syntax.specs.declared.argument_fault.ArgumentFault.TheVariants as faults;
 ghost use Rattle.interpolator_syntax.specs.declared.error.ParseError.TheVariants as errors;
 ghost use Rattle.interpolator_render.specs.declared.view.Alignment.TheVariants as alignments;
 ghost use Rattle.interpolator_render.specs.declared.view.HexDebug.TheVariants as hex_debugs;
 ghost use Rattle.interpolator_render.specs.declared.view.Sign.TheVariants as signs;
-ghost use Rattle.interpolator_render.specs.declared.view.Spec.{Spec};
-ghost use Rattle.interpolator_render.specs.declared.view.Trait.{Trait};
+ghost use Rattle.interpolator_render.specs.{declared.view.Spec.Spec, declared.view.Trait.Trait};
 ghost use Rattle.interpolator_render.specs.declared.view.Trait.TheVariants as traits;
 
 use crate::argument_fault::ArgumentFault;

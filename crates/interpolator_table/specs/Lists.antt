@@ -1,8 +1,7 @@
 -- The list that a table lends.
 use Rattle.std.specs.Prelude.{List, map, ◌≡◌}
 use Rattle.std.specs.Option.{option_map}
-use Rattle.interpolator_render.specs.Views.{Shown, shown_by}
-use Rattle.interpolator_render.specs.declared.view.View.{View}
+use Rattle.interpolator_render.specs.{Views.Shown, Views.shown_by, declared.view.View.View}
 use Rattle.interpolator_eval.specs.Slots.{Slots, SlotsList, Values, bare, listed, no_slots}
 use Rattle.interpolator_eval.specs.Slots.{slots_and, empty_slots, with_integer, with_iter}
 

@@ -1,9 +1,8 @@
 //! Tables.
-ghost use Rattle.std.specs.Prelude.{◌≡◌, nat_eq, List, [], ◌∷◌, ◌++◌, map, length, take};
-ghost use Rattle.std.specs.Prelude.{OnOk, OnErr, IfOk, IfErr};
+ghost use Rattle.std.specs.Prelude.{◌≡◌, nat_eq, List, [], ◌∷◌, ◌++◌, map, length, take, OnOk};
+ghost use Rattle.std.specs.Prelude.{OnErr, IfOk, IfErr};
 ghost use Rattle.interpolator_eval.specs.Slots.{slots_of, empty_slots, with_integer};
-ghost use Rattle.interpolator_render.specs.Views.{shown_by};
-ghost use Rattle.interpolator_render.specs.declared.view.View.{View};
+ghost use Rattle.interpolator_render.specs.{Views.shown_by, declared.view.View.View};
 ghost use Rattle.interpolator_table.specs.Cells.{cell_shows, CutTo, rows_at, cells_of};
 ghost use Rattle.interpolator_table.specs.Lists.{Lends};
 ghost use Rattle.interpolator_syntax.specs.declared.error.Error.TheVariants.{NoMemory};

@@ -1,7 +1,6 @@
 //! What maps and pairs keep and find: many names, long names and the empty name.
 ghost use Rattle.std.specs.Prelude.{◌≡◌, Some, OnOk};
-ghost use Rattle.std.specs.Str.{chars};
-ghost use Rattle.std.specs.Option.{unwrap_or};
+ghost use Rattle.std.specs.{Str.chars, Option.unwrap_or};
 ghost use Rattle.interpolator.specs.NameMaps.{stored_slots};
 ghost use Rattle.interpolator.specs.Slots.{empty_slots, with_debug, with_display};
 

@@ -1,6 +1,5 @@
 -- What a value of a row's context shows.
-use Rattle.std.specs.Prelude.{string_bytes}
-use Rattle.std.specs.Str.{chars}
+use Rattle.std.specs.{Prelude.string_bytes, Str.chars}
 use Rattle.interpolator_render.specs.Views.{Shown, plain_text, nothing_implemented, failure}
 use Rattle.interpolator.specs.OwnedViews.{owned_shows}
 use Rattle.interpolator_vectors.specs.declared.cells.Cell.{Cell}

@@ -5,6 +5,8 @@
 #[cfg(test)]
 mod escapes;
 #[cfg(test)]
+mod float_rows;
+#[cfg(test)]
 mod floats;
 #[cfg(test)]
 mod places;

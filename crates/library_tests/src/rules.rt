@@ -1,7 +1,6 @@
 //! Rows of rules: what C makes of them, what CLDR's samples choose, and where broken ones are broken.
 
-ghost use Rattle.std.specs.Prelude.{Some};
-ghost use Rattle.std.specs.Option.{option_map};
+ghost use Rattle.std.specs.{Prelude.Some, Option.option_map};
 
 use plurals::{Fault, Form, Missing, ParseError, Problem, Values, parse};
 use std::test::Fail;

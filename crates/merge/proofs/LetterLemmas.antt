@@ -1,24 +1,18 @@
 -- A row of the views of fields resembles the sample.
 use Rattle.std.proofs.Common.{◌≡◌, refl, ℕ, ℤ, pos, List, [], ◌∷◌, map}
-use Rattle.std.specs.Borrow.{Bor}
-use Rattle.std.specs.Float.{binary64}
-use Rattle.std.specs.Float.Ieee.{Float}
-use Rattle.std.specs.Str.{chars}
+use Rattle.std.specs.{Borrow.Bor, Float.binary64, Float.Ieee.Float, Str.chars}
 use Rattle.interpolator.specs.Meaning.Resembling.{HasText, Resembles, ResemblesSlot}
 use Rattle.interpolator.specs.Slots.{slot_at, slots_of, values_of}
-use Rattle.interpolator.specs.Texts.{view_text}
 use Rattle.interpolator.specs.Views.{Shown, decimal_number, float_number, one_character, some_text}
-use Rattle.interpolator.specs.declared.Spec.{Spec}
-use Rattle.interpolator.specs.declared.Trait.{Trait}
-use Rattle.interpolator.specs.declared.Trait.TheVariants.{Binary, Debug, Display, Iter}
-use Rattle.interpolator.specs.declared.Trait.TheVariants.{LowerHex, Octal, UpperHex}
+use Rattle.interpolator.specs.declared.Trait.TheVariants.{Binary, Debug, Display, Iter, LowerHex}
+use Rattle.interpolator.specs.declared.Trait.TheVariants.{Octal, UpperHex}
+use Rattle.interpolator.specs.{Texts.view_text, declared.Spec.Spec, declared.Trait.Trait}
 use Rattle.interpolator.specs.declared.View.{View}
 use Rattle.interpolator.specs.declared.View.TheVariants as forms
 use Rattle.interpolator.specs.Meaning.Samples.{is_failure, shows_nothing}
 use Rattle.interpolator_laws.specs.SamplePairs.{RowResembles}
-use Rattle.merge.specs.Letters.{Row, Sample, view_shows}
 use Rattle.merge.specs.Values.{AreShown, Shows, as_value, example_slots}
-use Rattle.merge.specs.declared.columns.Kind.{Kind}
+use Rattle.merge.specs.{Letters.Row, Letters.Sample, Letters.view_shows, declared.columns.Kind.Kind}
 use Rattle.merge.specs.declared.columns.Kind.TheVariants as kinds
 
 -- what is shown has a text if what shows nothing under the same traits, and fails alike, has one

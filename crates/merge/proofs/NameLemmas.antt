@@ -1,21 +1,14 @@
 -- Names, and which of them were seen.
-use Rattle.std.proofs.Common.{◌≡◌, ◌∙◌, refl, sym, ap, ℕ, ◌+◌, ◌<◌, Bool, true, false, ◌||◌}
-use Rattle.std.proofs.Common.{cond, List, []}
-use Rattle.std.proofs.Common.{◌∷◌, ◌++◌, map, length, take, drop, get_or, append_assoc}
+use Rattle.std.proofs.Common.{◌≡◌, ◌∙◌, refl, sym, ap, ℕ, ◌+◌, ◌<◌, Bool, true, false, ◌||◌, cond}
+use Rattle.std.proofs.Common.{List, [], ◌∷◌, ◌++◌, map, length, take, drop, get_or, append_assoc}
 use Rattle.std.proofs.Common.{Option, None, Some, is_some, nat_lt, not}
 use Rattle.std.proofs.lemmas.List.{drop_more, length-map, map_more}
-use Rattle.std.specs.List.{position, prefix_len}
-use Rattle.merge.specs.Columns.{column_named, is_named, names_in}
-use Rattle.merge.specs.declared.columns.Column.{Column}
 use Rattle.std.proofs.lemmas.Map.Text.{btree_map_updates_str}
-use Rattle.std.specs.BTreeMap.{BTreeMap, UpdatesBy}
-use Rattle.std.specs.Borrow.{Bor}
-use Rattle.std.specs.Cmp.Lexicographic.{slice_cmp}
-use Rattle.std.specs.Ordering.{nat_cmp}
-use Rattle.std.specs.Str.{bytes_eq}
-use Rattle.merge.specs.Names.{Knows}
+use Rattle.std.specs.{List.position, List.prefix_len, BTreeMap.BTreeMap, BTreeMap.UpdatesBy}
+use Rattle.std.specs.{Borrow.Bor, Cmp.Lexicographic.slice_cmp, Ordering.nat_cmp, Str.bytes_eq}
 use Rattle.merge.specs.Table.{is_among, repeat_trouble, repeats_after, with_line}
-use Rattle.merge.specs.declared.table.LineFault.{LineFault}
+use Rattle.merge.specs.declared.{columns.Column.Column, table.LineFault.LineFault}
+use Rattle.merge.specs.{Columns.column_named, Columns.is_named, Columns.names_in, Names.Knows}
 
 -- a name is among some and one more
 among_more : (names : List (List ℕ)) (one name : List ℕ)

@@ -1,22 +1,18 @@
 -- What comes after the header of a table, one after the other.
 use Rattle.std.proofs.Common.{◌≡◌, ◌∙◌, refl, ap, ℕ, ◌+◌, Bool, true, false, List, [], ◌∷◌, ◌++◌}
-use Rattle.std.proofs.Common.{append-nil, append_assoc, sym, inl, inr, Option, None, Some}
-use Rattle.std.proofs.Common.{Result, Ok, Err}
+use Rattle.std.proofs.Common.{append-nil, append_assoc, sym, inl, inr, Option, None, Some, Result}
+use Rattle.std.proofs.Common.{Ok, Err}
 use Rattle.std.specs.Option.{option_map}
 use Rattle.merge.specs.Letters.{IsLetter, MergesFrom, PutsIf, WritesEntry, WritesRows}
 use Rattle.merge.specs.Table.{AreFaults, AreFaultsBy, HasTrouble, IsToldOf, IsTrouble, Joins}
 use Rattle.merge.specs.Table.{broken, repeats, with_line}
+use Rattle.merge.specs.declared.{columns.Kind.Kind, templates.Letters.Letters}
+use Rattle.merge.specs.declared.{table.LineFault.LineFault, table.Trouble.Trouble}
+use Rattle.merge.specs.declared.{table.Trouble.TheVariants.NotNumber, templates.Fault.Fault}
 use Rattle.merge.specs.Values.{IsMisfit}
-use Rattle.merge.specs.declared.columns.Kind.{Kind}
-use Rattle.merge.specs.declared.templates.Letters.{Letters}
-use Rattle.merge.specs.declared.table.LineFault.{LineFault}
-use Rattle.merge.specs.declared.table.Trouble.{Trouble}
-use Rattle.merge.specs.declared.table.Trouble.TheVariants.{NotNumber}
-use Rattle.merge.specs.declared.templates.Fault.{Fault}
 use Rattle.merge.specs.declared.templates.Fault.TheVariants as why
-use Rattle.records.specs.declared.fault.Fault.{Fault as BrokenAt}
 use Rattle.records.specs.Tables.{AreEntries, At, Entry, Gives}
-use Rattle.records.specs.declared.separator.Separator.{Separator}
+use Rattle.records.specs.declared.{fault.Fault.Fault as BrokenAt, separator.Separator.Separator}
 
 -- the part of one more
 pub join_more : {A : Type 0} (Part : Entry → List A → Type 0) (rows : List Entry) (row : Entry)

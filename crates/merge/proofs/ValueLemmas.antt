@@ -1,16 +1,12 @@
 -- The views of the fields of a line, one after the other.
 use Rattle.std.proofs.Common.{◌≡◌, refl, inl, inr, ℕ, ◌+◌, ◌<◌, ◌≤◌, List, [], ◌∷◌, ◌++◌, length}
-use Rattle.std.proofs.Common.{map, drop, get_or, append-nil, append_assoc}
-use Rattle.std.proofs.Common.{Option, None, Some}
+use Rattle.std.proofs.Common.{map, drop, get_or, append-nil, append_assoc, Option, None, Some}
 use Rattle.std.proofs.lemmas.List.{drop_all, drop_more}
 use Rattle.interpolator.specs.declared.View.{View}
-use Rattle.merge.specs.Columns.{kinds_in}
-use Rattle.merge.specs.Values.{AreShown, Fits, IsMisfit, Shows}
-use Rattle.merge.specs.declared.columns.Column.{Column}
-use Rattle.merge.specs.declared.columns.Kind.{Kind}
+use Rattle.merge.specs.{Columns.kinds_in, Values.AreShown, Values.Fits, Values.IsMisfit}
+use Rattle.merge.specs.{Values.Shows, declared.columns.Column.Column, declared.columns.Kind.Kind}
 use Rattle.merge.specs.declared.columns.Kind.TheVariants as kinds
-use Rattle.records.specs.Spellings.{text_of}
-use Rattle.records.specs.declared.field.Field.{Field}
+use Rattle.records.specs.{Spellings.text_of, declared.field.Field.Field}
 
 -- a field whose view there is is what its column wants
 shown_fits : (kind : Kind) (field : List ℕ) (view : View) → Shows kind field view → Fits kind field

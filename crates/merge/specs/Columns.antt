@@ -2,10 +2,8 @@
 -- bytes.
 use Rattle.std.specs.Prelude.{ℕ, Bool, ◌-◌, List, codes, eqb, length, map, take, if◌then◌else◌}
 use Rattle.std.specs.Prelude.{Option, None, Some}
-use Rattle.std.specs.List.{ends_with, position}
-use Rattle.std.specs.Str.{bytes_eq, trim}
-use Rattle.merge.specs.declared.columns.Column.{Column}
-use Rattle.merge.specs.declared.columns.Kind.{Kind}
+use Rattle.std.specs.{List.ends_with, List.position, Str.bytes_eq, Str.trim}
+use Rattle.merge.specs.{declared.columns.Column.Column, declared.columns.Kind.Kind}
 use Rattle.merge.specs.declared.columns.Kind.TheVariants as kinds
 
 -- a name and what the fields under it are, borrows aside

@@ -1,54 +1,36 @@
 -- What the letters of templates and a table are. Templates, table, lines and fields are bytes, and
 -- letters are characters.
-use Rattle.std.specs.Prelude.{◌≡◌, ◌≢◌, ◌⊎◌, ⊤, ℕ, Bool, false, true, List, [], ◌++◌, map}
-use Rattle.std.specs.Prelude.{None, Some, Option, Result, Ok, Err, length, nat_lt}
-use Rattle.std.specs.Prelude.{if◌then◌else◌}
-use Rattle.std.specs.Borrow.{Bor}
-use Rattle.std.specs.Str.{chars}
-use Rattle.interpolator.specs.At.{outermost, text_of}
-use Rattle.interpolator.specs.Contexts.{found_by_pairs}
+use Rattle.std.specs.Prelude.{◌≡◌, ◌≢◌, ◌⊎◌, ⊤, ℕ, Bool, false, true, List, [], ◌++◌, map, None}
+use Rattle.std.specs.Prelude.{Some, Option, Result, Ok, Err, length, nat_lt, if◌then◌else◌}
+use Rattle.std.specs.{Borrow.Bor, Str.chars}
 use Rattle.interpolator.specs.Faults.{Fault as Wrong, answer_of, fault as as_answer}
-use Rattle.interpolator.specs.Meaning.Environments.{environment}
-use Rattle.interpolator.specs.Meaning.Meanings.{Meaning, means}
 use Rattle.interpolator.specs.Prepared.Rows.{PreparedFormat, found_by_row, pair_names, row_at}
-use Rattle.interpolator.specs.Slots.{slots_of}
-use Rattle.interpolator.specs.Template.NodeSamples.{faults_over}
-use Rattle.interpolator.specs.Views.{Shown, shown_as_value}
-use Rattle.interpolator_escapes.specs.Fields.{record_shows}
-use Rattle.interpolator_escapes.specs.Formats.{escaped_shows}
-use Rattle.interpolator_escapes.specs.Placing.{EndsFor, FailsFor}
-use Rattle.interpolator_escapes.specs.RecordFormats.{after_record, record_answer}
-use Rattle.interpolator_escapes.specs.declared.ending.Ending.{Ending}
+use Rattle.interpolator.specs.Meaning.{Environments.environment, Meanings.Meaning, Meanings.means}
+use Rattle.interpolator.specs.{At.outermost, At.text_of, Contexts.found_by_pairs, Slots.slots_of}
+use Rattle.interpolator.specs.{Template.NodeSamples.faults_over, Views.Shown, Views.shown_as_value}
+use Rattle.interpolator_escapes.specs.{Fields.record_shows, Formats.escaped_shows, Placing.EndsFor}
+use Rattle.interpolator_escapes.specs.{Placing.FailsFor, RecordFormats.after_record}
+use Rattle.interpolator_escapes.specs.{RecordFormats.record_answer, declared.ending.Ending.Ending}
 use Rattle.interpolator_escapes.specs.declared.ending.Ending.TheVariants as endings
-use Rattle.interpolator_escapes.specs.declared.escape.Escape.{Escape}
-use Rattle.interpolator_escapes.specs.declared.escape.Escape.TheVariants.{Csv}
+use Rattle.interpolator_escapes.specs.declared.{escape.Escape.Escape, escape.Escape.TheVariants.Csv}
 use Rattle.interpolator_escapes.specs.declared.misplaced.PlaceError.{PlaceError}
 use Rattle.interpolator_escapes.specs.declared.misplaced.PlaceError.TheVariants as places
-use Rattle.interpolator.specs.declared.Error.{Error}
-use Rattle.interpolator.specs.declared.Formattable.{Formattable}
-use Rattle.interpolator.specs.declared.Spec.{Spec}
-use Rattle.interpolator.specs.declared.Trait.{Trait}
-use Rattle.interpolator.specs.declared.View.{View}
-use Rattle.merge.specs.Columns.{column_named}
+use Rattle.interpolator.specs.{declared.Error.Error, declared.Formattable.Formattable}
+use Rattle.interpolator.specs.{declared.Spec.Spec, declared.Trait.Trait, declared.View.View}
 use Rattle.merge.specs.Table.{AreFaultsBy, HasNoHeader, HasTrouble, IsToldOf, Joins, kinds_of}
 use Rattle.merge.specs.Table.{names_of}
-use Rattle.records.specs.Heads.{Starts}
-use Rattle.records.specs.Tables.{AreEntries, At, Entry, Gives, GivesRecord}
-use Rattle.records.specs.declared.separator.Separator.{Separator}
 use Rattle.merge.specs.Values.{AreShown, as_value, example_slots, is_empty_at}
-use Rattle.merge.specs.declared.columns.Kind.{Kind}
+use Rattle.merge.specs.{Columns.column_named, declared.columns.Kind.Kind}
 use Rattle.merge.specs.declared.templates.Fault.{Fault}
+use Rattle.records.specs.Tables.{AreEntries, At, Entry, Gives, GivesRecord}
+use Rattle.records.specs.{Heads.Starts, declared.separator.Separator.Separator}
 use Rattle.merge.specs.declared.templates.Fault.TheVariants as why
-use Rattle.merge.specs.declared.templates.Form.{Form}
-use Rattle.merge.specs.declared.templates.Letters.{Letters}
-use Rattle.merge.specs.declared.templates.Templates.{Templates}
-use Rattle.merge.specs.declared.templates.Unfit.{Unfit}
-use Rattle.merge.specs.declared.templates.Unfit.TheVariants.{Misplaced, EndsInPlace}
-use Rattle.merge.specs.declared.templates.Unfit.TheVariants.{EndsElsewhere}
+use Rattle.merge.specs.declared.templates.Unfit.TheVariants.{Misplaced, EndsInPlace, EndsElsewhere}
+use Rattle.merge.specs.{declared.templates.Form.Form, declared.templates.Letters.Letters}
+use Rattle.merge.specs.{declared.templates.Templates.Templates, declared.templates.Unfit.Unfit}
 use Rattle.merge.specs.declared.templates.Way.{Way}
 use Rattle.merge.specs.declared.templates.Way.TheVariants as ways
-use Rattle.merge.specs.declared.table.LineFault.{LineFault}
-use Rattle.merge.specs.declared.table.Trouble.{Trouble}
+use Rattle.merge.specs.{declared.table.LineFault.LineFault, declared.table.Trouble.Trouble}
 
 -- ---- columns and fields as values
 

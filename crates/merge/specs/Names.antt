@@ -1,9 +1,7 @@
 -- The names that were seen.
 use Rattle.std.specs.Prelude.{◌≡◌, ℕ, List, is_some}
-use Rattle.std.specs.Borrow.{Bor}
 use Rattle.std.specs.BTreeMap.{BTreeMap, get_by}
-use Rattle.std.specs.Cmp.Lexicographic.{slice_cmp}
-use Rattle.std.specs.Ordering.{nat_cmp}
+use Rattle.std.specs.{Borrow.Bor, Cmp.Lexicographic.slice_cmp, Ordering.nat_cmp}
 use Rattle.merge.specs.Table.{is_among}
 
 -- a map has these names as keys, and no others

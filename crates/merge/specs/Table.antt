@@ -1,18 +1,12 @@
 -- The header of a table, and what is wrong with its records.
-use Rattle.std.specs.Prelude.{◌≡◌, ◌⊎◌, ◌+◌, ◌==◌, ℕ, Bool, cond, List, [], ◌∷◌, ◌++◌, map}
-use Rattle.std.specs.Prelude.{length, Option, None, Some, Ok, Err}
-use Rattle.std.specs.List.{list_any}
-use Rattle.std.specs.Option.{option_map}
-use Rattle.std.specs.Str.{bytes_eq}
-use Rattle.merge.specs.Columns.{column_of}
-use Rattle.merge.specs.Values.{IsMisfit}
-use Rattle.merge.specs.declared.columns.Kind.{Kind}
-use Rattle.merge.specs.declared.table.LineFault.{LineFault}
-use Rattle.merge.specs.declared.table.Trouble.{Trouble}
+use Rattle.std.specs.Prelude.{◌≡◌, ◌⊎◌, ◌+◌, ◌==◌, ℕ, Bool, cond, List, [], ◌∷◌, ◌++◌, map, length}
+use Rattle.std.specs.Prelude.{Option, None, Some, Ok, Err}
+use Rattle.std.specs.{List.list_any, Option.option_map, Str.bytes_eq}
+use Rattle.merge.specs.{Columns.column_of, Values.IsMisfit, declared.columns.Kind.Kind}
+use Rattle.merge.specs.{declared.table.LineFault.LineFault, declared.table.Trouble.Trouble}
 use Rattle.merge.specs.declared.table.Trouble.TheVariants as troubles
 use Rattle.records.specs.Tables.{At, Entry, GivesFault}
-use Rattle.records.specs.declared.fault.Fault.{Fault}
-use Rattle.records.specs.declared.separator.Separator.{Separator}
+use Rattle.records.specs.{declared.fault.Fault.Fault, declared.separator.Separator.Separator}
 
 -- ---- the header
 

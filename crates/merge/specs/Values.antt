@@ -1,14 +1,10 @@
 -- The fields of a line as values: which are what their columns want, and what their views are.
 -- Fields are bytes.
-use Rattle.std.specs.Prelude.{◌≡◌, ◌⊎◌, ⊤, ℕ, ◌+◌, pos, Bool, true, false, List, [], ◌∷◌}
-use Rattle.std.specs.Prelude.{Option, None, Some, slice_get}
-use Rattle.std.specs.Borrow.{Bor}
-use Rattle.std.specs.Float.Ieee.{Float}
-use Rattle.std.specs.Str.{trim}
-use Rattle.interpolator.specs.DecimalTexts.{Spells}
+use Rattle.std.specs.Prelude.{◌≡◌, ◌⊎◌, ⊤, ℕ, ◌+◌, pos, Bool, true, false, List, [], ◌∷◌, Option}
+use Rattle.std.specs.Prelude.{None, Some, slice_get}
+use Rattle.std.specs.{Borrow.Bor, Float.Ieee.Float, Str.trim}
 use Rattle.interpolator.specs.Slots.{Slots, empty_slots, with_debug_display, with_float}
-use Rattle.interpolator.specs.declared.Decimal.{Decimal}
-use Rattle.interpolator.specs.declared.View.{View}
+use Rattle.interpolator.specs.{DecimalTexts.Spells, declared.Decimal.Decimal, declared.View.View}
 use Rattle.interpolator.specs.declared.View.TheVariants as forms
 use Rattle.words.specs.Words.{IsFloat}
 use Rattle.merge.specs.declared.columns.Kind.{Kind}

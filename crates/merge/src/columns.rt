@@ -1,11 +1,9 @@
 //! The columns of a table: their names, and what their fields are.
 
 ghost use Rattle.std.specs.Prelude.{◌≡◌, IfOk, map};
-ghost use Rattle.std.specs.Option.{option_map};
-ghost use Rattle.std.specs.Str.{trim};
+ghost use Rattle.std.specs.{Option.option_map, Str.trim, List.position};
 ghost use Rattle.merge.specs.Columns.{as_column, column_named, column_of, is_named, kinds_in};
 ghost use Rattle.merge.specs.Columns.{names_in, without};
-ghost use Rattle.std.specs.List.{position};
 ghost use Rattle.records.specs.Spellings.{text_of};
 
 use records::Field;

@@ -1,22 +1,18 @@
 //! The letters of a table, by its templates.
 
-ghost use Rattle.std.specs.Prelude.{◌≡◌, ◌<◌, ℕ, List, IfOk, IfErr, OnOk, true};
-ghost use Rattle.std.specs.Prelude.{None, Some, length, map};
+ghost use Rattle.std.specs.Prelude.{◌≡◌, ◌<◌, ℕ, List, IfOk, IfErr, OnOk, true, None, Some, length};
+ghost use Rattle.std.specs.Prelude.{map};
 ghost use Rattle.std.specs.Str.{chars};
-ghost use Rattle.interpolator.specs.At.{outermost};
-ghost use Rattle.interpolator.specs.Faults.{result_answer};
-ghost use Rattle.interpolator.specs.Meaning.Environments.{environment};
-ghost use Rattle.interpolator.specs.Meaning.Meanings.{means};
-ghost use Rattle.interpolator.specs.Meaning.Outcomes.{Outcome};
 ghost use Rattle.interpolator.specs.Prepared.Rows.{found_by_row, row_at};
-ghost use Rattle.interpolator_escapes.specs.Fields.{record_shows};
-ghost use Rattle.interpolator_escapes.specs.Formats.{escaped_shows};
-ghost use Rattle.merge.specs.Columns.{kinds_in, names_in};
-ghost use Rattle.merge.specs.Letters.{AreReady, IsOneFault, IsReady};
-ghost use Rattle.merge.specs.Letters.{LacksHeader, Merges, MergesAfter, MergesFrom};
-ghost use Rattle.merge.specs.Letters.{PutsIf, PutsLetter, WritesNext, WritesRows};
+ghost use Rattle.interpolator.specs.{At.outermost, Faults.result_answer};
+ghost use Rattle.interpolator.specs.{Meaning.Environments.environment, Meaning.Meanings.means};
+ghost use Rattle.interpolator.specs.Meaning.Outcomes.{Outcome};
+ghost use Rattle.interpolator_escapes.specs.{Fields.record_shows, Formats.escaped_shows};
+ghost use Rattle.merge.specs.Letters.{AreReady, IsOneFault, IsReady, LacksHeader, Merges};
+ghost use Rattle.merge.specs.Letters.{MergesAfter, MergesFrom, PutsIf, PutsLetter, WritesNext};
+ghost use Rattle.merge.specs.Letters.{WritesRows};
 ghost use Rattle.merge.specs.Table.{HasTrouble, IsTrouble, with_line};
-ghost use Rattle.merge.specs.Values.{AreShown};
+ghost use Rattle.merge.specs.{Columns.kinds_in, Columns.names_in, Values.AreShown};
 ghost use Rattle.records.specs.Spellings.{text_of};
 ghost use Rattle.records.specs.Tables.{AreEntries, Entry, GivesRecord, at, separator_of};
 

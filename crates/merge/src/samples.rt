@@ -2,11 +2,9 @@
 
 ghost use Rattle.std.specs.Prelude.{◌≡◌, IfOk, OnOk, map};
 ghost use Rattle.interpolator.specs.Contexts.{found_by_pairs, found_by_str};
-ghost use Rattle.interpolator.specs.Prepared.Rows.{pair_names};
-ghost use Rattle.interpolator.specs.SampleMaps.{HasOneMore};
+ghost use Rattle.interpolator.specs.{Prepared.Rows.pair_names, SampleMaps.HasOneMore};
 ghost use Rattle.interpolator.specs.Slots.{slots_of};
-ghost use Rattle.merge.specs.Columns.{kinds_in, names_in};
-ghost use Rattle.merge.specs.Values.{example_by};
+ghost use Rattle.merge.specs.{Columns.kinds_in, Columns.names_in, Values.example_by};
 
 use crate::columns::Column;
 use crate::values::example_of;

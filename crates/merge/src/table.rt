@@ -2,9 +2,8 @@
 
 ghost use Rattle.std.specs.Prelude.{◌≡◌, ◌+◌, ◌^◌, ◌<◌, ◌++◌, ◌∷◌, [], ℕ, List, Decides, IfOk};
 ghost use Rattle.std.specs.Prelude.{MatchBool, false, length, true};
-ghost use Rattle.merge.specs.Columns.{names_in};
-ghost use Rattle.merge.specs.Names.{Knows};
 ghost use Rattle.merge.specs.Table.{broken, count_trouble, repeat_trouble, repeats, with_line};
+ghost use Rattle.merge.specs.{Columns.names_in, Names.Knows};
 
 use crate::columns::Column;
 use records::Fault;

@@ -1,13 +1,11 @@
 -- What a rule says is what is read of it.
-use Rattle.std.proofs.Common.{◌≡◌, ◌∙◌, arith, refl, sym, ap, List, [], ◌∷◌, Result, Ok, Err}
-use Rattle.std.proofs.Common.{IfOk, append-nil, map, ℕ}
+use Rattle.std.proofs.Common.{◌≡◌, ◌∙◌, arith, refl, sym, ap, List, [], ◌∷◌, Result, Ok, Err, IfOk}
+use Rattle.std.proofs.Common.{append-nil, map, ℕ}
 use Rattle.plurals.specs.Readings.{Says, State, finish, step, steps, tree_at, tree_in, wants}
 use Rattle.plurals.specs.Tokens.{Gives, Spot, Word, at, words_of, ◌>>=◌}
 use Rattle.plurals.specs.Trees.{Tree, Writes, spelling, tree_of}
-use Rattle.plurals.specs.declared.expression.Expression.{Expression}
-use Rattle.plurals.specs.declared.fault.Fault.{Fault}
-use Rattle.plurals.specs.declared.fault.ParseError.{ParseError}
-use Rattle.plurals.specs.declared.fault.Problem.{Problem}
+use Rattle.plurals.specs.{declared.expression.Expression.Expression, declared.fault.Fault.Fault}
+use Rattle.plurals.specs.{declared.fault.ParseError.ParseError, declared.fault.Problem.Problem}
 use Rattle.plurals.proofs.SoundLemmas.{all_words, written}
 use Rattle.plurals.proofs.SpellingLemmas.{after, finishes, level_bounds, reads, runs}
 

@@ -1,16 +1,15 @@
 -- What is read is written so.
-use Rattle.std.proofs.Common.{◌≡◌, ◌≤◌, ◌<◌, ◌∙◌, ℕ, arith, refl, sym, List, [], ◌∷◌, ◌++◌}
-use Rattle.std.proofs.Common.{Result, Ok, Err, append_assoc, append-nil, cond, false, true}
-use Rattle.std.proofs.Common.{Bool, nat_lt}
+use Rattle.std.proofs.Common.{◌≡◌, ◌≤◌, ◌<◌, ◌∙◌, ℕ, arith, refl, sym, List, [], ◌∷◌, ◌++◌, Result}
+use Rattle.std.proofs.Common.{Ok, Err, append_assoc, append-nil, cond, false, true, Bool, nat_lt}
 use Rattle.std.proofs.lemmas.Bool.Decides.{nat_tests}
 use Rattle.std.specs.Prelude.{⊤}
 use Rattle.plurals.specs.Readings.{Frame, State, asking, bracketed, choosing, close_from, closed}
-use Rattle.plurals.specs.Readings.{ended, finish, grip, halved, has, joining, negating, opened, step}
-use Rattle.plurals.specs.Readings.{wants}
+use Rattle.plurals.specs.Readings.{ended, finish, grip, halved, has, joining, negating, opened}
+use Rattle.plurals.specs.Readings.{step, wants}
 use Rattle.plurals.specs.Tokens.{Word, bang, between, close_bracket, colon, modulo, name, number}
 use Rattle.plurals.specs.Tokens.{equal_to, open_bracket, question, unequal_to, ◌>>=◌}
-use Rattle.plurals.specs.Trees.{IsBound, Tree, alike, grouped, level, named, counted}
-use Rattle.plurals.specs.Trees.{reduced, spelling, strength, unlike}
+use Rattle.plurals.specs.Trees.{IsBound, Tree, alike, grouped, level, named, counted, reduced}
+use Rattle.plurals.specs.Trees.{spelling, strength, unlike}
 use Rattle.plurals.specs.declared.fault.Problem.{Problem}
 use Rattle.plurals.proofs.SpellingLemmas.{runs, strength_bounds, wanted}
 

@@ -1,17 +1,16 @@
 -- An expression is read as it is written.
-use Rattle.std.proofs.Common.{◌≡◌, ◌≤◌, ◌+◌, ◌∙◌, ℕ, arith, refl, ap, List, [], ◌∷◌, ◌++◌}
-use Rattle.std.proofs.Common.{Result, Ok, append_assoc}
+use Rattle.std.proofs.Common.{◌≡◌, ◌≤◌, ◌+◌, ◌∙◌, ℕ, arith, refl, ap, List, [], ◌∷◌, ◌++◌, Result}
+use Rattle.std.proofs.Common.{Ok, append_assoc}
 use Rattle.std.proofs.lemmas.Bool.Decides.{nat_tests}
 use Rattle.plurals.specs.Readings.{Frame, State, asking, choosing, close_from, finish, grip, has}
 use Rattle.plurals.specs.Readings.{closed, joining, negating, opened, step, wants}
 use Rattle.plurals.specs.Tokens.{Word, between, close_bracket, colon, modulo, question, ◌>>=◌}
 use Rattle.plurals.specs.Trees.{IsBound, Tree, alike, chosen, counted, grouped, joined, level}
 use Rattle.plurals.specs.Trees.{named, negated, reduced, spelling, strength, unlike}
-use Rattle.plurals.specs.declared.expression.Operator.{Operator}
 use Rattle.plurals.specs.declared.expression.Operator.TheVariants.{Or, And, Equal, Unequal, Less}
 use Rattle.plurals.specs.declared.expression.Operator.TheVariants.{LessOrEqual, Greater}
 use Rattle.plurals.specs.declared.expression.Operator.TheVariants.{GreaterOrEqual}
-use Rattle.plurals.specs.declared.fault.Problem.{Problem}
+use Rattle.plurals.specs.{declared.expression.Operator.Operator, declared.fault.Problem.Problem}
 
 -- how tightly the last part has to bind
 abbrev pub wanted : List Frame → ℕ

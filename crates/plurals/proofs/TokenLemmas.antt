@@ -1,21 +1,16 @@
 -- The tokens of a rule.
 use Rattle.std.proofs.Common.{◌≡◌, ◌⊎◌, ◌==◌, ℕ, ◌+◌, ◌<◌, suc, Bool, true, not, List, [], ◌∷◌}
-use Rattle.std.proofs.Common.{length, get_or, arith, refl, inl, rules, unwrap_or, ap, sym}
-use Rattle.std.proofs.Common.{◌∙◌, ◌++◌, Result, Ok, Err, None, append_assoc, zero, append-nil}
-use Rattle.std.specs.Str.{trim_start}
-use Rattle.plurals.specs.declared.fault.Fault.{Fault}
+use Rattle.std.proofs.Common.{length, get_or, arith, refl, inl, rules, unwrap_or, ap, sym, ◌∙◌}
+use Rattle.std.proofs.Common.{◌++◌, Result, Ok, Err, None, append_assoc, zero, append-nil}
 use Rattle.std.proofs.Common.{IsCharBoundary, IsUtf8, Some, position, eqb-true, slice_get}
-use Rattle.std.proofs.lemmas.Bool.{and_parts, cond_both}
-use Rattle.std.proofs.lemmas.Bool.Decides.{nat_tests}
-use Rattle.std.proofs.lemmas.List.Sums.{prefix_len-le-length}
-use Rattle.std.proofs.lemmas.Str.{IsCharBoundary-after_ascii}
 use Rattle.std.proofs.lemmas.Str.Parse.{IsNumeralModel, numerals_by_value, parse_digits}
-use Rattle.std.specs.Char.{is_ascii_digit}
-use Rattle.std.specs.List.{list_all, position_or_len}
-use Rattle.std.specs.Result.{result_ok}
-use Rattle.std.specs.Str.Parse.{ParsesUnsigned, digits_value}
-use Rattle.plurals.specs.Tokens.{Spot, ◌>>=◌, ends_run, is_numeral, next_at, number_in}
-use Rattle.plurals.specs.Tokens.{end_of, limit, words_from, words_of}
+use Rattle.std.proofs.{lemmas.Bool.and_parts, lemmas.Bool.cond_both, lemmas.Bool.Decides.nat_tests}
+use Rattle.std.proofs.{lemmas.List.Sums.prefix_len-le-length, lemmas.Str.IsCharBoundary-after_ascii}
+use Rattle.std.specs.{Str.trim_start, Char.is_ascii_digit, List.list_all, List.position_or_len}
+use Rattle.std.specs.{Result.result_ok, Str.Parse.ParsesUnsigned, Str.Parse.digits_value}
+use Rattle.plurals.specs.declared.fault.Fault.{Fault}
+use Rattle.plurals.specs.Tokens.{Spot, ◌>>=◌, ends_run, is_numeral, next_at, number_in, end_of}
+use Rattle.plurals.specs.Tokens.{limit, words_from, words_of}
 
 pub first_or_all : (test : ℕ → Bool) (bs : List ℕ)
     → unwrap_or (position test bs) (length bs) ≡ position_or_len test bs

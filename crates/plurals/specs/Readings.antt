@@ -2,15 +2,13 @@
 -- a word comes that binds no tighter.
 use Rattle.std.specs.Prelude.{◌≡◌, ℕ, nat_lt, List, [], ◌∷◌, length, map, reverse, if◌then◌else◌}
 use Rattle.std.specs.Prelude.{Option, None, Some, Result, Ok, Err}
-use Rattle.plurals.specs.Tokens.{Spot, Word, bang, between, close_bracket, colon, modulo, name}
-use Rattle.plurals.specs.Tokens.{at, equal_to, number, open_bracket, question, unequal_to}
-use Rattle.plurals.specs.Tokens.{words_of, ◌>>=◌}
+use Rattle.plurals.specs.Tokens.{Spot, Word, bang, between, close_bracket, colon, modulo, name, at}
+use Rattle.plurals.specs.Tokens.{equal_to, number, open_bracket, question, unequal_to, words_of}
+use Rattle.plurals.specs.Tokens.{◌>>=◌}
 use Rattle.plurals.specs.Trees.{Tree, Writes, alike, chosen, counted, grouped, joined, named}
 use Rattle.plurals.specs.Trees.{negated, reduced, strength, tree_of, unlike}
-use Rattle.plurals.specs.declared.expression.Expression.{Expression}
-use Rattle.plurals.specs.declared.expression.Operator.{Operator}
-use Rattle.plurals.specs.declared.fault.Fault.{Fault}
-use Rattle.plurals.specs.declared.fault.Problem.{Problem}
+use Rattle.plurals.specs.declared.{expression.Expression.Expression, expression.Operator.Operator}
+use Rattle.plurals.specs.declared.{fault.Fault.Fault, fault.Problem.Problem}
 use Rattle.plurals.specs.declared.fault.Problem.TheVariants as problems
 use Rattle.plurals.specs.declared.reduce.Frame.{Frame as Held}
 use Rattle.plurals.specs.declared.reduce.Frame.TheVariants as held

@@ -1,25 +1,20 @@
 -- The tokens of a rule. Texts are bytes.
 use Rattle.std.specs.Prelude.{◌≡◌, ⊤, ℕ, Bool, not, ◌&&◌, ◌||◌, ◌==◌, ◌-◌, ◌^◌, nat_lt, suc, zero}
-use Rattle.std.specs.Prelude.{List, [], ◌∷◌, codes, drop, length, take, if◌then◌else◌}
-use Rattle.std.specs.Prelude.{Option, None, Some}
-use Rattle.std.specs.Prelude.{Result, Ok, Err}
-use Rattle.std.specs.Borrow.{Bor}
-use Rattle.std.specs.Char.{is_ascii_digit, is_whitespace}
+use Rattle.std.specs.Prelude.{List, [], ◌∷◌, codes, drop, length, take, if◌then◌else◌, Option, None}
+use Rattle.std.specs.Prelude.{Some, Result, Ok, Err}
 use Rattle.std.specs.List.{after_first, before_first, list_all, list_any, position_or_len}
-use Rattle.std.specs.Option.{option_map, option_or}
 use Rattle.std.specs.Str.{bytes_eq, chars, trim_start}
-use Rattle.std.specs.Str.Parse.{digits_value}
+use Rattle.std.specs.{Borrow.Bor, Char.is_ascii_digit, Char.is_whitespace, Option.option_map}
+use Rattle.std.specs.{Option.option_or, Str.Parse.digits_value}
 use Rattle.plurals.specs.declared.expression.Operator.{Operator}
 use Rattle.plurals.specs.declared.expression.Operator.TheVariants as operators
-use Rattle.plurals.specs.declared.fault.Fault.{Fault}
-use Rattle.plurals.specs.declared.fault.ParseError.{ParseError}
 use Rattle.plurals.specs.declared.fault.ParseError.TheVariants.{Broken, NoMemory}
+use Rattle.plurals.specs.{declared.fault.Fault.Fault, declared.fault.ParseError.ParseError}
 use Rattle.plurals.specs.declared.fault.Problem.{Problem}
 use Rattle.plurals.specs.declared.fault.Problem.TheVariants as problems
 use Rattle.plurals.specs.declared.token.Token.{Token}
 use Rattle.plurals.specs.declared.token.Token.TheVariants as tokens
-use Rattle.plurals.specs.declared.token.Placed.{Placed}
-use Rattle.plurals.specs.declared.token.Rest.{Rest}
+use Rattle.plurals.specs.{declared.token.Placed.Placed, declared.token.Rest.Rest}
 
 -- a token, borrows aside
 pub data Word : Type 0 where

@@ -1,17 +1,14 @@
 -- The value of an expression, over natural numbers.
-use Rattle.std.specs.Prelude.{ℕ, Bool, true, false, not, ◌&&◌, ◌||◌, ◌==◌, ◌%◌, nat_lt, List, [], ◌∷◌, ◌++◌}
-use Rattle.std.specs.Prelude.{if◌then◌else◌, Option, None, Some, is_some}
-use Rattle.std.specs.Fmt.{decimal}
-use Rattle.std.specs.Option.{option_or}
-use Rattle.std.specs.Str.{bytes_eq}
+use Rattle.std.specs.Prelude.{ℕ, Bool, true, false, not, ◌&&◌, ◌||◌, ◌==◌, ◌%◌, nat_lt, List, []}
+use Rattle.std.specs.Prelude.{◌∷◌, ◌++◌, if◌then◌else◌, Option, None, Some, is_some}
+use Rattle.std.specs.{Fmt.decimal, Option.option_or, Str.bytes_eq}
 use Rattle.plurals.specs.Trees.{Tree, alike, chosen, counted, grouped, joined, named, negated}
 use Rattle.plurals.specs.Trees.{reduced, unlike}
-use Rattle.plurals.specs.declared.expression.Form.{Form}
 use Rattle.plurals.specs.declared.expression.Form.TheVariants.{Name, Number}
-use Rattle.plurals.specs.declared.expression.Operator.{Operator}
 use Rattle.plurals.specs.declared.expression.Operator.TheVariants.{Or, And, Equal, Unequal, Less}
 use Rattle.plurals.specs.declared.expression.Operator.TheVariants.{LessOrEqual, Greater}
 use Rattle.plurals.specs.declared.expression.Operator.TheVariants.{GreaterOrEqual}
+use Rattle.plurals.specs.{declared.expression.Form.Form, declared.expression.Operator.Operator}
 use Rattle.plurals.specs.declared.given.Missing.{Missing}
 use Rattle.plurals.specs.declared.given.Missing.TheVariants as lacks
 

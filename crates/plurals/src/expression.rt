@@ -3,9 +3,8 @@
 ghost use Rattle.std.specs.Prelude.{◌≡◌, ◌∷◌, ◌++◌, [], IfOk, map};
 ghost use Rattle.std.specs.Option.{option_map};
 ghost use Rattle.plurals.specs.Trees.{tree_of};
-ghost use Rattle.plurals.specs.Values.{applied, as_form, as_lack, form_by, forms, has_forms};
-ghost use Rattle.plurals.specs.Values.{holds, missing_for, missing_in, remainder, truth};
-ghost use Rattle.plurals.specs.Values.{value_by};
+ghost use Rattle.plurals.specs.Values.{applied, as_form, as_lack, form_by, forms, has_forms, holds};
+ghost use Rattle.plurals.specs.Values.{missing_for, missing_in, remainder, truth, value_by};
 
 use crate::given::{Missing, Values, is_text, or_zero, unless};
 use std::alloc::AllocError;

@@ -15,6 +15,7 @@
 mod expression;
 mod fault;
 mod given;
+mod numeral;
 mod reading;
 mod reduce;
 mod token;

@@ -1,21 +1,19 @@
 //! The tokens of a rule.
 
-ghost use Rattle.std.specs.Prelude.{◌≡◌, ◌<◌, ◌∷◌, ◌++◌, [], IfOk, IfSome, codes, length, map};
+ghost use Rattle.std.specs.Prelude.{◌≡◌, ◌<◌, ◌∷◌, ◌++◌, [], IfOk, IfSome, codes, map};
 ghost use Rattle.std.specs.Prelude.{option_map};
-ghost use Rattle.std.specs.List.{position, position_or_len};
-ghost use Rattle.std.specs.Char.{is_ascii_digit, is_whitespace};
-ghost use Rattle.std.specs.List.{list_all, list_any};
-ghost use Rattle.std.specs.Str.{chars, trim_start};
-ghost use Rattle.plurals.specs.Tokens.{Gives, as_next, end_of};
-ghost use Rattle.plurals.specs.Tokens.{as_pair, as_read, as_spot, as_word, divisor_at, divisor_in};
-ghost use Rattle.plurals.specs.Tokens.{between, double, double_at, ends_run, is_name, is_numeral};
-ghost use Rattle.plurals.specs.Tokens.{named_at, next_at, number_in, operand_at, quoted_after};
-ghost use Rattle.plurals.specs.Tokens.{quoted_at, run_at, run_of, after_run, seen, single};
-ghost use Rattle.plurals.specs.Tokens.{single_at, stray, twice, with_equals, word_at, word_in};
-ghost use Rattle.plurals.specs.Tokens.{words_of};
+ghost use Rattle.std.specs.List.{position, position_or_len, list_any};
+ghost use Rattle.std.specs.{Char.is_whitespace, Str.chars, Str.trim_start};
+ghost use Rattle.plurals.specs.Tokens.{Gives, as_next, end_of, as_pair, as_read, as_spot, as_word};
+ghost use Rattle.plurals.specs.Tokens.{divisor_at, divisor_in, between, double, double_at};
+ghost use Rattle.plurals.specs.Tokens.{ends_run, is_name, is_numeral, named_at, next_at, number_in};
+ghost use Rattle.plurals.specs.Tokens.{operand_at, quoted_after, quoted_at, run_at, run_of};
+ghost use Rattle.plurals.specs.Tokens.{after_run, seen, single, single_at, stray, twice};
+ghost use Rattle.plurals.specs.Tokens.{with_equals, word_at, word_in, words_of};
 
 use crate::expression::Operator;
 use crate::fault::{Fault, ParseError, Problem};
+use crate::numeral::{is_numeral, number_in};
 use std::alloc::{AllocError, Global};
 
 /// How many tokens a rule may have.
@@ -178,30 +176,6 @@ fn split_run(text: &str) -> (&str, &str)
     ensures after { result.1.now ≡ after_run text.now }
 {
     text.split_at(run_len(text.as_bytes()))
-}
-
-/// Whether each byte of a text is a digit.
-fn has_only_digits(text: &str) -> bool
-    ensures { result ≡ list_all is_ascii_digit text.now }
-{
-    text.bytes().all(|b| b.is_ascii_digit())
-}
-
-/// Whether a text is one or more digits.
-fn is_numeral(text: &str) -> bool
-    ensures { result ≡ is_numeral text.now }
-{
-    !text.is_empty() && has_only_digits(text)
-}
-
-/// The number that digits write, if it is below 2^64.
-fn number_in(text: &str) -> Option<u64>
-    ensures { result ≡ number_in text.now }
-{
-    if !is_numeral(text) {
-        return None;
-    }
-    text.parse::<u64>().ok()
 }
 
 /// Whether a text has white space.

@@ -3,9 +3,7 @@ use Rattle.std.proofs.Common.{◌≡◌, ℕ, true, List, [], ◌∙◌, refl, s
 use Rattle.po.proofs.OnceLemmas.{IsOnly, IsStuck, read_once}
 use Rattle.po.specs.Entries.{BreaksEntries, Entry, HasEntries, ReadsEntry, entry_at}
 use Rattle.po.specs.Sections.{after_front, fault_at}
-use Rattle.po.specs.declared.fault.Fault.{Fault}
-use Rattle.po.specs.declared.fault.Problem.TheVariants.{Key}
-use Rattle.po.specs.declared.token.Placed.{Placed}
+use Rattle.po.specs.declared.{fault.Fault.Fault, fault.Problem.TheVariants.Key, token.Placed.Placed}
 
 -- what was read, or else something of the kind
 abbrev read_in : Entry × List Placed → Result (Entry × List Placed) Fault → Entry × List Placed

@@ -1,14 +1,12 @@
 -- A file has one list of tokens, or one fault.
-use Rattle.std.proofs.Common.{◌≡◌, ℕ, List, [], ◌∷◌, ◌∙◌, arith, refl, inl, inr, sym, ap}
-use Rattle.std.proofs.Common.{length, ◌==◌}
-use Rattle.std.specs.List.{after_first, before_first}
-use Rattle.std.specs.Str.{trim_start}
+use Rattle.std.proofs.Common.{◌≡◌, ℕ, List, [], ◌∷◌, ◌∙◌, arith, refl, inl, inr, sym, ap, length}
+use Rattle.std.proofs.Common.{◌==◌}
+use Rattle.std.specs.{List.after_first, List.before_first, Str.trim_start}
 use Rattle.po.proofs.OnceLemmas.{IsOnly, IsStuck, one_string, read_once, string_or_fault}
 use Rattle.po.specs.Marks.{NotFirst, hash, line_feed, quote}
 use Rattle.po.specs.Tokens.{BreaksToken, HasTokens, IsBroken, IsToken, ReadsSpot, Spot, Word, note}
 use Rattle.po.specs.Tokens.{note_of, string, word, word_of}
-use Rattle.po.specs.declared.fault.Fault.{Fault}
-use Rattle.po.specs.declared.token.Note.{Note}
+use Rattle.po.specs.{declared.fault.Fault.Fault, declared.token.Note.Note}
 
 rest_is : (b : ℕ) (bs cs text : List ℕ) → text ≡ b ∷ bs → text ≡ b ∷ cs → bs ≡ cs
 rest_is b bs cs text e f = cc

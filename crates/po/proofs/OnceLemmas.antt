@@ -1,11 +1,9 @@
 -- A text is read in one way.
-use Rattle.std.proofs.Common.{◌≡◌, ℕ, true, List, [], ◌∷◌, ◌∙◌, arith, refl, inl, inr}
-use Rattle.std.proofs.Common.{Option, Some, None, sym, ap}
+use Rattle.std.proofs.Common.{◌≡◌, ℕ, true, List, [], ◌∷◌, ◌∙◌, arith, refl, inl, inr, Option, Some}
+use Rattle.std.proofs.Common.{None, sym, ap}
 use Rattle.po.specs.Marks.{backslash, is_plain, line_feed, quote}
-use Rattle.po.specs.Steps.{Leads}
 use Rattle.po.specs.Strings.{BreaksString, EndsOpen, IsString, ReadsByte, StopsString, escape_at}
-use Rattle.po.specs.declared.fault.Fault.{Fault}
-use Rattle.po.specs.declared.fault.Problem.{Problem}
+use Rattle.po.specs.{Steps.Leads, declared.fault.Fault.Fault, declared.fault.Problem.Problem}
 use Rattle.po.specs.declared.fault.Problem.TheVariants as problems
 
 module _ {A X : Type 0} (reads : A → X → A → Type 0) where

@@ -1,12 +1,10 @@
 -- How wide the bytes of a string are written.
 use Rattle.std.proofs.Common.{◌≡◌, ◌+◌, ◌<◌, ℕ, suc, List, [], ◌∷◌, ◌∙◌, arith, refl, inl, inr}
-use Rattle.std.proofs.Common.{Option, Some, None, true, false, sym, ◌^◌, ap, drop, drop-drop, get_or, length, length-drop, min}
-use Rattle.std.proofs.Math.Seq.{drop-cons}
-use Rattle.std.proofs.lemmas.Bool.{cond_both}
-use Rattle.po.specs.Marks.{backslash, is_plain, quote}
-use Rattle.po.specs.Places.{width_of}
-use Rattle.po.specs.Steps.{Leads}
+use Rattle.std.proofs.Common.{Option, Some, None, true, false, sym, ◌^◌, ap, drop, drop-drop}
+use Rattle.std.proofs.Common.{get_or, length, length-drop, min}
+use Rattle.std.proofs.{Math.Seq.drop-cons, lemmas.Bool.cond_both}
 use Rattle.po.specs.Strings.{ReadsByte, control, escape_at, is_octal, octal, octal_at}
+use Rattle.po.specs.{Marks.backslash, Marks.is_plain, Marks.quote, Places.width_of, Steps.Leads}
 use Rattle.po.proofs.OnceLemmas.{rest_in}
 use Rattle.std.specs.Option.{option_map, option_or}
 

@@ -1,11 +1,10 @@
 -- The first byte of a text that is one of some.
-use Rattle.std.proofs.Common.{◌≡◌, ◌⊎◌, ℕ, ◌+◌, ◌<◌, suc, Bool, true, List, [], ◌∷◌}
-use Rattle.std.proofs.Common.{length, get_or, take, drop, arith, refl, inl, eqb-true}
-use Rattle.std.proofs.Common.{IsCharBoundary, IsUtf8, Some, slice_get, position, unwrap_or}
-use Rattle.std.specs.List.{list_all, position_or_len}
-use Rattle.std.proofs.lemmas.Bool.{cond_both}
-use Rattle.std.proofs.lemmas.Str.{IsCharBoundary-after_ascii}
+use Rattle.std.proofs.Common.{◌≡◌, ◌⊎◌, ℕ, ◌+◌, ◌<◌, suc, Bool, true, List, [], ◌∷◌, length, get_or}
+use Rattle.std.proofs.Common.{take, drop, arith, refl, inl, eqb-true, IsCharBoundary, IsUtf8, Some}
+use Rattle.std.proofs.Common.{slice_get, position, unwrap_or}
+use Rattle.std.proofs.{lemmas.Bool.cond_both, lemmas.Str.IsCharBoundary-after_ascii}
 use Rattle.std.proofs.lemmas.List.Sums.{prefix_len-le-length}
+use Rattle.std.specs.List.{list_all, position_or_len}
 use Rattle.po.specs.Marks.{IsStopped, ends_word, is_plain, is_special}
 
 pub first_or_all : {X : Type 0} (test : X → Bool) (bs : List X)

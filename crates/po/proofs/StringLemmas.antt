@@ -5,8 +5,7 @@ use Rattle.std.proofs.lemmas.Bool.{and_parts, cond_both}
 use Rattle.std.specs.List.{list_all}
 use Rattle.po.proofs.StepLemmas.{one_more}
 use Rattle.po.specs.Marks.{IsStopped, NotFirst, backslash, is_plain, line_feed, quote}
-use Rattle.po.specs.Steps.{Leads}
-use Rattle.po.specs.Strings.{EndsOpen, ReadsByte, escape_at}
+use Rattle.po.specs.{Steps.Leads, Strings.EndsOpen, Strings.ReadsByte, Strings.escape_at}
 
 -- bytes that stand for themselves are read, one by one
 pub plain_read : (text value rest front tail new : List ℕ) → Leads ReadsByte text value rest

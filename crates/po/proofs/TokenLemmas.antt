@@ -1,9 +1,8 @@
 -- The tokens of a file, one by one.
 use Rattle.std.proofs.Common.{◌≡◌, ℕ, List, length, Err}
-use Rattle.po.specs.Steps.{Leads}
 use Rattle.po.specs.Tokens.{ReadsNext, ReadsSpot, ReadsTokens, Spot}
-use Rattle.po.specs.declared.fault.ReadError.{ReadError}
 use Rattle.po.specs.declared.fault.ReadError.TheVariants.{Broken, NoMemory}
+use Rattle.po.specs.{Steps.Leads, declared.fault.ReadError.ReadError}
 
 -- no token follows some others, for this reason
 pub broken_after : (Z : Type 0) (text : List ℕ) (spots : List Spot) (last : List ℕ) (end : ℕ)

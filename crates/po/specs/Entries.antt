@@ -1,15 +1,11 @@
 -- The messages of a file, by its tokens.
 use Rattle.std.specs.Prelude.{◌≡◌, ◌≢◌, ⊤, ℕ, Bool, true, false, ◌==◌, List, [], ◌∷◌, ◌++◌, codes}
 use Rattle.std.specs.Prelude.{if◌then◌else◌, length, map, Result, Ok, Err}
-use Rattle.std.specs.Borrow.{Bor}
-use Rattle.std.specs.declared.vec.Vec.{Vec}
+use Rattle.std.specs.{Borrow.Bor, declared.vec.Vec.Vec}
 use Rattle.po.specs.Sections.{after_front, fault_at, front, is_fuzzy, optional, section}
-use Rattle.po.specs.Steps.{Leads}
-use Rattle.po.specs.declared.entry.Entry.{Entry as Lent}
-use Rattle.po.specs.declared.fault.Fault.{Fault}
-use Rattle.po.specs.declared.fault.Problem.TheVariants.{Key}
-use Rattle.po.specs.declared.fault.ReadError.{ReadError}
 use Rattle.po.specs.declared.fault.ReadError.TheVariants.{Broken, NoMemory}
+use Rattle.po.specs.{Steps.Leads, declared.entry.Entry.Entry as Lent, declared.fault.Fault.Fault}
+use Rattle.po.specs.{declared.fault.Problem.TheVariants.Key, declared.fault.ReadError.ReadError}
 use Rattle.po.specs.declared.token.Placed.{Placed}
 
 -- a message, by the strings of its parts

@@ -1,7 +1,6 @@
 -- How wide a byte of a string is written.
 use Rattle.std.specs.Prelude.{ℕ, ◌==◌, List, ◌∷◌, if◌then◌else◌}
-use Rattle.po.specs.Marks.{backslash}
-use Rattle.po.specs.Strings.{is_octal}
+use Rattle.po.specs.{Marks.backslash, Strings.is_octal}
 
 -- how many bytes write the byte of a string that a text begins with
 abbrev pub width_of : List ℕ → ℕ

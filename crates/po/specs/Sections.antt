@@ -1,15 +1,11 @@
 -- A keyword and the strings behind it, and the comments before an entry.
 use Rattle.std.specs.Prelude.{ℕ, Bool, true, false, not, List, [], ◌∷◌, drop, take, map}
 use Rattle.std.specs.Prelude.{if◌then◌else◌, string_bytes, Result, Ok, Err}
-use Rattle.std.specs.Borrow.{Bor}
-use Rattle.std.specs.List.{concat, position_or_len}
-use Rattle.std.specs.Str.{bytes_eq}
-use Rattle.po.specs.declared.fault.Fault.{Fault}
-use Rattle.po.specs.declared.fault.Problem.{Problem}
+use Rattle.std.specs.{Borrow.Bor, List.concat, List.position_or_len, Str.bytes_eq}
 use Rattle.po.specs.declared.fault.Problem.TheVariants.{Key, Text}
 use Rattle.po.specs.declared.token.Note.TheVariants.{Fuzzy, Obsolete}
-use Rattle.po.specs.declared.token.Placed.{Placed}
-use Rattle.po.specs.declared.token.Token.{Token}
+use Rattle.po.specs.{declared.fault.Fault.Fault, declared.fault.Problem.Problem}
+use Rattle.po.specs.{declared.token.Placed.Placed, declared.token.Token.Token}
 use Rattle.po.specs.declared.token.Token.TheVariants as tokens
 
 -- a token is a comment, or else a string; or it is this word

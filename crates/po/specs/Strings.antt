@@ -1,14 +1,11 @@
 -- How a text is written in a string.
-use Rattle.std.specs.Prelude.{◌≡◌, ◌⊎◌, ⊤, ℕ, Bool, true, ◌||◌, ◌&&◌, ◌==◌, ◌+◌, ◌-◌, ◌*◌}
-use Rattle.std.specs.Prelude.{nat_le, nat_lt, List, [], ◌∷◌, length, string_bytes}
-use Rattle.std.specs.Prelude.{if◌then◌else◌, Option, None, Some, Result, Ok, Err}
-use Rattle.std.specs.Borrow.{Bor}
+use Rattle.std.specs.Prelude.{◌≡◌, ◌⊎◌, ⊤, ℕ, Bool, true, ◌||◌, ◌&&◌, ◌==◌, ◌+◌, ◌-◌, ◌*◌, nat_le}
+use Rattle.std.specs.Prelude.{nat_lt, List, [], ◌∷◌, length, string_bytes, if◌then◌else◌, Option}
+use Rattle.std.specs.Prelude.{None, Some, Result, Ok, Err}
 use Rattle.std.specs.Option.{option_map, option_or}
-use Rattle.std.specs.declared.string.String.{String}
+use Rattle.std.specs.{Borrow.Bor, declared.string.String.String}
 use Rattle.po.specs.Marks.{backslash, is_plain, line_feed, quote}
-use Rattle.po.specs.Steps.{Leads}
-use Rattle.po.specs.declared.fault.Fault.{Fault}
-use Rattle.po.specs.declared.fault.Problem.{Problem}
+use Rattle.po.specs.{Steps.Leads, declared.fault.Fault.Fault, declared.fault.Problem.Problem}
 use Rattle.po.specs.declared.fault.Problem.TheVariants as problems
 use Rattle.po.specs.declared.fault.ReadError.{ReadError}
 use Rattle.po.specs.declared.fault.ReadError.TheVariants.{Broken, NoMemory}

@@ -1,23 +1,16 @@
 -- The tokens of a file, with white space between them.
-use Rattle.std.specs.Prelude.{◌≡◌, ◌≢◌, ⊤, ◌⊎◌, ℕ, Bool, ◌==◌, ◌-◌, List, [], ◌∷◌, codes, map}
-use Rattle.std.specs.Prelude.{drop, length, take, if◌then◌else◌, string_bytes, Option, None, Some}
-use Rattle.std.specs.Prelude.{Result, Ok, Err}
-use Rattle.std.specs.Borrow.{Bor}
+use Rattle.std.specs.Prelude.{◌≡◌, ◌≢◌, ⊤, ◌⊎◌, ℕ, Bool, ◌==◌, ◌-◌, List, [], ◌∷◌, codes, map, drop}
+use Rattle.std.specs.Prelude.{length, take, if◌then◌else◌, string_bytes, Option, None, Some, Result}
+use Rattle.std.specs.Prelude.{Ok, Err}
 use Rattle.std.specs.List.{after_first, before_first, list_any, position_or_len, slice_split}
-use Rattle.std.specs.Str.{bytes_eq, trim, trim_start}
-use Rattle.std.specs.declared.vec.Vec.{Vec}
+use Rattle.std.specs.{Borrow.Bor, Str.bytes_eq, Str.trim, Str.trim_start, declared.vec.Vec.Vec}
 use Rattle.po.specs.Marks.{NotFirst, ends_word, hash, line_feed, quote}
-use Rattle.po.specs.Steps.{Leads}
-use Rattle.po.specs.Strings.{BreaksString, IsString}
-use Rattle.po.specs.declared.fault.Fault.{Fault}
-use Rattle.po.specs.declared.fault.Problem.TheVariants.{Key}
-use Rattle.po.specs.declared.fault.ReadError.{ReadError}
-use Rattle.po.specs.declared.fault.ReadError.TheVariants.{Broken, NoMemory}
-use Rattle.po.specs.declared.scan.At.{At}
-use Rattle.po.specs.declared.token.Note.{Note}
 use Rattle.po.specs.declared.token.Note.TheVariants.{Fuzzy, Obsolete, Plain}
-use Rattle.po.specs.declared.token.Placed.{Placed}
-use Rattle.po.specs.declared.token.Token.{Token}
+use Rattle.po.specs.declared.{fault.Fault.Fault, fault.Problem.TheVariants.Key}
+use Rattle.po.specs.declared.{fault.ReadError.ReadError, fault.ReadError.TheVariants.Broken}
+use Rattle.po.specs.declared.{fault.ReadError.TheVariants.NoMemory, scan.At.At, token.Note.Note}
+use Rattle.po.specs.declared.{token.Placed.Placed, token.Token.Token}
+use Rattle.po.specs.{Steps.Leads, Strings.BreaksString, Strings.IsString}
 use Rattle.po.specs.declared.token.Token.TheVariants as tokens
 
 -- a comment by what it says, a word, or a string by its text

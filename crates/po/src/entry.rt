@@ -3,8 +3,7 @@
 ghost use Rattle.std.specs.Prelude.{◌≡◌, ◌≤◌, ◌<◌, ◌++◌, ◌∷◌, [], IfOk, length, map, true};
 ghost use Rattle.po.specs.Entries.{ReadsEntries, as_entry, as_forms, as_read, entry_at, form_keys};
 ghost use Rattle.po.specs.Entries.{Gives, forms_by, lists_of, one_form, some_forms, texts};
-ghost use Rattle.po.specs.Sections.{after_front};
-ghost use Rattle.po.specs.Tokens.{texts_of};
+ghost use Rattle.po.specs.{Sections.after_front, Tokens.texts_of};
 
 use crate::fault::{Problem, ReadError};
 use crate::section::{fault_at, is_fuzzy, optional, section, split_of};

@@ -3,8 +3,7 @@
 ghost use Rattle.std.specs.Prelude.{◌≡◌, ℕ, List};
 ghost use Rattle.po.specs.Entries.{BreaksEntries, Entry as Message, HasEntries};
 ghost use Rattle.po.specs.Tokens.{HasTokens, IsBroken, Spot};
-ghost use Rattle.po.specs.declared.fault.Fault.{Fault as Why};
-ghost use Rattle.po.specs.declared.token.Placed.{Placed as At};
+ghost use Rattle.po.specs.{declared.fault.Fault.Fault as Why, declared.token.Placed.Placed as At};
 
 /// A text is one list of tokens, or it is broken: no text can be read in two ways.
 pub fn a_file_has_one_list_of_tokens()

@@ -1,10 +1,8 @@
 //! Where in a file the text of strings is written.
 
 ghost use Rattle.std.specs.Prelude.{◌≡◌, ◌≤◌, ◌∷◌, ℕ, List, drop, length};
-ghost use Rattle.po.specs.Marks.{quote};
-ghost use Rattle.po.specs.Places.{width_of};
-ghost use Rattle.po.specs.Steps.{Leads};
 ghost use Rattle.po.specs.Strings.{ReadsByte, is_octal};
+ghost use Rattle.po.specs.{Marks.quote, Places.width_of, Steps.Leads};
 
 use crate::string::is_octal;
 use crate::token::{Placed, Token};

@@ -1,7 +1,6 @@
 //! The tokens of a file: notes, words and strings.
 
-ghost use Rattle.std.specs.Prelude.{◌≡◌, ◌≢◌, ◌<◌, ◌==◌, ◌∷◌, ◌++◌, [], IfOk, IfSome};
-ghost use Rattle.std.specs.Prelude.{length, map};
+ghost use Rattle.std.specs.Prelude.{◌≡◌, ◌≢◌, ◌<◌, ◌==◌, ◌∷◌, ◌++◌, [], IfOk, IfSome, length, map};
 ghost use Rattle.std.specs.List.{after_first, before_first, slice_split};
 ghost use Rattle.po.specs.Marks.{line_feed};
 ghost use Rattle.po.specs.Tokens.{ReadsNext, ReadsToken, ReadsTokens, as_spot, has_fuzzy, note_of};

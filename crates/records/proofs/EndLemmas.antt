@@ -1,9 +1,8 @@
 -- The line ends at the end of a text.
-use Rattle.std.proofs.Common.{◌≡◌, ℕ, ◌<◌, List, [], ◌∷◌, ◌++◌, length, arith}
-use Rattle.std.proofs.Common.{refl, sym, inl, inr, append_assoc, append-nil, ap, get_or, drop, ◌∙◌}
-use Rattle.records.specs.Ends.{LosesLineEnd, NotLast}
+use Rattle.std.proofs.Common.{◌≡◌, ℕ, ◌<◌, List, [], ◌∷◌, ◌++◌, length, arith, refl, sym, inl, inr}
+use Rattle.std.proofs.Common.{append_assoc, append-nil, ap, get_or, drop, ◌∙◌}
 use Rattle.records.specs.Heads.{AreLineEnds, FeedsFirst, IsEnded}
-use Rattle.records.specs.Marks.{carriage_return, line_feed}
+use Rattle.records.specs.{Ends.LosesLineEnd, Ends.NotLast, Marks.carriage_return, Marks.line_feed}
 
 -- line ends were taken from the end of a text: no line feed of them has lost its carriage return
 pub record HasLost (text kept : List ℕ) : Type 0 where
@@ -19,23 +18,6 @@ none_lost text = record {
   line_ends = tt;
   whole = λ none. absurd none;
 }
-
-pub one_lost : (text kept rest : List ℕ) → HasLost text kept → LosesLineEnd kept rest
-    → HasLost text rest
-one_lost text kept rest lost (inl both) =
-    let is = rw both at lost.is in record {
-      end = carriage_return ∷ line_feed ∷ lost.end;
-      is = rw (append_assoc rest (carriage_return ∷ line_feed ∷ []) lost.end) at is;
-      line_ends = (inr (refl, refl), (inl refl, lost.line_ends));
-      whole = λ feed. absurd (omega (arith, feed));
-    }
-one_lost text kept rest lost (inr feed) =
-    let is = rw feed.0 at lost.is in record {
-      end = line_feed ∷ lost.end;
-      is = rw (append_assoc rest (line_feed ∷ []) lost.end) at is;
-      line_ends = (inl refl, lost.line_ends);
-      whole = λ _. feed.1;
-    }
 
 -- a list that is not empty has a last element
 abbrev Snoc : List ℕ → Type 0

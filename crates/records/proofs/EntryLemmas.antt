@@ -1,11 +1,10 @@
 -- The entries of a table, one after the other.
-use Rattle.std.proofs.Common.{◌≡◌, ◌∙◌, List, [], ◌∷◌, ◌++◌, ap, append-nil, append_assoc, map}
-use Rattle.std.proofs.Common.{Err, Ok, refl, sym}
+use Rattle.std.proofs.Common.{◌≡◌, ◌∙◌, List, [], ◌∷◌, ◌++◌, ap, append-nil, append_assoc, map, Err}
+use Rattle.std.proofs.Common.{Ok, refl, sym}
 use Rattle.std.proofs.lemmas.List.{map-append}
 use Rattle.records.specs.Tables.{AreEntries, AreOf, At, Entry, Gives, as_read, faults_in}
 use Rattle.records.specs.Tables.{records_in}
-use Rattle.records.specs.declared.fault.Fault.{Fault}
-use Rattle.records.specs.declared.separator.Separator.{Separator}
+use Rattle.records.specs.{declared.fault.Fault.Fault, declared.separator.Separator.Separator}
 use Rattle.records.specs.declared.table.Record.{Record}
 
 -- what was read from one place on, as far as another
@@ -41,9 +40,6 @@ faults-append : (entries others : List Entry)
 faults-append [] others = refl
 faults-append (Ok read ∷ entries) others = faults-append entries others
 faults-append (Err fault ∷ entries) others = ap (λ l. fault ∷ l) (faults-append entries others)
-
-pub none_kept : AreOf [] [] []
-none_kept = record { same_records = refl; same_faults = refl }
 
 module _ (entries : List Entry) (old new : List Record) (faults : List Fault)
     (so_far : AreOf entries old faults) where

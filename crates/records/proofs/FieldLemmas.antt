@@ -5,8 +5,7 @@ use Rattle.std.proofs.lemmas.Bool.{cases_Bool, cond_both}
 use Rattle.records.specs.Faults.{IsBroken, IsClosed}
 use Rattle.records.specs.Marks.{NotFirst, blank, carriage_return, line_feed, quote}
 use Rattle.records.specs.Scans.{HasField, IsInside, IsStopped, IsUnquoted, problem_at}
-use Rattle.records.specs.Spellings.{AreBlanks, IsPlain, doubled, ends_field}
-use Rattle.records.specs.Spellings.{stops}
+use Rattle.records.specs.Spellings.{AreBlanks, IsPlain, doubled, ends_field, stops}
 use Rattle.records.specs.declared.fault.Problem.TheVariants.{AfterQuote, StrayQuote}
 use Rattle.records.specs.declared.separator.Separator.{Separator}
 use Rattle.records.specs.declared.separator.Separator.TheVariants.{Comma, Semicolon, Tab}

@@ -1,14 +1,12 @@
 -- The field at the beginning of a text is one, or there is none for one reason.
 use Rattle.std.proofs.Common.{◌≡◌, ◌≢◌, ◌⊎◌, ◌∙◌, ℕ, Bool, true, false, cond, List, [], ◌∷◌, ◌++◌}
-use Rattle.std.proofs.Common.{arith, refl, sym, ap, eqb, eqb-true, inl, inr, append_assoc}
-use Rattle.std.proofs.Common.{Option, None, Some, Result, Ok, Err, ne_eqb, ◌||◌}
+use Rattle.std.proofs.Common.{arith, refl, sym, ap, eqb, eqb-true, inl, inr, append_assoc, Option}
+use Rattle.std.proofs.Common.{None, Some, Result, Ok, Err, ne_eqb, ◌||◌}
 use Rattle.std.proofs.lemmas.Bool.{cases_Bool, cond_both, false≢true}
-use Rattle.records.specs.Faults.{IsBroken, IsClosed}
 use Rattle.records.specs.Marks.{NotFirst, blank, byte_of, carriage_return, line_feed, quote}
 use Rattle.records.specs.Scans.{HasField, IsStopped, problem_at}
-use Rattle.records.specs.Spellings.{AreBlanks, IsPlain, doubled, ends_field}
-use Rattle.records.specs.Spellings.{stops}
-use Rattle.records.specs.declared.fault.Problem.{Problem}
+use Rattle.records.specs.Spellings.{AreBlanks, IsPlain, doubled, ends_field, stops}
+use Rattle.records.specs.{Faults.IsBroken, Faults.IsClosed, declared.fault.Problem.Problem}
 use Rattle.records.specs.declared.fault.Problem.TheVariants as why
 use Rattle.records.specs.declared.separator.Separator.{Separator}
 use Rattle.records.specs.declared.separator.Separator.TheVariants.{Comma, Semicolon, Tab}

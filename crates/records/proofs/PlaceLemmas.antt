@@ -1,16 +1,11 @@
 -- The rests of a text, and their places.
 use Rattle.std.proofs.Common.{◌≡◌, ℕ, ◌+◌, ◌-◌, ◌≤◌, List, [], ◌∷◌, ◌++◌, length, arith}
-use Rattle.std.proofs.Common.{append_assoc, inl, inr, IsUtf8, IsCharBoundary, eqb}
-use Rattle.std.proofs.Common.{length-append}
+use Rattle.std.proofs.Common.{append_assoc, inl, inr, IsUtf8, IsCharBoundary, eqb, length-append}
 use Rattle.std.proofs.Common.{sym}
-use Rattle.std.proofs.lemmas.Bool.{cases_Bool}
-use Rattle.std.proofs.lemmas.List.{drop_all}
-use Rattle.std.proofs.lemmas.Str.{IsCharBoundary-at_seam}
+use Rattle.std.proofs.lemmas.{Bool.cases_Bool, List.drop_all, Str.IsCharBoundary-at_seam}
 use Rattle.std.specs.List.{after_first, position_or_len}
-use Rattle.records.specs.Marks.{line_feed}
 use Rattle.records.specs.Places.{goes_on, moved, place_after}
-use Rattle.records.specs.Records.{Begins}
-use Rattle.records.specs.declared.fault.Place.{Place}
+use Rattle.records.specs.{Marks.line_feed, Records.Begins, declared.fault.Place.Place}
 use Rattle.records.specs.declared.separator.Separator.{Separator}
 
 -- `rest` is what some front of the text leaves

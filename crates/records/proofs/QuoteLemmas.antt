@@ -1,10 +1,7 @@
 -- A text in quotes, part by part.
-use Rattle.std.proofs.Common.{◌≡◌, ℕ, List, [], ◌∷◌, ◌++◌, arith, refl, append_assoc}
-use Rattle.std.proofs.Common.{eqb}
+use Rattle.std.proofs.Common.{◌≡◌, ℕ, List, [], ◌∷◌, ◌++◌, arith, refl, append_assoc, eqb}
 use Rattle.std.proofs.lemmas.Bool.{cases_Bool}
-use Rattle.records.specs.Marks.{quote}
-use Rattle.records.specs.Scans.{IsOpen}
-use Rattle.records.specs.Spellings.{doubled}
+use Rattle.records.specs.{Marks.quote, Scans.IsOpen, Spellings.doubled}
 
 pub doubled-append : (xs ys : List ℕ) → doubled (xs ++ ys) ≡ doubled xs ++ doubled ys
 doubled-append [] ys = refl

@@ -1,12 +1,9 @@
 -- Fields, one after the other.
-use Rattle.std.proofs.Common.{◌≡◌, ℕ, List, [], ◌∷◌, ◌++◌, arith, refl, append_assoc}
-use Rattle.std.proofs.Common.{IsUtf8, ◌<◌}
-use Rattle.records.specs.Marks.{byte_of}
+use Rattle.std.proofs.Common.{◌≡◌, ℕ, List, [], ◌∷◌, ◌++◌, arith, refl, append_assoc, IsUtf8, ◌<◌}
 use Rattle.records.specs.Records.{Begins, EndsLine, Opens}
-use Rattle.records.specs.Scans.{HasField}
-use Rattle.records.specs.Spellings.{IsSpelled}
-use Rattle.records.specs.declared.separator.Separator.{Separator}
 use Rattle.records.specs.declared.separator.Separator.TheVariants.{Comma, Semicolon, Tab}
+use Rattle.records.specs.{Marks.byte_of, Scans.HasField, Spellings.IsSpelled}
+use Rattle.records.specs.declared.separator.Separator.{Separator}
 use Rattle.records.proofs.ScanLemmas.{utf8_behind}
 
 module _ (separator : Separator) where

@@ -1,19 +1,15 @@
 -- The first byte of a text that is one of some.
 use Rattle.std.proofs.Common.{◌≡◌, ◌≢◌, ◌⊎◌, ℕ, ◌+◌, ◌<◌, suc, Bool, true, List, [], ◌∷◌, ◌++◌}
-use Rattle.std.proofs.Common.{length, get_or, take, drop, arith, refl, inl, eqb-true}
-use Rattle.std.proofs.Common.{Option, None, MatchOption, append_assoc, length-append}
-use Rattle.std.specs.Borrow.{Bor}
-use Rattle.std.proofs.Common.{IsCharBoundary, IsUtf8, Some, slice_get, position, unwrap_or}
-use Rattle.std.specs.List.{position_or_len}
-use Rattle.std.proofs.lemmas.Bool.{cond_both}
+use Rattle.std.proofs.Common.{length, get_or, take, drop, arith, refl, inl, eqb-true, Option, None}
+use Rattle.std.proofs.Common.{MatchOption, append_assoc, length-append, IsCharBoundary, IsUtf8}
+use Rattle.std.proofs.Common.{Some, slice_get, position, unwrap_or}
 use Rattle.std.proofs.lemmas.Str.{IsCharBoundary-after_ascii, IsUtf8-past_char, encode_ascii}
 use Rattle.std.proofs.lemmas.Str.{IsCharBoundary-before_ascii, IsUtf8-drop}
-use Rattle.std.proofs.lemmas.List.Sums.{prefix_len-le-length}
-use Rattle.records.specs.Marks.{quote}
-use Rattle.records.specs.Scans.{IsStopped}
+use Rattle.std.proofs.{lemmas.Bool.cond_both, lemmas.List.Sums.prefix_len-le-length}
+use Rattle.std.specs.{Borrow.Bor, List.position_or_len}
 use Rattle.records.specs.Spellings.{AreBlanks, IsPlain, doubled, stops}
-use Rattle.records.specs.declared.separator.Separator.{Separator}
 use Rattle.records.specs.declared.separator.Separator.TheVariants.{Comma, Semicolon, Tab}
+use Rattle.records.specs.{Marks.quote, Scans.IsStopped, declared.separator.Separator.Separator}
 
 -- blanks, and one more, are blanks
 more : (blanks : List ℕ) → AreBlanks blanks → AreBlanks (blanks ++ (32 ∷ []))

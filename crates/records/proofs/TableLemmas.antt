@@ -1,16 +1,12 @@
 -- A text is read in one way.
 use Rattle.std.proofs.Common.{◌≡◌, ◌≢◌, ◌∙◌, ℕ, true, List, [], ◌∷◌, ◌++◌, arith, refl, sym, ap}
-use Rattle.std.proofs.Common.{drop}
-use Rattle.std.proofs.Common.{cond, eqb, inl, inr, append_assoc, Ok, Err}
+use Rattle.std.proofs.Common.{drop, cond, eqb, inl, inr, append_assoc, Ok, Err}
 use Rattle.std.proofs.lemmas.List.{append_cancel_right}
-use Rattle.records.specs.Faults.{Breaks}
 use Rattle.records.specs.Marks.{NotFirst, byte_of, carriage_return, line_feed}
 use Rattle.records.specs.Records.{Begins, EndsLine, Opens}
-use Rattle.records.specs.Spellings.{IsSpelled, ends_field}
 use Rattle.records.specs.Tables.{AreEntries, At, Entry, Gives, Passes}
-use Rattle.records.specs.declared.fault.Fault.{Fault}
-use Rattle.records.specs.declared.fault.Place.{Place}
-use Rattle.records.specs.declared.fault.Problem.{Problem}
+use Rattle.records.specs.declared.{fault.Fault.Fault, fault.Place.Place, fault.Problem.Problem}
+use Rattle.records.specs.{Faults.Breaks, Spellings.IsSpelled, Spellings.ends_field}
 use Rattle.records.specs.declared.fault.Problem.TheVariants as why
 use Rattle.records.specs.declared.separator.Separator.{Separator}
 use Rattle.records.specs.declared.separator.Separator.TheVariants.{Comma, Semicolon, Tab}

@@ -4,12 +4,9 @@ use Rattle.std.proofs.Common.{append_assoc, ap, get_or, inr, length, map, refl, 
 use Rattle.std.proofs.lemmas.List.{map-append, map_more}
 use Rattle.std.specs.Borrow.{Bor}
 use Rattle.records.specs.Marks.{byte_of, line_feed, quote}
-use Rattle.records.specs.Records.{Opens}
 use Rattle.records.specs.Spellings.{IsSpelled, doubled}
-use Rattle.records.specs.Written.{IsWritten}
-use Rattle.records.specs.declared.separator.Separator.{Separator}
-use Rattle.records.proofs.QuoteLemmas.{doubled-append}
-use Rattle.records.proofs.RecordLemmas.{opens_more}
+use Rattle.records.specs.{Records.Opens, Written.IsWritten, declared.separator.Separator.Separator}
+use Rattle.records.proofs.{QuoteLemmas.doubled-append, RecordLemmas.opens_more}
 
 split_nil : {A : Type 0} (xs ys : List A) → xs ++ ys ≡ [] → (xs ≡ []) × (ys ≡ [])
 split_nil [] ys e = (refl, e)

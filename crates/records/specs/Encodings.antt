@@ -1,10 +1,7 @@
 -- Bytes as text.
-use Rattle.std.specs.Prelude.{◌≡◌, ◌==◌, ◌&&◌, ◌||◌, ℕ, Bool, false, List, ◌∷◌}
-use Rattle.std.specs.Prelude.{slice_index, take}
+use Rattle.std.specs.Prelude.{◌≡◌, ◌==◌, ◌&&◌, ◌||◌, ℕ, Bool, false, List, ◌∷◌, slice_index, take}
 use Rattle.std.specs.Str.{IsValidUpTo}
-use Rattle.records.specs.Places.{place_after}
-use Rattle.records.specs.Tables.{line_start}
-use Rattle.records.specs.declared.encoding.BadByte.{BadByte}
+use Rattle.records.specs.{Places.place_after, Tables.line_start, declared.encoding.BadByte.BadByte}
 
 -- the first byte that is no UTF-8: the bytes before it are, and with it and more none are
 pub record IsBad (bytes : List ℕ) (bad : BadByte) : Type 0 where

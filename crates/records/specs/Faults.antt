@@ -1,11 +1,10 @@
 -- Where a text begins with no record, and why.
 use Rattle.std.specs.Prelude.{◌≡◌, ◌⊎◌, ℕ, false, List, ◌∷◌, ◌++◌}
 use Rattle.records.specs.Marks.{NotFirst, blank, carriage_return, line_feed, quote}
-use Rattle.records.specs.Records.{Opens}
 use Rattle.records.specs.Spellings.{AreBlanks, IsPlain, doubled, ends_field}
-use Rattle.records.specs.declared.fault.Problem.{Problem}
 use Rattle.records.specs.declared.fault.Problem.TheVariants.{AfterQuote, LoneReturn, StrayQuote}
 use Rattle.records.specs.declared.fault.Problem.TheVariants.{Unclosed}
+use Rattle.records.specs.{Records.Opens, declared.fault.Problem.Problem}
 use Rattle.records.specs.declared.separator.Separator.{Separator}
 
 -- a front of a text is a field in quotes, and as long as it can be: at the closing quote no quote

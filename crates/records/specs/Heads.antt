@@ -1,12 +1,10 @@
 -- The head and the end of a text, which belong to no record.
-use Rattle.std.specs.Prelude.{◌≡◌, ◌≢◌, ◌⊎◌, ◌==◌, ⊤, ◌≤◌, ℕ, List, [], ◌∷◌, ◌++◌, length}
-use Rattle.std.specs.Prelude.{Option, None, Some}
+use Rattle.std.specs.Prelude.{◌≡◌, ◌≢◌, ◌⊎◌, ◌==◌, ⊤, ◌≤◌, ℕ, List, [], ◌∷◌, ◌++◌, length, Option}
+use Rattle.std.specs.Prelude.{None, Some}
 use Rattle.std.specs.List.{after_first}
-use Rattle.records.specs.Marks.{carriage_return, line_feed}
-use Rattle.records.specs.Separators.{first_line, named_in}
-use Rattle.records.specs.Tables.{At, Holds}
-use Rattle.records.specs.declared.separator.Separator.{Separator}
-use Rattle.records.specs.declared.table.Table.{Table}
+use Rattle.records.specs.{Marks.carriage_return, Marks.line_feed, Separators.first_line}
+use Rattle.records.specs.{Separators.named_in, Tables.At, Tables.Holds}
+use Rattle.records.specs.{declared.separator.Separator.Separator, declared.table.Table.Table}
 
 -- the byte order mark
 abbrev pub mark : List ℕ

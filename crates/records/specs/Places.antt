@@ -1,7 +1,6 @@
 -- Places in a text, by line and character.
 use Rattle.std.specs.Prelude.{ℕ, Bool, ◌+◌, ◌==◌, ◌&&◌, nat_le, nat_lt, cond, List, [], ◌∷◌}
-use Rattle.records.specs.Marks.{line_feed}
-use Rattle.records.specs.declared.fault.Place.{Place}
+use Rattle.records.specs.{Marks.line_feed, declared.fault.Place.Place}
 
 -- a byte goes on with a character
 abbrev pub goes_on : ℕ → Bool

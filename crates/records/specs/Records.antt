@@ -1,8 +1,7 @@
 -- How a record is spelled: its fields, with a separator between each two, and then a line end.
 use Rattle.std.specs.Prelude.{◌≡◌, ◌⊎◌, ℕ, List, [], ◌∷◌, ◌++◌}
 use Rattle.records.specs.Marks.{byte_of, carriage_return, line_feed}
-use Rattle.records.specs.Spellings.{IsSpelled}
-use Rattle.records.specs.declared.separator.Separator.{Separator}
+use Rattle.records.specs.{Spellings.IsSpelled, declared.separator.Separator.Separator}
 
 -- a text is these fields, with a separator after each
 abbrev pub Opens : Separator → (fields : List (List ℕ)) → (text : List ℕ) → Type 0

@@ -1,16 +1,13 @@
 -- What the reader of a field has found.
 use Rattle.std.specs.Prelude.{◌≡◌, ⊤, ◌==◌, ℕ, cond, true, List, [], ◌∷◌, ◌++◌, Result, Ok, Err}
+use Rattle.std.specs.Borrow.{Bor}
 use Rattle.records.specs.Faults.{Breaks, IsBroken}
 use Rattle.records.specs.Marks.{NotFirst, blank, carriage_return, quote}
-use Rattle.records.specs.Records.{Begins}
 use Rattle.records.specs.Spellings.{AreBlanks, IsSpelled, doubled, ends_field, stops, text_of}
-use Rattle.records.specs.declared.fault.Problem.{Problem}
-use Rattle.records.specs.declared.fault.Problem.TheVariants.{LoneReturn}
-use Rattle.records.specs.declared.fault.Stop.{Stop}
 use Rattle.records.specs.declared.fault.Stop.TheVariants.{Broken, NoMemory}
-use Rattle.records.specs.declared.field.Field.{Field}
-use Rattle.records.specs.declared.separator.Separator.{Separator}
-use Rattle.std.specs.Borrow.{Bor}
+use Rattle.records.specs.{Records.Begins, declared.fault.Problem.Problem}
+use Rattle.records.specs.{declared.fault.Problem.TheVariants.LoneReturn, declared.fault.Stop.Stop}
+use Rattle.records.specs.{declared.field.Field.Field, declared.separator.Separator.Separator}
 
 -- a text is empty, or begins with a byte that may not stand in a field without quotes
 abbrev pub IsStopped : Separator → List ℕ → Type 0

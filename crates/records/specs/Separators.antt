@@ -1,8 +1,7 @@
 -- The separator that a text is told by.
-use Rattle.std.specs.Prelude.{ℕ, ◌==◌, ◌||◌, ◌++◌, ◌∷◌, [], Bool, false, true, List}
-use Rattle.std.specs.Prelude.{Option, None, Some, codes, cond}
-use Rattle.std.specs.List.{before_first, list_any}
-use Rattle.std.specs.Str.{bytes_eq}
+use Rattle.std.specs.Prelude.{ℕ, ◌==◌, ◌||◌, ◌++◌, ◌∷◌, [], Bool, false, true, List, Option, None}
+use Rattle.std.specs.Prelude.{Some, codes, cond}
+use Rattle.std.specs.{List.before_first, List.list_any, Str.bytes_eq}
 use Rattle.records.specs.Marks.{byte_of, carriage_return, line_feed}
 use Rattle.records.specs.declared.separator.Separator.{Separator}
 use Rattle.records.specs.declared.separator.Separator.TheVariants.{Comma, Semicolon, Tab}

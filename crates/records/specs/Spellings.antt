@@ -1,10 +1,9 @@
 -- How a field is spelled: as it is, or in quotes.
-use Rattle.std.specs.Prelude.{◌≡◌, ◌⊎◌, ⊤, ℕ, ◌==◌, Bool, false, true, cond, ◌||◌, ◌&&◌}
-use Rattle.std.specs.Prelude.{List, [], ◌∷◌, ◌++◌, string_bytes}
+use Rattle.std.specs.Prelude.{◌≡◌, ◌⊎◌, ⊤, ℕ, ◌==◌, Bool, false, true, cond, ◌||◌, ◌&&◌, List, []}
+use Rattle.std.specs.Prelude.{◌∷◌, ◌++◌, string_bytes}
 use Rattle.records.specs.Marks.{blank, byte_of, carriage_return, line_feed, quote}
-use Rattle.records.specs.declared.field.Field.{Field}
 use Rattle.records.specs.declared.field.Field.TheVariants.{Lent, Made}
-use Rattle.records.specs.declared.separator.Separator.{Separator}
+use Rattle.records.specs.{declared.field.Field.Field, declared.separator.Separator.Separator}
 
 -- the text of a field
 abbrev pub text_of : Field → List ℕ

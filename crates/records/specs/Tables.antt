@@ -1,20 +1,13 @@
 -- A table, record by record and fault by fault, with nothing left out.
-use Rattle.std.specs.Prelude.{⊤, ◌≡◌, ◌≢◌, ℕ, ◌==◌, Bool, false, true, map}
-use Rattle.std.specs.Prelude.{List, [], ◌∷◌, ◌++◌, Option, None, Some, Result, Ok, Err}
+use Rattle.std.specs.Prelude.{⊤, ◌≡◌, ◌≢◌, ℕ, ◌==◌, Bool, false, true, map, List, [], ◌∷◌, ◌++◌}
+use Rattle.std.specs.Prelude.{Option, None, Some, Result, Ok, Err}
 use Rattle.std.specs.List.{after_first}
-use Rattle.records.specs.Faults.{Breaks}
-use Rattle.records.specs.Marks.{line_feed}
-use Rattle.records.specs.Places.{place_after}
-use Rattle.records.specs.Records.{Begins}
+use Rattle.records.specs.declared.{fault.Fault.Fault, fault.Place.Place, fault.Problem.Problem}
+use Rattle.records.specs.declared.{fault.Problem.TheVariants.Unclosed, reader.ReadError.ReadError}
+use Rattle.records.specs.{Faults.Breaks, Marks.line_feed, Places.place_after, Records.Begins}
 use Rattle.records.specs.Spellings.{text_of}
-use Rattle.records.specs.declared.fault.Fault.{Fault}
-use Rattle.records.specs.declared.fault.Place.{Place}
-use Rattle.records.specs.declared.fault.Problem.{Problem}
-use Rattle.records.specs.declared.fault.Problem.TheVariants.{Unclosed}
-use Rattle.records.specs.declared.reader.ReadError.{ReadError}
 use Rattle.records.specs.declared.reader.ReadError.TheVariants as errors
-use Rattle.records.specs.declared.reader.Reader.{Reader}
-use Rattle.records.specs.declared.separator.Separator.{Separator}
+use Rattle.records.specs.{declared.reader.Reader.Reader, declared.separator.Separator.Separator}
 use Rattle.records.specs.declared.table.Record.{Record}
 
 -- ---- what is read

@@ -1,8 +1,6 @@
 -- Records as they are written.
 use Rattle.std.specs.Prelude.{◌≡◌, ◌≢◌, ◌⊎◌, ℕ, List, [], ◌∷◌, ◌++◌}
-use Rattle.records.specs.Marks.{line_feed}
-use Rattle.records.specs.Records.{Spells}
-use Rattle.records.specs.declared.separator.Separator.{Separator}
+use Rattle.records.specs.{Marks.line_feed, Records.Spells, declared.separator.Separator.Separator}
 
 -- bytes are appended to a text
 abbrev pub Puts : (old new bytes : List ℕ) → Type 0

@@ -1,9 +1,8 @@
 //! The head and the end of a text, which belong to no record.
 
 ghost use Rattle.std.specs.Prelude.{◌≡◌, ◌++◌, ℕ, List, MatchOption};
-ghost use Rattle.records.specs.Ends.{LosesLineEnd, NotLast};
 ghost use Rattle.records.specs.Heads.{IsEnded, IsUnmarked, first_record};
-ghost use Rattle.records.specs.Marks.{line_feed};
+ghost use Rattle.records.specs.{Ends.LosesLineEnd, Ends.NotLast, Marks.line_feed};
 
 use crate::place::next_line;
 use crate::separator::{Separator, first_line};

@@ -1,10 +1,8 @@
 //! Laws of the definitions, each the contract of a small function.
 
 ghost use Rattle.std.specs.Prelude.{◌≡◌, ℕ, List};
-ghost use Rattle.records.specs.Faults.{Breaks};
-ghost use Rattle.records.specs.Records.{Begins};
-ghost use Rattle.records.specs.Tables.{AreEntries, At, Entry};
-ghost use Rattle.records.specs.declared.fault.Problem.{Problem as Why};
+ghost use Rattle.records.specs.{Faults.Breaks, Records.Begins, Tables.AreEntries, Tables.At};
+ghost use Rattle.records.specs.{Tables.Entry, declared.fault.Problem.Problem as Why};
 ghost use Rattle.records.specs.declared.separator.Separator.{Separator as Sep};
 
 /// A text begins with one record at most, which leaves one rest; or with none for one problem,

@@ -2,9 +2,8 @@
 
 ghost use Rattle.std.specs.Prelude.{◌≡◌, ◌++◌, ◌+◌, ◌^◌, ◌<◌, ℕ, ◌==◌, List, length};
 ghost use Rattle.std.specs.List.{after_first};
-ghost use Rattle.records.specs.Marks.{line_feed};
 ghost use Rattle.records.specs.Places.{moved, place_after};
-ghost use Rattle.records.specs.Tables.{after_fault};
+ghost use Rattle.records.specs.{Marks.line_feed, Tables.after_fault};
 
 use crate::fault::{Place, Problem};
 use crate::scan::LINE_FEED;

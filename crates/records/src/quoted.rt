@@ -1,8 +1,7 @@
 //! A field in quotes.
 
 ghost use Rattle.std.specs.Prelude.{IfOk, MatchOption, string_bytes};
-ghost use Rattle.records.specs.Scans.{IsInside, IsOpen};
-ghost use Rattle.records.specs.Spellings.{text_of};
+ghost use Rattle.records.specs.{Scans.IsInside, Scans.IsOpen, Spellings.text_of};
 
 use crate::field::Field;
 use crate::scan::{QUOTE, split_at_quote, strip};

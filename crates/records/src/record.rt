@@ -1,10 +1,8 @@
 //! The record at the beginning of a text.
 
 ghost use Rattle.std.specs.Prelude.{◌≡◌, ◌⊎◌, ◌<◌, ◌∷◌, ◌++◌, [], IfOk, length, map, true};
-ghost use Rattle.records.specs.Marks.{NotFirst, byte_of};
-ghost use Rattle.records.specs.Records.{EndsLine};
-ghost use Rattle.records.specs.Scans.{ReadsRecord};
-ghost use Rattle.records.specs.Spellings.{ends_field, text_of};
+ghost use Rattle.records.specs.{Marks.NotFirst, Marks.byte_of, Records.EndsLine, Scans.ReadsRecord};
+ghost use Rattle.records.specs.{Spellings.ends_field, Spellings.text_of};
 ghost use Rattle.records.specs.declared.separator.Separator.{Separator as Sep};
 
 use crate::fault::Stop;

@@ -2,9 +2,8 @@
 
 ghost use Rattle.std.specs.Prelude.{◌≡◌, ◌<◌, ◌++◌, ◌∷◌, ℕ, List, IfSome, MatchOption, length};
 ghost use Rattle.std.specs.List.{position, position_or_len};
-ghost use Rattle.records.specs.Marks.{NotFirst, blank, quote};
 ghost use Rattle.records.specs.Spellings.{AreBlanks, IsPlain, doubled, ends_field, stops};
-ghost use Rattle.records.specs.Scans.{IsStopped};
+ghost use Rattle.records.specs.{Marks.NotFirst, Marks.blank, Marks.quote, Scans.IsStopped};
 
 use crate::separator::Separator;
 

@@ -2,9 +2,8 @@
 
 ghost use Rattle.std.specs.Prelude.{◌≡◌, ◌==◌, ℕ, List};
 ghost use Rattle.std.specs.List.{before_first, list_any};
-ghost use Rattle.records.specs.Heads.{IsUnmarked};
-ghost use Rattle.records.specs.Marks.{byte_of, line_feed};
 ghost use Rattle.records.specs.Separators.{named, named_in, told_by, told_in};
+ghost use Rattle.records.specs.{Heads.IsUnmarked, Marks.byte_of, Marks.line_feed};
 
 use crate::head::without_mark;
 

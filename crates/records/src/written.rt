@@ -2,10 +2,8 @@
 
 ghost use Rattle.std.specs.Prelude.{◌≡◌, ◌≢◌, ◌++◌, ◌∷◌, [], ℕ, List, IfOk, map, true};
 ghost use Rattle.std.specs.Prelude.{string_bytes};
-ghost use Rattle.records.specs.Marks.{byte_of, quote};
-ghost use Rattle.records.specs.Records.{Opens};
-ghost use Rattle.records.specs.Spellings.{IsSpelled, doubled};
-ghost use Rattle.records.specs.Written.{IsWritten, Puts};
+ghost use Rattle.records.specs.{Marks.byte_of, Marks.quote, Records.Opens, Spellings.IsSpelled};
+ghost use Rattle.records.specs.{Spellings.doubled, Written.IsWritten, Written.Puts};
 
 use crate::scan::{split_at_quote, split_plain};
 use crate::separator::Separator;

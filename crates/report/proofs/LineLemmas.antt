@@ -1,30 +1,23 @@
 -- Rows that resemble the sample of a format, and lines one after the other.
-use Rattle.std.proofs.Common.{◌≡◌, ◌∙◌, refl, ap, ℕ, ◌+◌, ◌<◌, suc, arith, length, get_or}
-use Rattle.std.proofs.Common.{Bool, true, false, List, [], ◌∷◌, ◌++◌, map, take, take-suc}
-use Rattle.std.proofs.Common.{append-nil, append_assoc, Option, None, Some}
-use Rattle.std.proofs.lemmas.List.{map-append, map_more}
-use Rattle.std.proofs.lemmas.Str.{encodes-append}
-use Rattle.std.specs.Char.{encode_utf8}
-use Rattle.std.specs.Str.{encode_utf8_all}
-use Rattle.interpolator.specs.Meaning.Resembling.{HasText, ResemblesSlot}
-use Rattle.interpolator.specs.Meaning.Samples.{is_failure, shows_nothing}
-use Rattle.interpolator.specs.Prepared.Rows.{PreparedFormat}
-use Rattle.interpolator.specs.Slots.{slot_at, slots_of, values_of}
-use Rattle.interpolator.specs.Texts.{view_text}
-use Rattle.interpolator.specs.Views.{Shown, one_character, shown_as_value}
-use Rattle.interpolator.specs.Written.{AppendsWithin, Written}
-use Rattle.interpolator.specs.declared.Spec.{Spec}
-use Rattle.interpolator.specs.declared.Trait.{Trait}
-use Rattle.interpolator.specs.declared.Trait.TheVariants.{Debug, Display}
-use Rattle.interpolator.specs.declared.View.{View}
+use Rattle.std.proofs.Common.{◌≡◌, ◌∙◌, refl, ap, ℕ, ◌+◌, ◌<◌, suc, arith, length, get_or, Bool}
+use Rattle.std.proofs.Common.{true, false, List, [], ◌∷◌, ◌++◌, map, take, take-suc, append-nil}
+use Rattle.std.proofs.Common.{append_assoc, Option, None, Some}
+use Rattle.std.proofs.{lemmas.List.map-append, lemmas.List.map_more, lemmas.Str.encodes-append}
+use Rattle.std.specs.{Char.encode_utf8, Str.encode_utf8_all}
+use Rattle.interpolator.specs.Meaning.{Resembling.HasText, Resembling.ResemblesSlot}
+use Rattle.interpolator.specs.Meaning.{Samples.is_failure, Samples.shows_nothing}
+use Rattle.interpolator.specs.declared.{Spec.Spec, Trait.Trait, Trait.TheVariants.Debug}
+use Rattle.interpolator.specs.declared.{Trait.TheVariants.Display, View.View}
+use Rattle.interpolator.specs.{Prepared.Rows.PreparedFormat, Slots.slot_at, Slots.slots_of}
+use Rattle.interpolator.specs.{Slots.values_of, Texts.view_text, Views.Shown, Views.one_character}
+use Rattle.interpolator.specs.{Views.shown_as_value, Written.AppendsWithin, Written.Written}
 use Rattle.interpolator_laws.specs.SamplePairs.{RowResembles}
 use Rattle.records.specs.declared.table.Record.{Record}
 use Rattle.report.specs.Lines.{AreLines, AreShown, IsLine, IsShown, IsShownAs, PutsLines, Row}
 use Rattle.report.specs.Lines.{Sample, as_value, example, kinds_in, names_in, shown_character}
 use Rattle.report.specs.Lines.{view_shows}
-use Rattle.report.specs.declared.lines.Named.{Named}
-use Rattle.report.specs.declared.totals.Cell.{Cell}
 use Rattle.report.specs.declared.totals.Cell.TheVariants.{Empty, Large, Number, Other}
+use Rattle.report.specs.{declared.lines.Named.Named, declared.totals.Cell.Cell}
 
 -- ---- rows
 
@@ -162,9 +155,3 @@ lines_step format end columns records n r old text more within here so_far one =
           (take n records) (r ∷ []) so_far.0 one.0 so_far.1 one.1),
       one.2 ∙ ap (λ t. t ++ one.0) so_far.2 ∙ append_assoc old so_far.0 one.0,
     )
-
--- one line and its end
-pub line_ended : (format : PreparedFormat) (end : List ℕ) (columns : List Named) (r : Record)
-    (line : List ℕ) → IsLine format columns r line
-    → AreLines format end columns (r ∷ []) (line ++ end)
-line_ended format end columns r line is = (line, [], is, refl, rw (append-nil end) refl)

@@ -1,11 +1,9 @@
 -- Cells, one after the other.
-use Rattle.std.proofs.Common.{◌≡◌, ◌+◌, ◌<◌, ℕ, suc, refl, ap, sym, arith}
-use Rattle.std.proofs.Common.{List, [], ◌∷◌, ◌++◌, map, take, take-suc, get_or, length}
-use Rattle.std.proofs.Common.{Err, IfErr, Result, subst}
+use Rattle.std.proofs.Common.{◌≡◌, ◌+◌, ◌<◌, ℕ, suc, refl, ap, sym, arith, List, [], ◌∷◌, ◌++◌, map}
+use Rattle.std.proofs.Common.{take, take-suc, get_or, length, Err, IfErr, Result, subst}
 use Rattle.std.proofs.lemmas.List.{map_more}
 use Rattle.std.specs.Borrow.{Bor}
-use Rattle.interpolator.specs.DecimalTexts.{Explains}
-use Rattle.interpolator.specs.declared.decimal.Decimal.{Decimal}
+use Rattle.interpolator.specs.{DecimalTexts.Explains, declared.decimal.Decimal.Decimal}
 use Rattle.interpolator_syntax.specs.declared.error.NumberError.{NumberError}
 use Rattle.interpolator_syntax.specs.declared.error.NumberError.TheVariants.{InvalidDigit}
 use Rattle.report.specs.Totals.{AreCells, IsCell, numbers_in}

@@ -1,13 +1,10 @@
 -- Characters in ranges that stand in order, and how wide they are.
-use Rattle.std.proofs.Common.{◌≡◌, ℕ, ◌+◌, ◌-◌, ◌*◌, ◌^◌, ◌<◌, ◌≤◌, zero, suc, nat_le, min}
-use Rattle.std.proofs.Common.{Bool, false, true, ◌&&◌, ◌||◌, cond, leb-true}
-use Rattle.std.proofs.Common.{List, [], ◌∷◌, ◌++◌, length, get_or, IsUtf8}
-use Rattle.std.proofs.Common.{refl, sym, ap, ◌∙◌, arith}
-use Rattle.std.specs.List.{sum_by}
-use Rattle.std.specs.Str.{chars}
-use Rattle.std.proofs.lemmas.Bool.{le-leb, lt-leb}
-use Rattle.std.proofs.lemmas.List.Sums.{sum_by_push, sum_by-append}
-use Rattle.std.proofs.lemmas.Str.{encodes-chars, length-le-encodes}
+use Rattle.std.proofs.Common.{◌≡◌, ℕ, ◌+◌, ◌-◌, ◌*◌, ◌^◌, ◌<◌, ◌≤◌, zero, suc, nat_le, min, Bool}
+use Rattle.std.proofs.Common.{false, true, ◌&&◌, ◌||◌, cond, leb-true, List, [], ◌∷◌, ◌++◌, length}
+use Rattle.std.proofs.Common.{get_or, IsUtf8, refl, sym, ap, ◌∙◌, arith}
+use Rattle.std.proofs.lemmas.{Bool.le-leb, Bool.lt-leb, List.Sums.sum_by_push}
+use Rattle.std.proofs.lemmas.{List.Sums.sum_by-append, Str.encodes-chars, Str.length-le-encodes}
+use Rattle.std.specs.{List.sum_by, Str.chars}
 use Rattle.report.specs.Widths.{Ranges, is_within, rises, width_of}
 
 both : (a b : Bool) → (a && b) ≡ true → (a ≡ true) × (b ≡ true)
@@ -19,10 +16,6 @@ neither a b c h k = rw h k
 
 either_left : (a b : Bool) → a ≡ false → (a && b) ≡ false
 either_left a b h = rw h refl
-
-either_right : (a b : Bool) → b ≡ false → (a && b) ≡ false
-either_right true b h = h
-either_right false b h = refl
 
 -- the first of some ranges, and the others
 parts : (ranges : Ranges) (range : ℕ × ℕ) (start : ℕ) → rises start (range ∷ ranges) ≡ true

@@ -1,33 +1,20 @@
 -- What the lines of records are, by a format whose names are those of columns. Formats, fields and
 -- entries are bytes, and lines are characters.
-use Rattle.std.specs.Prelude.{◌≡◌, ◌≢◌, ⊤, ℕ, Bool, true, List, [], ◌∷◌, ◌++◌, map}
-use Rattle.std.specs.Prelude.{None, Option, Some, ◌-◌, cond, eqb, if◌then◌else◌, length, slice_get}
-use Rattle.std.specs.Prelude.{take}
-use Rattle.std.specs.List.{ends_with}
-use Rattle.std.specs.Borrow.{Bor}
-use Rattle.std.specs.Char.{is_control}
-use Rattle.std.specs.Option.{option_map}
+use Rattle.std.specs.Prelude.{◌≡◌, ◌≢◌, ⊤, ℕ, Bool, true, List, [], ◌∷◌, ◌++◌, map, None, Option}
+use Rattle.std.specs.Prelude.{Some, ◌-◌, cond, eqb, if◌then◌else◌, length, slice_get, take}
 use Rattle.std.specs.Str.{chars, encode_utf8_all, trim}
-use Rattle.interpolator.specs.At.{outermost, text_of}
-use Rattle.interpolator.specs.Contexts.{found_by_pairs}
+use Rattle.std.specs.{List.ends_with, Borrow.Bor, Char.is_control, Option.option_map}
 use Rattle.interpolator.specs.Faults.{Fault, answer_of, fault as as_answer}
-use Rattle.interpolator.specs.Meaning.Environments.{environment}
-use Rattle.interpolator.specs.Meaning.Meanings.{Meaning, means}
 use Rattle.interpolator.specs.Prepared.Rows.{PreparedFormat, found_by_row, pair_names, row_at}
 use Rattle.interpolator.specs.Slots.{Slots, empty_slots, slots_of, with_debug_display}
-use Rattle.interpolator.specs.Template.NodeSamples.{faults_over}
-use Rattle.interpolator.specs.Views.{Shown, shown_as_value}
-use Rattle.interpolator.specs.declared.Error.{Error}
-use Rattle.interpolator.specs.declared.Formattable.{Formattable}
-use Rattle.interpolator.specs.declared.Spec.{Spec}
-use Rattle.interpolator.specs.declared.Trait.{Trait}
-use Rattle.interpolator.specs.declared.View.{View}
+use Rattle.interpolator.specs.Meaning.{Environments.environment, Meanings.Meaning, Meanings.means}
+use Rattle.interpolator.specs.declared.{Error.Error, Formattable.Formattable, Spec.Spec}
+use Rattle.interpolator.specs.declared.{Trait.Trait, View.View}
+use Rattle.interpolator.specs.{At.outermost, At.text_of, Contexts.found_by_pairs}
+use Rattle.interpolator.specs.{Template.NodeSamples.faults_over, Views.Shown, Views.shown_as_value}
 use Rattle.interpolator.specs.declared.View.TheVariants as forms
-use Rattle.records.specs.Spellings.{text_of as field_text}
-use Rattle.records.specs.declared.table.Record.{Record}
-use Rattle.report.specs.Totals.{IsCell}
-use Rattle.report.specs.declared.lines.Named.{Named}
-use Rattle.report.specs.declared.totals.Cell.{Cell}
+use Rattle.records.specs.{Spellings.text_of as field_text, declared.table.Record.Record}
+use Rattle.report.specs.{Totals.IsCell, declared.lines.Named.Named, declared.totals.Cell.Cell}
 use Rattle.report.specs.declared.totals.Cell.TheVariants.{Number}
 
 -- ---- columns and entries

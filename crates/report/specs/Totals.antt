@@ -1,14 +1,12 @@
 -- What the total of cells is.
-use Rattle.std.specs.Prelude.{◌≡◌, ◌≢◌, ◌+ℤ◌, ◌*ℤ◌, ◌-◌, ℕ, ℤ, pos, ⊤, FitsSigned}
-use Rattle.std.specs.Prelude.{List, [], ◌∷◌, Bool, true, false, None, Some, length, max}
-use Rattle.std.specs.Prelude.{◌&&◌, ◌||◌, codes, eqb, nat_lt}
-use Rattle.std.specs.Int.{int_pow, w128}
-use Rattle.std.specs.List.{position, starts_with}
+use Rattle.std.specs.Prelude.{◌≡◌, ◌≢◌, ◌+ℤ◌, ◌*ℤ◌, ◌-◌, ℕ, ℤ, pos, ⊤, FitsSigned, List, [], ◌∷◌}
+use Rattle.std.specs.Prelude.{Bool, true, false, None, Some, length, max, ◌&&◌, ◌||◌, codes, eqb}
+use Rattle.std.specs.Prelude.{nat_lt}
+use Rattle.std.specs.{Int.int_pow, Int.w128, List.position, List.starts_with}
 use Rattle.interpolator.specs.DecimalTexts.{Spells, SpellsDecimal}
 use Rattle.interpolator.specs.declared.decimal.Decimal.{Decimal}
-use Rattle.report.specs.declared.totals.Cell.{Cell}
 use Rattle.report.specs.declared.totals.Cell.TheVariants.{Empty, Large, Number, Other}
-use Rattle.report.specs.declared.totals.NoTotal.{NoTotal}
+use Rattle.report.specs.{declared.totals.Cell.Cell, declared.totals.NoTotal.NoTotal}
 use Rattle.report.specs.declared.totals.NoTotal.TheVariants as none
 use Rattle.report.specs.declared.totals.Total.{Total}
 

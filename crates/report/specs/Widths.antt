@@ -1,7 +1,6 @@
 -- How many columns of a terminal a text takes, by ranges of characters that take none, and two.
 use Rattle.std.specs.Prelude.{ℕ, ◌+◌, Bool, false, true, ◌&&◌, ◌||◌, nat_le, cond, List, [], ◌∷◌}
-use Rattle.std.specs.List.{sum_by}
-use Rattle.std.specs.Str.{chars}
+use Rattle.std.specs.{List.sum_by, Str.chars}
 
 -- ranges of characters, each by its first and its last
 abbrev pub Ranges : Type 0

@@ -4,12 +4,11 @@
 ghost use Rattle.std.specs.Prelude.{◌≡◌, ◌∷◌, ◌++◌, [], ℕ, List, IfOk, MatchResult, OnOk, length};
 ghost use Rattle.std.specs.Prelude.{map, string_bytes};
 ghost use Rattle.std.specs.Str.{chars, encode_utf8_all};
-ghost use Rattle.interpolator.specs.Prepared.Rows.{pair_names};
-ghost use Rattle.interpolator.specs.Slots.{slots_of};
-ghost use Rattle.report.specs.Lines.{AreLines, AreShown, HasFaults, HasNames, IsReady};
-ghost use Rattle.report.specs.Lines.{IsShown, IsShownAs, PutsLine, PutsLines, PutsViews};
-ghost use Rattle.report.specs.Lines.{as_value, entries_of, format_of};
-ghost use Rattle.report.specs.Lines.{kinds_in, names_in, shown_character, without_controls};
+ghost use Rattle.interpolator.specs.{Prepared.Rows.pair_names, Slots.slots_of};
+ghost use Rattle.report.specs.Lines.{AreLines, AreShown, HasFaults, HasNames, IsReady, IsShown};
+ghost use Rattle.report.specs.Lines.{IsShownAs, PutsLine, PutsLines, PutsViews, as_value};
+ghost use Rattle.report.specs.Lines.{entries_of, format_of, kinds_in, names_in, shown_character};
+ghost use Rattle.report.specs.Lines.{without_controls};
 
 use crate::rows::entry_in;
 use crate::totals::{Cell, cell_of};

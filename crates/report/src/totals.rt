@@ -2,13 +2,10 @@
 
 ghost use Rattle.std.specs.Prelude.{◌≡◌, ◌++◌, ◌∷◌, [], FitsSigned, IfErr, IfOk, SomeIff, map};
 ghost use Rattle.std.specs.Prelude.{None, eqb, option_map, vec_items};
-ghost use Rattle.std.specs.Int.{w128};
-ghost use Rattle.std.specs.List.{list_any, position, starts_with};
-ghost use Rattle.interpolator.specs.DecimalTexts.{decimal_of};
-ghost use Rattle.report.specs.Totals.{AreCells, Explains, IsCell, IsTotal, exact_sum};
-ghost use Rattle.report.specs.Totals.{exact_total, greatest_scale, is_code, is_large, numbers_in};
-ghost use Rattle.report.specs.Totals.{total_with};
-ghost use Rattle.interpolator.specs.declared.decimal.Decimal.{Decimal};
+ghost use Rattle.std.specs.{Int.w128, List.list_any, List.position, List.starts_with};
+ghost use Rattle.interpolator.specs.{DecimalTexts.decimal_of, declared.decimal.Decimal.Decimal};
+ghost use Rattle.report.specs.Totals.{AreCells, Explains, IsCell, IsTotal, exact_sum, exact_total};
+ghost use Rattle.report.specs.Totals.{greatest_scale, is_code, is_large, numbers_in, total_with};
 ghost use Rattle.report.specs.declared.totals.NoTotal.TheVariants.{NoMemory};
 
 use crate::places::{number_of, places_of};

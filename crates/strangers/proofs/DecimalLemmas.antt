@@ -1,11 +1,9 @@
 -- How many characters a decimal has.
 use Rattle.std.proofs.Common.{◌≡◌, ◌∙◌, refl, sym, ap, arith, rules, ℕ, zero, suc, ◌+◌, ◌*◌, ◌/◌}
-use Rattle.std.proofs.Common.{◌%◌, ◌^◌, ◌<◌, ◌≤◌, ◌==◌, false, List, []}
-use Rattle.std.proofs.Common.{◌∷◌, length, None, length-append, append-nil}
-use Rattle.std.proofs.Common.{pow-suc, inl, inr, eq-zero-or-pos}
-use Rattle.std.proofs.Math.Nat.{div-eq_of_lt}
+use Rattle.std.proofs.Common.{◌%◌, ◌^◌, ◌<◌, ◌≤◌, ◌==◌, false, List, [], ◌∷◌, length, None}
+use Rattle.std.proofs.Common.{length-append, append-nil, pow-suc, inl, inr, eq-zero-or-pos}
 use Rattle.std.proofs.lemmas.Int.Digits.{length-digits_of-le, length-digits_of_step}
-use Rattle.std.proofs.lemmas.List.{length-map}
+use Rattle.std.proofs.{Math.Nat.div-eq_of_lt, lemmas.List.length-map}
 use Rattle.std.specs.Int.Digits.{digits_of}
 use Rattle.interpolator_digits.specs.Decimals.{after_point, decimal_text, placed}
 use Rattle.interpolator_digits.specs.Digits.{digit_text}

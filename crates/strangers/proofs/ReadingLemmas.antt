@@ -3,10 +3,8 @@ use Rattle.std.proofs.Common.{◌≡◌, arith, refl, rules, sym, ℕ, true, fal
 use Rattle.std.proofs.Common.{Some, string_bytes}
 use Rattle.std.proofs.lemmas.Bool.Decides.{nat_tests}
 use Rattle.std.proofs.lemmas.Str.Parse.{IsNumeralModel, numerals_by_value}
-use Rattle.std.specs.Char.{is_ascii_digit}
-use Rattle.std.specs.List.{list_all}
-use Rattle.std.specs.Result.{result_ok}
 use Rattle.std.specs.Str.Parse.{ParsesUnsigned, digits_value, without_leading_plus}
+use Rattle.std.specs.{Char.is_ascii_digit, List.list_all, Result.result_ok}
 use Rattle.std.specs.declared.string.String.{String}
 use Rattle.strangers.specs.Reading.{asked_from, ends_flags, is_flag, limit_of, with_flag}
 use Rattle.strangers.specs.declared.serving.Allowed.{Allowed}

@@ -5,11 +5,8 @@ use Rattle.std.proofs.lemmas.Bool.Decides.{nat_tests}
 use Rattle.std.specs.Option.{option_or}
 use Rattle.interpolator_render.specs.Bounds.{BoundedText, bounded, bounded_writer}
 use Rattle.interpolator.specs.Faults.{Answer, Fault, no_memory}
-use Rattle.interpolator.specs.Meaning.Meanings.{Meaning}
-use Rattle.interpolator.specs.Meaning.Outcomes.{Outcome}
-use Rattle.interpolator.specs.Written.{Written}
-use Rattle.interpolator.specs.Template.NodeChecks.{first_fault}
-use Rattle.interpolator.specs.Template.NodeCosts.{usize_cost}
+use Rattle.interpolator.specs.{Meaning.Meanings.Meaning, Meaning.Outcomes.Outcome, Written.Written}
+use Rattle.interpolator.specs.{Template.NodeChecks.first_fault, Template.NodeCosts.usize_cost}
 use Rattle.interpolator.specs.declared.Cost.{Cost}
 use Rattle.strangers.specs.Serving.{Affords, IsWithin, Why, cost_why, count_why}
 use Rattle.strangers.specs.declared.serving.Count.{Count}

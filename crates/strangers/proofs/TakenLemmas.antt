@@ -1,6 +1,5 @@
 -- The assignments that a word may make.
-use Rattle.strangers.specs.Words.{Holds, IsTaken}
-use Rattle.strangers.specs.declared.values.Word.{Word}
+use Rattle.strangers.specs.{Words.Holds, Words.IsTaken, declared.values.Word.Word}
 use Rattle.words.specs.Words.{Assignment, text, number, decimal, float, list}
 
 -- what a word has is an assignment that a word may make

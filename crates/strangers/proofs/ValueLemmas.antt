@@ -1,17 +1,13 @@
 -- Which values of words are let through, and which word is rejected first.
-use Rattle.std.proofs.Common.{◌≡◌, refl, ℕ, ◌+◌, ◌<◌, ◌≤◌, arith, List, drop, length}
-use Rattle.std.proofs.Common.{get_or, max, None, Ok, Err, Result}
-use Rattle.std.proofs.lemmas.Bool.Decides.{nat_tests}
-use Rattle.std.proofs.lemmas.List.{drop_more}
-use Rattle.std.specs.Option.{option_or}
-use Rattle.std.specs.Prelude.{OnOk}
+use Rattle.std.proofs.Common.{◌≡◌, refl, ℕ, ◌+◌, ◌<◌, ◌≤◌, arith, List, drop, length, get_or, max}
+use Rattle.std.proofs.Common.{None, Ok, Err, Result}
+use Rattle.std.proofs.{lemmas.Bool.Decides.nat_tests, lemmas.List.drop_more}
+use Rattle.std.specs.{Option.option_or, Prelude.OnOk}
 use Rattle.interpolator.specs.declared.Limits.{Limits}
 use Rattle.strangers.specs.Serving.{given_why, value_why, words_why}
 use Rattle.strangers.specs.Values.{characters_of, longest_of}
-use Rattle.strangers.specs.declared.serving.Count.{Count}
-use Rattle.strangers.specs.declared.serving.Refused.{Refused}
-use Rattle.strangers.specs.declared.values.Datum.{Datum}
-use Rattle.strangers.specs.declared.values.Word.{Word}
+use Rattle.strangers.specs.{declared.serving.Count.Count, declared.serving.Refused.Refused}
+use Rattle.strangers.specs.{declared.values.Datum.Datum, declared.values.Word.Word}
 
 -- a count that is not rejected is within its limit
 pub let_through : (count : Count) (told limit : ℕ) → value_why count told limit ≡ None → told ≤ limit

@@ -1,44 +1,30 @@
 -- The values of words are within their limits, so what a format means over them is within its cost.
-use Rattle.std.proofs.Common.{◌≡◌, ◌∙◌, refl, ap, ℕ, ◌-◌, ◌^◌, ◌<◌, ◌≤◌, Bool, cond, suc}
-use Rattle.std.proofs.Common.{List, [], ◌∷◌, All, length, map, None, Some, arith}
-use Rattle.std.proofs.Common.{min}
+use Rattle.std.proofs.Common.{◌≡◌, ◌∙◌, refl, ap, ℕ, ◌-◌, ◌^◌, ◌<◌, ◌≤◌, Bool, cond, suc, List, []}
+use Rattle.std.proofs.Common.{◌∷◌, All, length, map, None, Some, arith, min}
+use Rattle.std.proofs.lemmas.{List.length-map, List.reverse-append, List.Elements.All-head}
+use Rattle.std.proofs.lemmas.{List.Elements.All-tail, List.Folds.find-append}
 use mathlib.Core.Path.{fun_ext}
-use Rattle.std.proofs.lemmas.List.{length-map, reverse-append}
-use Rattle.std.proofs.lemmas.List.Elements.{All-head, All-tail}
-use Rattle.std.proofs.lemmas.List.Folds.{find-append}
-use Rattle.std.specs.Borrow.{Bor}
-use Rattle.std.specs.List.{find}
-use Rattle.std.specs.Option.{option_or}
-use Rattle.std.specs.Prelude.{reverse}
 use Rattle.std.specs.Str.{bytes_eq, chars, encode_utf8_all}
+use Rattle.std.specs.{Borrow.Bor, List.find, Option.option_or, Prelude.reverse}
 use Rattle.interpolator.specs.At.{At, outermost}
-use Rattle.interpolator.specs.Contexts.{found_by_pairs}
-use Rattle.interpolator.specs.Meaning.AskedNames.{asked_names}
 use Rattle.interpolator.specs.Meaning.Environments.{Environment, environment}
 use Rattle.interpolator.specs.Meaning.Limits.{FoundWithin, IsWithin, ItemsWithin, SlotsWithin}
 use Rattle.interpolator.specs.Meaning.Limits.{SlotWithin}
-use Rattle.interpolator.specs.Meaning.Meanings.{means}
-use Rattle.interpolator.specs.Meaning.Work.{text_work}
-use Rattle.interpolator.specs.Template.NodeCosts.{text_cost}
 use Rattle.interpolator.specs.Slots.{Slots, empty_slots, listed_slots, slot_at, slots_listed}
 use Rattle.interpolator.specs.Slots.{values_of, with_integer}
-use Rattle.interpolator.specs.declared.Formattable.{Formattable}
-use Rattle.interpolator.specs.declared.Limits.{Limits}
-use Rattle.interpolator.specs.declared.Trait.{Trait}
+use Rattle.interpolator.specs.Meaning.{AskedNames.asked_names, Meanings.means, Work.text_work}
+use Rattle.interpolator.specs.declared.{Formattable.Formattable, Limits.Limits, Trait.Trait}
 use Rattle.interpolator.specs.declared.Trait.TheVariants.{Iter}
+use Rattle.interpolator.specs.{Contexts.found_by_pairs, Template.NodeCosts.text_cost}
 use Rattle.strangers.specs.Serving.{IsServed, IsWhole, Rejects, first_why, format_why, given_why}
 use Rattle.strangers.specs.Serving.{bytes_for, meaning_over, shows, told_cost, words_why}
 use Rattle.strangers.specs.Values.{AreInRange, IsInRange, Row, characters_of, found_by_words}
 use Rattle.strangers.specs.Values.{given_slots, longest_of, pair_named, word_named}
-use Rattle.strangers.proofs.ServingLemmas.{afforded, neither}
-use Rattle.strangers.proofs.ValueLemmas.{let_through}
-use Rattle.strangers.specs.declared.serving.Allowed.{Allowed}
-use Rattle.strangers.specs.declared.serving.Refused.{Refused}
-use Rattle.strangers.specs.declared.values.Datum.{Datum}
 use Rattle.strangers.specs.declared.values.Datum.TheVariants.{Text, Number, Decimal as InDecimal}
-use Rattle.strangers.specs.declared.values.Given.{Given}
 use Rattle.strangers.specs.declared.values.Given.TheVariants.{One, Many}
-use Rattle.strangers.specs.declared.values.Word.{Word}
+use Rattle.strangers.specs.declared.{serving.Allowed.Allowed, serving.Refused.Refused}
+use Rattle.strangers.specs.declared.{values.Datum.Datum, values.Given.Given, values.Word.Word}
+use Rattle.strangers.proofs.{ServingLemmas.afforded, ServingLemmas.neither, ValueLemmas.let_through}
 
 -- pairs give what the words give, under the same names
 abbrev pub GiveWords : List Word → Row → Type 0

@@ -1,11 +1,9 @@
 -- The answer to a command line. Texts are bytes.
 use Rattle.std.specs.Prelude.{◌≡◌, ℕ, List, None, Some, string_bytes}
-use Rattle.strangers.specs.Reading.{Asked, asked_by}
 use Rattle.strangers.specs.Serving.{IsServed, Rejects, first_why}
-use Rattle.strangers.specs.Words.{GiveAll, IsFirstBad}
-use Rattle.strangers.specs.declared.answering.Answer.{Answer}
 use Rattle.strangers.specs.declared.answering.Answer.TheVariants.{Text, Refused, BadWord, BadUse}
-use Rattle.strangers.specs.declared.values.Word.{Word}
+use Rattle.strangers.specs.{Reading.Asked, Reading.asked_by, Words.GiveAll, Words.IsFirstBad}
+use Rattle.strangers.specs.{declared.answering.Answer.Answer, declared.values.Word.Word}
 
 -- a line has this request, and its words give these values
 abbrev pub IsRead : List (List ℕ) → Asked → List Word → Type 0

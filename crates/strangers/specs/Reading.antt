@@ -1,15 +1,10 @@
 -- What a command line says: limits that flags set, a format, and words. Texts are bytes.
-use Rattle.std.specs.Prelude.{ℕ, nat_lt, ◌^◌, ◌&&◌, Bool, List, [], ◌∷◌, codes, length, map}
-use Rattle.std.specs.Prelude.{eqb, if◌then◌else◌, Option, None, Some, string_bytes}
-use Rattle.std.specs.Option.{option_and_then}
-use Rattle.std.specs.Char.{is_ascii_digit}
-use Rattle.std.specs.List.{list_all, starts_with}
-use Rattle.std.specs.Str.{bytes_eq}
-use Rattle.std.specs.Str.Parse.{digits_value, without_leading_plus}
-use Rattle.interpolator.specs.declared.Cost.{Cost}
-use Rattle.interpolator.specs.declared.Limits.{Limits}
-use Rattle.strangers.specs.declared.reading.Request.{Request}
-use Rattle.strangers.specs.declared.serving.Allowed.{Allowed}
+use Rattle.std.specs.Prelude.{ℕ, nat_lt, ◌^◌, ◌&&◌, Bool, List, [], ◌∷◌, codes, length, map, eqb}
+use Rattle.std.specs.Prelude.{if◌then◌else◌, Option, None, Some, string_bytes}
+use Rattle.std.specs.{Option.option_and_then, Char.is_ascii_digit, List.list_all, List.starts_with}
+use Rattle.std.specs.{Str.bytes_eq, Str.Parse.digits_value, Str.Parse.without_leading_plus}
+use Rattle.interpolator.specs.{declared.Cost.Cost, declared.Limits.Limits}
+use Rattle.strangers.specs.{declared.reading.Request.Request, declared.serving.Allowed.Allowed}
 
 -- what a command line says: the limits, the format, and the words after it
 abbrev pub Asked : Type 0

@@ -1,32 +1,22 @@
 -- When a format that is not trusted is written, and why another is not. Formats and texts are bytes.
 use Rattle.std.specs.Prelude.{◌≡◌, ◌⊎◌, ◌≤◌, ◌-◌, ◌*◌, ◌^◌, ◌==◌, ◌||◌, ◌<◌, nat_lt, ℕ, Bool, List}
-use Rattle.std.specs.Prelude.{[], ◌∷◌, length, min, if◌then◌else◌, Option, None, Some, Result, Ok, Err}
-use Rattle.std.specs.Option.{option_map, option_or}
-use Rattle.std.specs.Str.{chars}
-use Rattle.interpolator.specs.At.{outermost, text_of}
+use Rattle.std.specs.Prelude.{[], ◌∷◌, length, min, if◌then◌else◌, Option, None, Some, Result, Ok}
+use Rattle.std.specs.Prelude.{Err}
+use Rattle.std.specs.{Option.option_map, Option.option_or, Str.chars}
 use Rattle.interpolator.specs.Faults.{Answer, Fault, answer_of, fault, no_memory}
-use Rattle.interpolator.specs.Meaning.Environments.{environment}
-use Rattle.interpolator.specs.Meaning.Meanings.{Meaning, means}
-use Rattle.interpolator.specs.Slots.{Slots}
-use Rattle.interpolator.specs.Template.NodeChecks.{first_fault}
-use Rattle.interpolator.specs.Template.NodeCosts.{usize_cost, text_cost}
-use Rattle.interpolator.specs.Template.NodeSamples.{faults_over}
-use Rattle.interpolator.specs.Meaning.Work.{Work, text_work}
-use Rattle.interpolator.specs.Views.{Shown}
-use Rattle.interpolator.specs.declared.Cost.{Cost}
-use Rattle.interpolator.specs.declared.Limits.{Limits}
-use Rattle.interpolator.specs.declared.Spec.{Spec}
-use Rattle.interpolator.specs.declared.Trait.{Trait}
+use Rattle.interpolator.specs.Meaning.{Environments.environment, Meanings.Meaning, Meanings.means}
+use Rattle.interpolator.specs.Meaning.{Work.Work, Work.text_work}
+use Rattle.interpolator.specs.Template.{NodeChecks.first_fault, NodeCosts.usize_cost}
+use Rattle.interpolator.specs.Template.{NodeCosts.text_cost, NodeSamples.faults_over}
+use Rattle.interpolator.specs.declared.{Cost.Cost, Limits.Limits, Spec.Spec, Trait.Trait}
+use Rattle.interpolator.specs.{At.outermost, At.text_of, Slots.Slots, Views.Shown}
 use Rattle.strangers.specs.Values.{characters_of, datum_shows, found_by_words, longest_of}
-use Rattle.strangers.specs.declared.serving.Allowed.{Allowed}
-use Rattle.strangers.specs.declared.serving.Count.{Count}
+use Rattle.strangers.specs.{declared.serving.Allowed.Allowed, declared.serving.Count.Count}
 use Rattle.strangers.specs.declared.serving.Count.TheVariants as counts
-use Rattle.strangers.specs.declared.serving.Refused.{Refused}
 use Rattle.strangers.specs.declared.serving.Refused.TheVariants.{Format, Past}
-use Rattle.strangers.specs.declared.values.Datum.{Datum}
-use Rattle.strangers.specs.declared.values.Given.{Given}
 use Rattle.strangers.specs.declared.values.Given.TheVariants.{One, Many}
-use Rattle.strangers.specs.declared.values.Word.{Word}
+use Rattle.strangers.specs.{declared.serving.Refused.Refused, declared.values.Datum.Datum}
+use Rattle.strangers.specs.{declared.values.Given.Given, declared.values.Word.Word}
 
 -- ---- what a format means, and what it costs
 

@@ -1,23 +1,18 @@
 -- The values that a format is given: what they show, and what limits they keep.
 use Rattle.std.specs.Prelude.{⊤, ℕ, ◌+◌, ◌<◌, ◌^◌, ◌==◌, max, FitsSigned, List, [], ◌∷◌, All}
 use Rattle.std.specs.Prelude.{length, map, Option, None, Some, if◌then◌else◌}
-use Rattle.std.specs.Borrow.{Bor}
-use Rattle.std.specs.Int.{w128}
-use Rattle.std.specs.Option.{option_or}
 use Rattle.std.specs.Str.{bytes_eq, chars, encode_utf8_all}
+use Rattle.std.specs.{Borrow.Bor, Int.w128, Option.option_or}
 use Rattle.interpolator_digits.specs.Decimals.{decimal_text}
 use Rattle.interpolator_render.specs.Numbers.{distance_from_zero}
 use Rattle.interpolator.specs.Slots.{Slots, slots_of, empty_slots, with_integer, with_iter}
 use Rattle.interpolator.specs.Views.{Shown, some_text, signed_number, decimal_number}
-use Rattle.interpolator.specs.declared.Bits.TheVariants.{B128}
-use Rattle.interpolator.specs.declared.Decimal.{Decimal}
+use Rattle.interpolator.specs.{declared.Bits.TheVariants.B128, declared.Decimal.Decimal}
 use Rattle.interpolator.specs.declared.Formattable.{Formattable}
-use Rattle.strangers.specs.declared.values.Datum.{Datum}
 use Rattle.strangers.specs.declared.values.Datum.TheVariants.{Text, Number, Decimal as InDecimal}
-use Rattle.strangers.specs.declared.values.Given.{Given}
 use Rattle.strangers.specs.declared.values.Given.TheVariants.{One, Many}
-use Rattle.strangers.specs.declared.values.Word.{Word}
-use Rattle.strangers.specs.declared.lending.Lent.{Lent}
+use Rattle.strangers.specs.{declared.values.Datum.Datum, declared.values.Given.Given}
+use Rattle.strangers.specs.{declared.values.Word.Word, declared.lending.Lent.Lent}
 use Rattle.strangers.specs.declared.lending.Lent.TheVariants as lent
 use Rattle.strangers.specs.declared.lending.Entry.{Entry}
 

@@ -4,11 +4,9 @@ use Rattle.std.specs.Prelude.{◌≡◌, ◌⊎◌, ⊤, ℕ, List, [], ◌∷�
 use Rattle.std.specs.List.{AllZip}
 use Rattle.words.specs.Items.{items_of}
 use Rattle.words.specs.Words.{Assignment, text, number, decimal, float, list, Means}
-use Rattle.strangers.specs.declared.values.Datum.{Datum}
 use Rattle.strangers.specs.declared.values.Datum.TheVariants.{Text, Number, Decimal as InDecimal}
-use Rattle.strangers.specs.declared.values.Given.{Given}
 use Rattle.strangers.specs.declared.values.Given.TheVariants.{One, Many}
-use Rattle.strangers.specs.declared.values.Word.{Word}
+use Rattle.strangers.specs.declared.{values.Datum.Datum, values.Given.Given, values.Word.Word}
 
 -- the text that a value is
 abbrev pub text_in : Datum → Option (List ℕ)

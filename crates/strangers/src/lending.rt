@@ -1,7 +1,6 @@
 //! The values of words, borrowed by the pairs of a context.
 ghost use Rattle.std.specs.Prelude.{◌≡◌, IfErr, IfOk, map};
-ghost use Rattle.interpolator.specs.Slots.{slots_of};
-ghost use Rattle.interpolator.specs.declared.Error.TheVariants.{NoMemory};
+ghost use Rattle.interpolator.specs.{Slots.slots_of, declared.Error.TheVariants.NoMemory};
 ghost use Rattle.strangers.specs.Values.{given_slots, lent_slots, word_named, entry_named};
 ghost use Rattle.strangers.specs.Values.{pair_named};
 

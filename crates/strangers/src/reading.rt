@@ -3,10 +3,9 @@ ghost use Rattle.std.specs.Prelude.{◌≡◌, IfOk, MatchOption, MatchResult, m
 ghost use Rattle.std.specs.Option.{option_map};
 ghost use Rattle.strangers.specs.Reading.{as_asked, asked_by, is_flag, limit_of, with_flag};
 ghost use Rattle.strangers.specs.Reading.{with_limit};
-ghost use Rattle.strangers.specs.Words.{GiveAll, Gives, IsFirstBad, are_texts, text_in};
+ghost use Rattle.strangers.specs.Words.{GiveAll, Gives, IsFirstBad, are_texts, text_in, IsGood};
 ghost use Rattle.strangers.specs.declared.values.Given.TheVariants.{One};
 ghost use Rattle.words.specs.Items.{texts_of};
-ghost use Rattle.strangers.specs.Words.{IsGood};
 
 use crate::serving::Allowed;
 use crate::values::{Datum, Given, Word};

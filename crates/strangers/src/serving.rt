@@ -1,15 +1,13 @@
 //! A format that is not trusted: checked, weighed and written.
-ghost use Rattle.std.specs.Prelude.{◌≡◌, ◌≤◌, IfErr, IfOk, None, OnOk, All, [], length};
-ghost use Rattle.std.specs.Prelude.{false, string_bytes, true};
+ghost use Rattle.std.specs.Prelude.{◌≡◌, ◌≤◌, IfErr, IfOk, None, OnOk, All, [], length, false};
+ghost use Rattle.std.specs.Prelude.{string_bytes, true};
 ghost use Rattle.std.specs.Str.{chars};
 ghost use Rattle.interpolator_render.specs.Bounds.{bounded, bounded_writer};
-ghost use Rattle.interpolator.specs.Contexts.{found_by_pairs};
-ghost use Rattle.interpolator.specs.Faults.{answer_of, no_memory};
-ghost use Rattle.strangers.specs.Values.{AreInRange};
-ghost use Rattle.strangers.specs.Serving.{IsServed, IsWhole, Rejects, bytes_for, cost_why, count_why};
-ghost use Rattle.strangers.specs.Serving.{faults_with, first_why, format_why, given_why, is_past};
-ghost use Rattle.strangers.specs.Serving.{told_cost, value_why, why_in, words_why};
-ghost use Rattle.strangers.specs.declared.serving.Refused.TheVariants.{Format};
+ghost use Rattle.interpolator.specs.{Contexts.found_by_pairs, Faults.answer_of, Faults.no_memory};
+ghost use Rattle.strangers.specs.Serving.{IsServed, IsWhole, Rejects, bytes_for, cost_why};
+ghost use Rattle.strangers.specs.Serving.{count_why, faults_with, first_why, format_why, given_why};
+ghost use Rattle.strangers.specs.Serving.{is_past, told_cost, value_why, why_in, words_why};
+ghost use Rattle.strangers.specs.{Values.AreInRange, declared.serving.Refused.TheVariants.Format};
 
 use crate::lending::{entries_of, pairs_of};
 use crate::values::{Datum, Given, Word, characters_of, longest_of};

@@ -1,12 +1,10 @@
 //! The values of words.
-ghost use Rattle.std.specs.Prelude.{◌≡◌, ◌≤◌, ◌<◌, ◌+◌, ◌/◌, ◌^◌, false, All};
-ghost use Rattle.std.specs.Prelude.{FitsSigned, None, length};
-ghost use Rattle.std.specs.Int.{w128};
-ghost use Rattle.std.specs.Str.{chars};
-ghost use Rattle.interpolator_digits.specs.Decimals.{decimal_text};
-ghost use Rattle.interpolator_digits.specs.Digits.{digit_text};
-ghost use Rattle.strangers.specs.Values.{IsInRange, characters_of, count_after};
-ghost use Rattle.strangers.specs.Values.{decimal_characters, longest_of};
+ghost use Rattle.std.specs.Prelude.{◌≡◌, ◌≤◌, ◌<◌, ◌+◌, ◌/◌, ◌^◌, false, All, FitsSigned, None};
+ghost use Rattle.std.specs.Prelude.{length};
+ghost use Rattle.std.specs.{Int.w128, Str.chars};
+ghost use Rattle.interpolator_digits.specs.{Decimals.decimal_text, Digits.digit_text};
+ghost use Rattle.strangers.specs.Values.{IsInRange, characters_of, count_after, decimal_characters};
+ghost use Rattle.strangers.specs.Values.{longest_of};
 
 use interpolator::{Bits, Decimal, Spec, Trait, Value, View};
 

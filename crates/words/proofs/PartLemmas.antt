@@ -1,14 +1,11 @@
 -- What the two parts of a word mean, and whether a word means anything.
-use Rattle.std.proofs.Common.{◌≡◌, ◌↔◌, refl, List, ℕ, Option, None, Some, option_map}
-use Rattle.std.proofs.Common.{Result, Ok, Err}
-use Rattle.std.specs.Float.{binary64}
-use Rattle.std.specs.Float.Parse.{IsParseFloatResult}
-use Rattle.std.specs.Float.Ieee.{Float}
+use Rattle.std.proofs.Common.{◌≡◌, ◌↔◌, refl, List, ℕ, Option, None, Some, option_map, Result, Ok}
+use Rattle.std.proofs.Common.{Err}
+use Rattle.std.specs.{Float.binary64, Float.Parse.IsParseFloatResult, Float.Ieee.Float}
 use Rattle.std.specs.Result.{result_ok}
 use Rattle.words.specs.declared.reading.Word.{Word}
 use Rattle.words.specs.declared.reading.Word.TheVariants.{Text, Number, Decimal as DecimalWord}
-use Rattle.words.specs.declared.reading.Word.TheVariants.{Float as FloatWord}
-use Rattle.words.specs.declared.reading.Word.TheVariants.{List as ListWord, Bad}
+use Rattle.words.specs.declared.reading.Word.TheVariants.{Float as FloatWord, List as ListWord, Bad}
 use Rattle.words.specs.Words.{Assignment, Classifies, IsFloat, IsGood, IsSpelled}
 
 -- parts mean what the second spells, if it spells anything

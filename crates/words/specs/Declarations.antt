@@ -1,9 +1,8 @@
 -- What stands before the `=` of a word: a name, with a kind of value.
-use Rattle.std.specs.Prelude.{◌-◌, ℕ, List, codes, eqb, length, take, if◌then◌else◌}
-use Rattle.std.specs.Prelude.{Option, None, Some}
+use Rattle.std.specs.Prelude.{◌-◌, ℕ, List, codes, eqb, length, take, if◌then◌else◌, Option, None}
+use Rattle.std.specs.Prelude.{Some}
 use Rattle.std.specs.List.{ends_with}
-use Rattle.words.specs.declared.kinds.Declaration.{Declaration}
-use Rattle.words.specs.declared.kinds.Kind.{Kind}
+use Rattle.words.specs.{declared.kinds.Declaration.Declaration, declared.kinds.Kind.Kind}
 use Rattle.words.specs.declared.kinds.Kind.TheVariants as kinds
 
 -- a name and the kind of value under it, borrows aside

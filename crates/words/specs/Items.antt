@@ -1,7 +1,6 @@
 -- The items of a list word: what is between the commas of a text.
 use Rattle.std.specs.Prelude.{◌==◌, ℕ, List, [], ◌∷◌, map}
-use Rattle.std.specs.Borrow.{Bor}
-use Rattle.std.specs.List.{slice_split}
+use Rattle.std.specs.{Borrow.Bor, List.slice_split}
 
 -- the sign `,`
 abbrev pub comma : ℕ

@@ -1,7 +1,6 @@
 -- What programs ask of words, and of the texts of files. Texts are bytes.
 use Rattle.std.specs.Prelude.{ℕ, Bool, List, [], ◌∷◌, codes, drop, eqb, take, if◌then◌else◌}
-use Rattle.std.specs.List.{starts_with}
-use Rattle.std.specs.Str.{bytes_eq}
+use Rattle.std.specs.{List.starts_with, Str.bytes_eq}
 
 -- a word begins as flags do
 abbrev pub is_flag : List ℕ → Bool

@@ -1,21 +1,15 @@
 -- The words of the command line: what each means, by its bytes.
-use Rattle.std.specs.Prelude.{◌≡◌, ◌⊎◌, ◌↔◌, ◌==◌, ◌<◌, ℕ, ℤ, pos, neg_ℤ, Bool, List, ◌++◌}
-use Rattle.std.specs.Prelude.{codes, length, FitsSigned, Option, None, Some}
-use Rattle.std.specs.Float.{binary64}
-use Rattle.std.specs.Float.Parse.{parse_float}
-use Rattle.std.specs.Float.Ieee.{Float}
-use Rattle.std.specs.Int.{w128}
+use Rattle.std.specs.Prelude.{◌≡◌, ◌⊎◌, ◌↔◌, ◌==◌, ◌<◌, ℕ, ℤ, pos, neg_ℤ, Bool, List, ◌++◌, codes}
+use Rattle.std.specs.Prelude.{length, FitsSigned, Option, None, Some}
 use Rattle.std.specs.List.{after_first, before_first, position_or_len}
 use Rattle.std.specs.Str.Parse.{IsNumeral, digits_value}
-use Rattle.interpolator.specs.DecimalTexts.{Spells as IsDecimal}
-use Rattle.interpolator.specs.declared.Decimal.{Decimal}
-use Rattle.words.specs.Declarations.{declaration_of}
-use Rattle.words.specs.declared.kinds.Kind.{Kind}
+use Rattle.std.specs.{Float.binary64, Float.Parse.parse_float, Float.Ieee.Float, Int.w128}
+use Rattle.interpolator.specs.{DecimalTexts.Spells as IsDecimal, declared.Decimal.Decimal}
+use Rattle.words.specs.{Declarations.declaration_of, declared.kinds.Kind.Kind}
 use Rattle.words.specs.declared.kinds.Kind.TheVariants as kinds
 use Rattle.words.specs.declared.reading.Word.{Word}
 use Rattle.words.specs.declared.reading.Word.TheVariants.{Text, Number, Decimal as DecimalWord}
-use Rattle.words.specs.declared.reading.Word.TheVariants.{Float as FloatWord}
-use Rattle.words.specs.declared.reading.Word.TheVariants.{List as ListWord, Bad}
+use Rattle.words.specs.declared.reading.Word.TheVariants.{Float as FloatWord, List as ListWord, Bad}
 
 -- what a word that is not bad puts under a name: a text, a whole number, a decimal, a float or
 -- the items of a list

@@ -1,12 +1,11 @@
 //! How a word is read.
 
 ghost use Rattle.std.specs.Prelude.{◌≡◌, ◌↔◌, ℤ, IfOk, Some};
-ghost use Rattle.std.specs.Float.Ieee.{Float};
-ghost use Rattle.std.specs.List.{join_with_byte};
-ghost use Rattle.interpolator.specs.DecimalTexts.{Spells as IsDecimal};
-ghost use Rattle.interpolator.specs.declared.Decimal.{Decimal};
+ghost use Rattle.std.specs.{Float.Ieee.Float, List.join_with_byte};
+ghost use Rattle.interpolator.specs.{DecimalTexts.Spells as IsDecimal, declared.Decimal.Decimal};
 ghost use Rattle.words.specs.Items.{comma, items_of, texts_of};
-ghost use Rattle.words.specs.Words.{Assignment, Classifies, IsFloat, PartsMean, Spells, assignment_of};
+ghost use Rattle.words.specs.Words.{Assignment, Classifies, IsFloat, PartsMean, Spells};
+ghost use Rattle.words.specs.Words.{assignment_of};
 
 use crate::kinds::{Declaration, Kind, declaration_of};
 use interpolator::Decimal;

@@ -1,16 +1,12 @@
 -- What parts mean when they are written one after the other, each as a format by itself.
 use Rattle.std.specs.Prelude.{◌≢◌, ℕ, ◌+◌, ⊤, IsTrue, List, [], ◌∷◌, ◌++◌, map, length}
-use Rattle.std.specs.Str.{chars}
-use Rattle.std.specs.Borrow.{Bor}
-use Rattle.interpolator_render.specs.declared.view.Trait.{Trait}
-use Rattle.interpolator_render.specs.declared.view.Spec.{Spec}
+use Rattle.std.specs.{Str.chars, Borrow.Bor}
+use Rattle.interpolator_render.specs.{declared.view.Trait.Trait, declared.view.Spec.Spec}
 use Rattle.interpolator_render.specs.Views.{Shown}
-use Rattle.interpolator_syntax.specs.At.{size}
-use Rattle.interpolator_syntax.specs.Grammar.{from_place}
-use Rattle.interpolator.specs.Seams.{ending, seam_of}
+use Rattle.interpolator_syntax.specs.{At.size, Grammar.from_place}
+use Rattle.interpolator.specs.{Seams.ending, Seams.seam_of, declared.parts.Ending.TheVariants.Open}
 use Rattle.interpolator_eval.specs.Meaning.Environments.{Environment}
 use Rattle.interpolator_eval.specs.Meaning.Meanings.{Meaning, nothing, chain, means}
-use Rattle.interpolator.specs.declared.parts.Ending.TheVariants.{Open}
 
 -- the parts, one after the other
 abbrev pub joined_text : List (List ℕ) → List ℕ

@@ -1,11 +1,10 @@
 //! Laws of the texts of decimals, each the contract of a small function.
 
 ghost use Rattle.std.specs.Prelude.{◌≡◌, ℕ, ℤ, List, None, Ok};
+ghost use Rattle.interpolator_render.specs.Texts.{has_text, view_text};
 ghost use Rattle.interpolator_render.specs.declared.view.Spec.{Spec};
 ghost use Rattle.interpolator_render.specs.declared.view.Trait.TheVariants.{Display};
-ghost use Rattle.interpolator_render.specs.Padding.{unset_spec};
-ghost use Rattle.interpolator_render.specs.Texts.{has_text, view_text};
-ghost use Rattle.interpolator_render.specs.Views.{decimal_number};
+ghost use Rattle.interpolator_render.specs.{Padding.unset_spec, Views.decimal_number};
 ghost use Rattle.interpolator.specs.DecimalTexts.{SpellsDecimal};
 
 use crate::decimal::Decimal;

@@ -1,17 +1,14 @@
 //! Laws of formats that follow one another, each the contract of a small function.
 
-ghost use Rattle.std.specs.Prelude.{◌≡◌, ◌≢◌, ℕ, ◌+◌, ◌++◌, List, [], ◌∷◌, IsTrue, IsFalse};
-ghost use Rattle.std.specs.Prelude.{Ok, None, codes};
+ghost use Rattle.std.specs.Prelude.{◌≡◌, ◌≢◌, ℕ, ◌+◌, ◌++◌, List, [], ◌∷◌, IsTrue, IsFalse, Ok};
+ghost use Rattle.std.specs.Prelude.{None, codes};
 ghost use Rattle.interpolator_syntax.specs.At.{At, size, outermost};
-ghost use Rattle.interpolator_syntax.specs.Classes.{close_brace};
 ghost use Rattle.interpolator_syntax.specs.Arguments.{Argument, argument_at};
-ghost use Rattle.interpolator_syntax.specs.Grammar.{from_place};
-ghost use Rattle.interpolator_syntax.specs.Pieces.{pieces};
+ghost use Rattle.interpolator_syntax.specs.{Classes.close_brace, Grammar.from_place, Pieces.pieces};
 ghost use Rattle.interpolator.specs.Seams.{EndsClosed, ending, may_follow, seam_of};
-ghost use Rattle.interpolator_eval.specs.Meaning.Environments.{Environment};
-ghost use Rattle.interpolator_eval.specs.Meaning.Meanings.{chain, means};
-ghost use Rattle.interpolator_eval.specs.Meaning.Moves.{moved_meaning};
 ghost use Rattle.interpolator.specs.Meaning.Parts.{joined_text, parts_mean, Clean, FrontsClose};
+ghost use Rattle.interpolator_eval.specs.Meaning.Meanings.{chain, means};
+ghost use Rattle.interpolator_eval.specs.Meaning.{Environments.Environment, Moves.moved_meaning};
 
 use interpolator_render::Value;
 

@@ -1,18 +1,13 @@
 -- A text means the same in an environment cut to the names that it uses.
 use Rattle.std.proofs.Common.{◌≡◌, ℕ, List, [], ◌∷◌, arith, refl, true, Option, Some, ◌&&◌}
 use Rattle.std.proofs.lemmas.Slice.Eq.{bytes_eq-Decides}
-use Rattle.interpolator_render.specs.declared.view.Trait.{Trait}
-use Rattle.interpolator_render.specs.declared.view.Spec.{Spec}
-use Rattle.interpolator_render.specs.Views.{Shown}
-use Rattle.interpolator_render.specs.Written.{Written}
-use Rattle.interpolator_syntax.specs.At.{At}
-use Rattle.interpolator_syntax.specs.Faults.{Answer}
-use Rattle.interpolator_eval.specs.Slots.{Slots}
+use Rattle.interpolator_render.specs.{declared.view.Trait.Trait, declared.view.Spec.Spec}
+use Rattle.interpolator_render.specs.{Views.Shown, Written.Written}
+use Rattle.interpolator_syntax.specs.{At.At, Faults.Answer}
 use Rattle.interpolator_eval.specs.Meaning.AskedNames.{asked_names, AgreeOn}
 use Rattle.interpolator_eval.specs.Meaning.Environments.{Environment, is_among, within, names_among}
 use Rattle.interpolator_eval.specs.Meaning.Environments.{cut}
-use Rattle.interpolator_eval.specs.Meaning.Meanings.{means}
-use Rattle.interpolator_eval.specs.Meaning.Outcomes.{Outcome}
+use Rattle.interpolator_eval.specs.{Slots.Slots, Meaning.Meanings.means, Meaning.Outcomes.Outcome}
 use Rattle.interpolator_eval.proofs.MeaningLemmas.EqualLemmas.{means_same}
 
 -- ---- an environment that is cut

@@ -3,21 +3,15 @@ use Rattle.std.proofs.Common.{map, option_map, ◌≡◌, ℕ, true, false, List
 use Rattle.std.proofs.Common.{◌++◌, arith, refl, Option, Some, None}
 use Rattle.interpolator_render.specs.declared.view.Trait.{Trait}
 use Rattle.interpolator_render.specs.declared.view.Trait.TheVariants as traits
-use Rattle.interpolator_render.specs.declared.view.Spec.{Spec}
-use Rattle.interpolator_render.specs.Views.{Shown}
-use Rattle.interpolator_render.specs.Written.{Written}
-use Rattle.interpolator_syntax.specs.At.{At}
-use Rattle.interpolator_syntax.specs.Faults.{Answer}
+use Rattle.interpolator_render.specs.{declared.view.Spec.Spec, Views.Shown, Written.Written}
 use Rattle.interpolator_syntax.specs.Nodes.{Node, node, Branch, no_branch, branch, Forest, no_nodes}
 use Rattle.interpolator_syntax.specs.Nodes.{nodes_and, Content, Target}
-use Rattle.interpolator_syntax.specs.SpecTexts.{plain_spec}
-use Rattle.interpolator_syntax.specs.declared.piece_kind.PieceKind.{PieceKind}
-use Rattle.interpolator_syntax.specs.declared.range.Range.{Range}
+use Rattle.interpolator_syntax.specs.declared.{piece_kind.PieceKind.PieceKind, range.Range.Range}
+use Rattle.interpolator_syntax.specs.{At.At, Faults.Answer, SpecTexts.plain_spec}
 use Rattle.interpolator_eval.specs.Slots.{Slots, SlotsList, bare, listed, no_slots, slots_and}
 use Rattle.interpolator_eval.specs.Slots.{values_of, Values, slots_listed, items}
 use Rattle.interpolator_eval.specs.Meaning.AskedNames.{without_empty, content_names, branch_asks}
 use Rattle.interpolator_eval.specs.Meaning.AskedNames.{node_asks, forest_asks, asked_names, AgreeOn}
-use Rattle.interpolator_eval.specs.Meaning.Choices.{chosen_items}
 use Rattle.interpolator_eval.specs.Meaning.Environments.{Environment, slots_under, bind}
 use Rattle.interpolator_eval.specs.Meaning.EqualValues.{EqualSlot, EqualValues, EqualSlots}
 use Rattle.interpolator_eval.specs.Meaning.EqualValues.{EqualItems, EqualFound, EqualOn}
@@ -25,7 +19,7 @@ use Rattle.interpolator_eval.specs.Meaning.Meanings.{Meaning, join_branch_means,
 use Rattle.interpolator_eval.specs.Meaning.Meanings.{chain, value_means, items_after, forest_means}
 use Rattle.interpolator_eval.specs.Meaning.Meanings.{items_mean, under_name, node_means, means}
 use Rattle.interpolator_eval.specs.Meaning.Meanings.{listed_means, target_means, content_means}
-use Rattle.interpolator_eval.specs.Meaning.Outcomes.{Finished}
+use Rattle.interpolator_eval.specs.{Meaning.Choices.chosen_items, Meaning.Outcomes.Finished}
 use Rattle.interpolator_eval.proofs.MeaningLemmas.ChoiceLemmas.{map-chosen}
 use Rattle.interpolator_eval.proofs.MeaningLemmas.AskedPieceLemmas.{branch_in_item}
 

@@ -1,23 +1,18 @@
 -- Pieces up to their first list: from the first piece, and from those after it.
 use Rattle.std.proofs.Common.{◌≡◌, refl, arith, ℕ, ◌+◌, ◌≤◌, Bool, true, false, Option, None, Some}
-use Rattle.interpolator_render.specs.Written.{Written}
-use Rattle.interpolator_render.specs.declared.view.Trait.{Trait}
-use Rattle.interpolator_render.specs.declared.view.Spec.{Spec}
-use Rattle.interpolator_render.specs.Views.{Shown}
-use Rattle.interpolator_syntax.specs.Faults.{Answer}
-use Rattle.interpolator_syntax.specs.At.{At}
+use Rattle.interpolator_render.specs.{Written.Written, declared.view.Trait.Trait}
+use Rattle.interpolator_render.specs.{declared.view.Spec.Spec, Views.Shown}
 use Rattle.interpolator_syntax.specs.Nodes.{Node, node, Forest, no_nodes, nodes_and, nodes}
 use Rattle.interpolator_syntax.specs.Nodes.{token_node}
 use Rattle.interpolator_syntax.specs.Tokens.{Token, first_token, past_token}
-use Rattle.interpolator_eval.specs.Meaning.ScannedLists.{text_forest}
-use Rattle.interpolator_eval.specs.Meaning.Environments.{Environment}
-use Rattle.interpolator_eval.specs.Meaning.Meanings.{Meaning, forest_means}
-use Rattle.interpolator_eval.specs.Meaning.Outcomes.{Outcome}
+use Rattle.interpolator_syntax.specs.{Faults.Answer, At.At}
 use Rattle.interpolator_eval.specs.Meaning.Sources.{asks_list, before_list, first_holds, from_list}
 use Rattle.interpolator_eval.specs.Meaning.Sources.{unlisted_means}
-use Rattle.interpolator_eval.specs.Meaning.Work.{forest_work, node_work}
-use Rattle.interpolator_eval.proofs.MeaningLemmas.SinkLemmas.{and_then, fault_first}
-use Rattle.interpolator_eval.proofs.MeaningLemmas.SinkLemmas.{nothing_done, nothing_fails}
+use Rattle.interpolator_eval.specs.Meaning.{ScannedLists.text_forest, Environments.Environment}
+use Rattle.interpolator_eval.specs.Meaning.{Meanings.Meaning, Meanings.forest_means}
+use Rattle.interpolator_eval.specs.Meaning.{Outcomes.Outcome, Work.forest_work, Work.node_work}
+use Rattle.interpolator_eval.proofs.MeaningLemmas.SinkLemmas.{and_then, fault_first, nothing_done}
+use Rattle.interpolator_eval.proofs.MeaningLemmas.SinkLemmas.{nothing_fails}
 use Rattle.interpolator_eval.proofs.MeaningLemmas.ScanLemmas.{text_none, text_next, next_holds}
 
 module _ (x : Node) (xs : Forest) where

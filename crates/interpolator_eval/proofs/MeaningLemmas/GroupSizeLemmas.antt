@@ -1,10 +1,8 @@
 -- How many characters the groups of a list have.
 use Rattle.std.proofs.Common.{◌≡◌, arith, ℕ, ◌≤◌, max, length, Option, None, Some, Ok}
-use Rattle.interpolator_syntax.specs.At.{At}
-use Rattle.interpolator_syntax.specs.Groups.{Group}
-use Rattle.interpolator_syntax.specs.Lists.{ListRequest}
 use Rattle.interpolator_syntax.specs.SpecTexts.{Kind, of_value, of_list}
 use Rattle.interpolator_syntax.specs.Arguments.{Argument, argument_at}
+use Rattle.interpolator_syntax.specs.{At.At, Groups.Group, Lists.ListRequest}
 use Rattle.interpolator_syntax.proofs.SizeLemmas.{GroupIfIn, KindIn, argument_in}
 
 -- those of a group; none if there is no group

@@ -1,27 +1,20 @@
 -- What a list argument means, in the words of the laws: its padding, its width, its faults.
-use Rattle.std.proofs.lemmas.Grind.{common_steps}
 use Rattle.std.proofs.Common.{Option, ◌≡◌, ℕ, false, cond, List, [], ◌∷◌, ◌++◌, length, flat_map}
 use Rattle.std.proofs.Common.{append_assoc, arith, refl, inl, inr, Some, None, max, replicate}
 use Rattle.std.proofs.Common.{unwrap_or, append-nil}
-use Rattle.std.proofs.lemmas.List.{length-map, replicate-append-replicate}
-use Rattle.interpolator_render.proofs.LawLemmas.{padded_text_count}
-use Rattle.interpolator_render.proofs.NumberLemmas.{before_within}
-use Rattle.interpolator_render.specs.declared.view.Trait.{Trait}
-use Rattle.interpolator_render.specs.declared.view.Spec.{Spec}
-use Rattle.interpolator_render.specs.Padding.{fill_of, padded_text}
-use Rattle.interpolator_render.specs.Views.{Shown}
-use Rattle.interpolator_syntax.specs.At.{Placed, placed_at, text_of}
-use Rattle.interpolator_syntax.specs.Arguments.{Argument}
-use Rattle.interpolator_syntax.specs.Lists.{ListRequest}
-use Rattle.interpolator_syntax.specs.Faults.{Fault, parse, iter}
-use Rattle.interpolator_eval.specs.Slots.{Slots}
-use Rattle.interpolator_eval.specs.Meaning.Choices.{chosen_items}
-use Rattle.interpolator_eval.specs.Meaning.Environments.{Environment}
+use Rattle.std.proofs.lemmas.{Grind.common_steps, List.length-map, List.replicate-append-replicate}
+use Rattle.interpolator_render.proofs.{LawLemmas.padded_text_count, NumberLemmas.before_within}
+use Rattle.interpolator_render.specs.{declared.view.Trait.Trait, declared.view.Spec.Spec}
+use Rattle.interpolator_render.specs.{Padding.fill_of, Padding.padded_text, Views.Shown}
+use Rattle.interpolator_syntax.specs.{At.Placed, At.placed_at, At.text_of, Arguments.Argument}
+use Rattle.interpolator_syntax.specs.{Lists.ListRequest, Faults.Fault, Faults.parse, Faults.iter}
 use Rattle.interpolator_eval.specs.Meaning.ListArguments.{FindsList, AllFinish, joined_texts}
 use Rattle.interpolator_eval.specs.Meaning.ListArguments.{FirstFault, in_item, in_join}
 use Rattle.interpolator_eval.specs.Meaning.ListArguments.{argument_meaning, items_alone}
 use Rattle.interpolator_eval.specs.Meaning.Meanings.{Meaning, nothing, padded_list, items_mean}
 use Rattle.interpolator_eval.specs.Meaning.Meanings.{fault_alone, forbids_list}
+use Rattle.interpolator_eval.specs.{Slots.Slots, Meaning.Choices.chosen_items}
+use Rattle.interpolator_eval.specs.Meaning.Environments.{Environment}
 
 -- ---- padding
 

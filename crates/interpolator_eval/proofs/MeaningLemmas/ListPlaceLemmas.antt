@@ -1,12 +1,10 @@
 -- Where the first list of a text begins.
-use Rattle.std.proofs.Common.{◌≡◌, ◌∙◌, sym, ap, subst, refl, arith, ℕ, suc, Bool, true, false}
-use Rattle.std.proofs.Common.{[], Some, None, Option, Result}
-use Rattle.interpolator_syntax.specs.Arguments.{Argument, argument_at}
-use Rattle.interpolator_syntax.specs.At.{At}
-use Rattle.interpolator_syntax.specs.Faults.{Fault}
+use Rattle.std.proofs.Common.{◌≡◌, ◌∙◌, sym, ap, subst, refl, arith, ℕ, suc, Bool, true, false, []}
+use Rattle.std.proofs.Common.{Some, None, Option, Result}
 use Rattle.interpolator_syntax.specs.Nodes.{Node, Forest, nodes_and, nodes, piece_node, token_node}
-use Rattle.interpolator_syntax.specs.Pieces.{argument_from, argument_or_broken}
 use Rattle.interpolator_syntax.specs.Tokens.{Token, argument, first_token, past_token}
+use Rattle.interpolator_syntax.specs.{Arguments.Argument, Arguments.argument_at, At.At}
+use Rattle.interpolator_syntax.specs.{Faults.Fault, Pieces.argument_from, Pieces.argument_or_broken}
 use Rattle.interpolator_syntax.proofs.LocalityLemmas.{Takes, stands, takes_then}
 use Rattle.interpolator_syntax.proofs.NodeLemmas.{by_token}
 use Rattle.interpolator_syntax.proofs.TokenTextLemmas.{takes_token, scan_taken}

@@ -1,17 +1,13 @@
 -- What is looked up under a name, by the trait; and which items of the list under it are chosen.
 use Rattle.std.proofs.Common.{arith, ◌≡◌, ℕ, false, List, map, Option, Some, option_map}
-use Rattle.interpolator_render.specs.declared.view.Spec.{Spec}
-use Rattle.interpolator_render.specs.declared.view.Trait.{Trait}
+use Rattle.interpolator_render.specs.{declared.view.Spec.Spec, declared.view.Trait.Trait}
 use Rattle.interpolator_render.specs.declared.view.Trait.TheVariants as traits
-use Rattle.interpolator_syntax.specs.Arguments.{kind_under}
-use Rattle.interpolator_syntax.specs.Lists.{ListRequest}
-use Rattle.interpolator_syntax.specs.SpecTexts.{of_value}
+use Rattle.interpolator_syntax.specs.{Arguments.kind_under, Lists.ListRequest, SpecTexts.of_value}
 use Rattle.interpolator_syntax.specs.declared.range.Range.{Range}
 use Rattle.interpolator_eval.specs.Slots.{Slots, items}
-use Rattle.interpolator_eval.specs.Meaning.Choices.{chosen_items}
 use Rattle.interpolator_eval.specs.Meaning.Environments.{Environment, slots_under}
 use Rattle.interpolator_eval.specs.Meaning.Lists.{IsChosen, ChosenUnder}
-use Rattle.interpolator_eval.specs.Meaning.Meanings.{forbids_list}
+use Rattle.interpolator_eval.specs.{Meaning.Choices.chosen_items, Meaning.Meanings.forbids_list}
 use Rattle.interpolator_eval.proofs.MeaningLemmas.ChoiceLemmas.{map-chosen}
 
 -- each trait but `Iter` stands for a value

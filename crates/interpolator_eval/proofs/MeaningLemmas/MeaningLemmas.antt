@@ -3,14 +3,12 @@ use Rattle.std.proofs.Common.{◌≡◌, ℕ, ◌+◌, List, [], ◌∷◌, ◌+
 use Rattle.std.proofs.Common.{refl, ap, ◌∙◌, sym, Option, Some, None, append_assoc, length-append}
 use Rattle.std.proofs.lemmas.List.{map-append}
 use Rattle.std.specs.Char.{len_utf8}
-use Rattle.interpolator_render.specs.declared.view.Trait.{Trait}
-use Rattle.interpolator_render.specs.declared.view.Spec.{Spec}
+use Rattle.interpolator_render.specs.{declared.view.Trait.Trait, declared.view.Spec.Spec}
 use Rattle.interpolator_render.specs.Views.{Shown}
 use Rattle.interpolator_syntax.specs.At.{At, placed_from, size}
-use Rattle.interpolator_syntax.specs.Faults.{Fault}
 use Rattle.interpolator_syntax.specs.Nodes.{Node, as_forest, piece_node, nodes}
 use Rattle.interpolator_syntax.specs.Pieces.{piece_from, past, Piece, pieces}
-use Rattle.interpolator_syntax.specs.Splits.{literal_nodes, node_alone}
+use Rattle.interpolator_syntax.specs.{Faults.Fault, Splits.literal_nodes, Splits.node_alone}
 use Rattle.interpolator_syntax.proofs.PieceLemmas.{piece_begins, pieces_none, pieces_next}
 use Rattle.interpolator_syntax.proofs.SplitLemmas.{gathered_alone}
 use Rattle.interpolator_eval.specs.Meaning.Environments.{Environment}

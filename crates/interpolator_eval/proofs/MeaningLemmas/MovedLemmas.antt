@@ -1,27 +1,22 @@
 -- A text at another base means the same, with every place moved.
-use Rattle.std.proofs.Common.{◌≡◌, ℕ, ◌+◌, ◌<◌, List, [], ◌∷◌, length, map, arith, refl}
-use Rattle.std.proofs.Common.{Option, None, option_map}
+use Rattle.std.proofs.Common.{◌≡◌, ℕ, ◌+◌, ◌<◌, List, [], ◌∷◌, length, map, arith, refl, Option}
+use Rattle.std.proofs.Common.{None, option_map}
 use Rattle.std.proofs.lemmas.List.{map-append, length-map}
-use Rattle.interpolator_render.specs.declared.view.Trait.{Trait}
-use Rattle.interpolator_render.specs.declared.view.Spec.{Spec}
+use Rattle.interpolator_render.specs.{declared.view.Trait.Trait, declared.view.Spec.Spec}
 use Rattle.interpolator_render.specs.Views.{Shown}
 use Rattle.interpolator_syntax.specs.At.{At, Placed, placed_at, text_of, outermost}
-use Rattle.interpolator_syntax.specs.Groups.{Group}
-use Rattle.interpolator_syntax.specs.Lists.{ListRequest}
 use Rattle.interpolator_syntax.specs.Pieces.{Piece, PieceKind, pieces}
-use Rattle.interpolator_syntax.specs.Grammar.{from_place}
 use Rattle.interpolator_syntax.specs.Moved.{moved_at, moved_group, moved_piece_kind, moved_piece}
-use Rattle.interpolator_eval.specs.Slots.{Slots}
-use Rattle.interpolator_eval.specs.Meaning.Environments.{Environment}
+use Rattle.interpolator_syntax.specs.Nodes.{nodes, piece_node}
+use Rattle.interpolator_syntax.specs.{Groups.Group, Lists.ListRequest, Grammar.from_place}
 use Rattle.interpolator_eval.specs.Meaning.Meanings.{Meaning, items_after, items_mean, pieces_mean}
 use Rattle.interpolator_eval.specs.Meaning.Meanings.{chain, value_means, padded_list, listed_means}
 use Rattle.interpolator_eval.specs.Meaning.Meanings.{node_means, item_means, join_means, means}
 use Rattle.interpolator_eval.specs.Meaning.Moves.{moved_text, moved_meaning}
-use Rattle.interpolator_syntax.proofs.LongestLemmas.{at_same}
-use Rattle.interpolator_syntax.proofs.MovePieceLemmas.{pieces_move}
-use Rattle.interpolator_syntax.proofs.NodeLemmas.{by_length}
+use Rattle.interpolator_eval.specs.{Slots.Slots, Meaning.Environments.Environment}
 use Rattle.interpolator_syntax.proofs.SizeLemmas.{GroupIfIn, ListIn, PieceIn, PiecesIn, pieces_in}
-use Rattle.interpolator_syntax.specs.Nodes.{nodes, piece_node}
+use Rattle.interpolator_syntax.proofs.{LongestLemmas.at_same, MovePieceLemmas.pieces_move}
+use Rattle.interpolator_syntax.proofs.NodeLemmas.{by_length}
 use Rattle.interpolator_eval.proofs.MeaningLemmas.MeaningLemmas.{means_pieces}
 
 module _ (by : ℕ) where

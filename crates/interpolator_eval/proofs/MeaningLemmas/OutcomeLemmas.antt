@@ -1,14 +1,11 @@
 -- One outcome after another.
 use Rattle.std.proofs.Common.{arith, ◌≡◌, sym, ◌∙◌, ap, ◌+◌, List, ◌++◌, map, length, Option, None}
 use Rattle.std.proofs.Common.{Some, inl, inr, append_assoc, length-append, Contains}
-use Rattle.std.proofs.lemmas.Grind.{common_steps}
-use Rattle.std.proofs.lemmas.List.{map-append, length-map}
-use Rattle.std.proofs.Math.ListN.{get_or-map}
-use Rattle.std.proofs.lemmas.List.Elements.{Contains-append_right}
+use Rattle.std.proofs.{lemmas.Grind.common_steps, lemmas.List.map-append, lemmas.List.length-map}
+use Rattle.std.proofs.{Math.ListN.get_or-map, lemmas.List.Elements.Contains-append_right}
 use Rattle.interpolator_render.proofs.LayoutLemmas.{appends_both}
 use Rattle.interpolator_render.specs.Written.{Written}
-use Rattle.interpolator_syntax.specs.At.{Placed, text_of}
-use Rattle.interpolator_syntax.specs.Faults.{Fault, Answer}
+use Rattle.interpolator_syntax.specs.{At.Placed, At.text_of, Faults.Fault, Faults.Answer}
 use Rattle.interpolator_eval.specs.Meaning.Meanings.{Meaning, or_fault, chain}
 use Rattle.interpolator_eval.specs.Meaning.Outcomes.{Finished, Outcome}
 

@@ -1,28 +1,23 @@
 -- Every place of a meaning lies in the text.
 use Rattle.std.proofs.Common.{◌≡◌, ℕ, ◌+◌, ◌≤◌, List, [], ◌∷◌, ◌++◌, arith, Option, Some, None}
 use Rattle.std.proofs.Common.{option_map}
-use Rattle.std.specs.Char.{len_utf8}
-use Rattle.std.specs.Prelude.{⊤}
-use Rattle.interpolator_render.specs.declared.view.Trait.{Trait}
-use Rattle.interpolator_render.specs.declared.view.Spec.{Spec}
-use Rattle.interpolator_render.specs.Views.{Shown}
-use Rattle.interpolator_render.specs.Written.{Written}
+use Rattle.std.specs.{Char.len_utf8, Prelude.⊤}
+use Rattle.interpolator_render.specs.{declared.view.Trait.Trait, declared.view.Spec.Spec}
+use Rattle.interpolator_render.specs.{Views.Shown, Written.Written}
 use Rattle.interpolator_syntax.specs.At.{At, Placed, placed_at, placed_from, size}
 use Rattle.interpolator_syntax.specs.Faults.{Answer, fault, PlaceWithin}
 use Rattle.interpolator_syntax.specs.Nodes.{Node, node, Branch, no_branch, branch, Forest, no_nodes}
 use Rattle.interpolator_syntax.specs.Nodes.{nodes_and, Content, argument_content, Target}
-use Rattle.interpolator_syntax.specs.declared.piece_kind.PieceKind.{PieceKind}
-use Rattle.interpolator_syntax.specs.declared.range.Range.{Range}
+use Rattle.interpolator_syntax.specs.declared.{piece_kind.PieceKind.PieceKind, range.Range.Range}
 use Rattle.interpolator_syntax.proofs.TreePlaceLemmas.{ContentLies, NodeLies, BranchLies}
 use Rattle.interpolator_syntax.proofs.TreePlaceLemmas.{ForestLies, places_lie}
-use Rattle.interpolator_eval.specs.Slots.{Slots}
-use Rattle.interpolator_eval.specs.Meaning.Choices.{chosen_items}
 use Rattle.interpolator_eval.specs.Meaning.Environments.{Environment, bind}
 use Rattle.interpolator_eval.specs.Meaning.Meanings.{Meaning, chain, padded_list, value_means}
 use Rattle.interpolator_eval.specs.Meaning.Meanings.{items_after, items_mean, under_name}
 use Rattle.interpolator_eval.specs.Meaning.Meanings.{listed_means, target_means, content_means}
 use Rattle.interpolator_eval.specs.Meaning.Meanings.{node_means, join_branch_means}
 use Rattle.interpolator_eval.specs.Meaning.Meanings.{item_branch_means, forest_means, means}
+use Rattle.interpolator_eval.specs.{Slots.Slots, Meaning.Choices.chosen_items}
 use Rattle.interpolator_eval.specs.Meaning.Outcomes.{Outcome}
 
 -- ---- meanings whose places are among the first

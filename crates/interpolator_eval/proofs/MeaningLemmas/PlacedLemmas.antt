@@ -1,21 +1,19 @@
 -- What a writer leaves of a text whose characters have places.
 use Rattle.interpolator_render.proofs.LayoutLemmas.{appends_none}
-use Rattle.std.proofs.Common.{◌≡◌, refl, ◌∙◌, ℕ, ◌+◌, ◌<◌, List, [], ◌∷◌, ◌++◌, length, None}
-use Rattle.std.proofs.Common.{Some, inl, inr, arith, Err}
+use Rattle.std.proofs.Common.{◌≡◌, refl, ◌∙◌, ℕ, ◌+◌, ◌<◌, List, [], ◌∷◌, ◌++◌, length, None, Some}
+use Rattle.std.proofs.Common.{inl, inr, arith, Err}
 use Rattle.std.proofs.lemmas.List.{map-append}
 use Rattle.std.specs.Char.{len_utf8}
-use Rattle.interpolator_render.specs.declared.view.Trait.{Trait}
-use Rattle.interpolator_render.specs.declared.view.RenderFault.{RenderFault}
+use Rattle.interpolator_render.specs.declared.{view.Trait.Trait, view.RenderFault.RenderFault}
 use Rattle.interpolator_render.specs.declared.view.RenderFault.TheVariants as render_faults
 use Rattle.interpolator_render.specs.Texts.{ViewText, Renders}
-use Rattle.interpolator_render.specs.Written.{Written, Appends, AppendsBeginning, Refuses}
-use Rattle.interpolator_render.specs.Written.{GoesOver, byte_count, first_size}
+use Rattle.interpolator_render.specs.Written.{Written, Appends, AppendsBeginning, Refuses, GoesOver}
+use Rattle.interpolator_render.specs.Written.{byte_count, first_size}
 use Rattle.interpolator_syntax.specs.At.{Placed, text_of, placed_at, placed_from, size}
 use Rattle.interpolator_syntax.specs.Faults.{fault, fmt}
 use Rattle.interpolator_eval.specs.Meaning.Meanings.{text_alone, view_means}
 use Rattle.interpolator_eval.specs.Meaning.Outcomes.{Outcome}
-use Rattle.interpolator_syntax.proofs.LocalityLemmas.{size-append}
-use Rattle.interpolator_syntax.proofs.CharacterLemmas.{length-encodes}
+use Rattle.interpolator_syntax.proofs.{LocalityLemmas.size-append, CharacterLemmas.length-encodes}
 
 text_of-placed_at : (p : ℕ) (cs : List ℕ) → text_of (placed_at p cs) ≡ cs
 text_of-placed_at p [] = refl

@@ -1,30 +1,25 @@
 -- Item formats by which items are displayed plainly, and joins that are text.
-use Rattle.std.proofs.Common.{◌≡◌, ℕ, List, [], refl, arith, Option, None, Some, Ok, IfSome}
-use Rattle.std.proofs.Common.{◌+◌, inl, inr, option_map}
-use Rattle.interpolator_render.specs.declared.view.Spec.{Spec}
-use Rattle.interpolator_render.specs.declared.view.Trait.{Trait}
-use Rattle.interpolator_render.specs.declared.view.Trait.TheVariants.{Display}
-use Rattle.interpolator_render.specs.Views.{Shown}
-use Rattle.interpolator_syntax.specs.Arguments.{Argument, argument_at}
-use Rattle.interpolator_syntax.specs.At.{At, strip}
-use Rattle.interpolator_syntax.specs.Classes.{close_brace}
-use Rattle.interpolator_syntax.specs.Faults.{Fault}
+use Rattle.std.proofs.Common.{◌≡◌, ℕ, List, [], refl, arith, Option, None, Some, Ok, IfSome, ◌+◌}
+use Rattle.std.proofs.Common.{inl, inr, option_map}
+use Rattle.interpolator_render.specs.{declared.view.Spec.Spec, declared.view.Trait.Trait}
+use Rattle.interpolator_render.specs.{declared.view.Trait.TheVariants.Display, Views.Shown}
 use Rattle.interpolator_syntax.specs.Groups.{Group, group_of, inside}
+use Rattle.interpolator_syntax.specs.{Arguments.Argument, Arguments.argument_at, At.At, At.strip}
+use Rattle.interpolator_syntax.specs.{Classes.close_brace, Faults.Fault}
 use Rattle.interpolator_syntax.specs.declared.group.Group as code_group
 use Rattle.interpolator_syntax.specs.Nodes.{Forest, group_branch, no_nodes, nodes, token_node}
 use Rattle.interpolator_syntax.specs.Pieces.{argument_from}
 use Rattle.interpolator_syntax.specs.SpecTexts.{of_value, plain_spec}
 use Rattle.interpolator_syntax.specs.Tokens.{argument, first_token, literals}
-use Rattle.interpolator_eval.specs.Slots.{Slots}
 use Rattle.interpolator_eval.specs.Meaning.Environments.{Environment, bind}
 use Rattle.interpolator_eval.specs.Meaning.Meanings.{Meaning, chain, forest_means, nothing}
 use Rattle.interpolator_eval.specs.Meaning.Meanings.{plain_item_means}
-use Rattle.interpolator_eval.specs.Meaning.ScannedLists.{text_forest}
 use Rattle.interpolator_eval.specs.Meaning.Sources.{IsBare, IsBareFirst, IsFramed, IsPlainItem}
 use Rattle.interpolator_eval.specs.Meaning.Sources.{IsText, ListArgument, RunFirst, framed_means}
 use Rattle.interpolator_eval.specs.Meaning.Sources.{framed_pieces, list_item, list_item_work}
 use Rattle.interpolator_eval.specs.Meaning.Sources.{run_means, run_pieces}
 use Rattle.interpolator_eval.specs.Meaning.Work.{Work, forest_work, no_work, or_stop, piece_and}
+use Rattle.interpolator_eval.specs.{Slots.Slots, Meaning.ScannedLists.text_forest}
 use Rattle.interpolator_eval.specs.declared.evaluate.plain_item.PlainItem.{PlainItem}
 use Rattle.interpolator_eval.proofs.MeaningLemmas.MeaningLemmas.{joined_none, nothing_last}
 use Rattle.interpolator_eval.proofs.MeaningLemmas.ScanLemmas.{text_empty, text_next}

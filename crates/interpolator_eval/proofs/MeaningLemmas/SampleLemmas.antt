@@ -1,14 +1,11 @@
 -- What a name may stand for in a sample, and what those values lack.
 use Rattle.std.proofs.Common.{rules, ◌≡◌, ◌∙◌, refl, sym, arith, ℕ, zero, suc, ◌+◌, true, false}
 use Rattle.std.proofs.Common.{List, [], ◌∷◌, add-one, append-nil, flat_map}
-use Rattle.std.proofs.lemmas.Grind.{flat_map-append}
-use Rattle.std.proofs.Math.Path.{fun_ext}
+use Rattle.std.proofs.{lemmas.Grind.flat_map-append, Math.Path.fun_ext}
 use Rattle.std.proofs.lemmas.List.Concat.{flat_map-cons}
-use Rattle.interpolator_render.specs.Texts.{view_text}
-use Rattle.interpolator_render.specs.Views.{Shown}
-use Rattle.interpolator_render.specs.declared.view.Spec.{Spec}
-use Rattle.interpolator_render.specs.declared.view.Trait.{Trait}
 use Rattle.interpolator_render.specs.declared.view.Trait.TheVariants.{Debug, Display, Iter}
+use Rattle.interpolator_render.specs.{Texts.view_text, Views.Shown, declared.view.Spec.Spec}
+use Rattle.interpolator_render.specs.declared.view.Trait.{Trait}
 use Rattle.interpolator_eval.specs.Slots.{Slots}
 use Rattle.interpolator_eval.specs.Meaning.Samples.{is_missing, alone, items_or_none, items_of_all}
 use Rattle.interpolator_eval.specs.Meaning.Samples.{is_failed, is_failure, at_level}

@@ -2,29 +2,24 @@
 -- the outcome of an argument, from that of its value.
 use Rattle.std.proofs.Common.{◌≡◌, ◌≢◌, refl, arith, ℕ, true, false, [], Option, None, Some}
 use Rattle.std.proofs.Common.{option_map, Ok, Err}
-use Rattle.interpolator_render.specs.Written.{Written}
-use Rattle.interpolator_render.specs.declared.view.Trait.{Trait}
-use Rattle.interpolator_render.specs.declared.view.Spec.{Spec}
-use Rattle.interpolator_render.specs.Views.{Shown}
+use Rattle.interpolator_render.specs.{Written.Written, declared.view.Trait.Trait}
+use Rattle.interpolator_render.specs.{declared.view.Spec.Spec, Views.Shown}
 use Rattle.interpolator_syntax.specs.Arguments.{Argument, argument_at, argument_after, asked_at}
 use Rattle.interpolator_syntax.specs.Arguments.{named_argument, plain_argument}
-use Rattle.interpolator_syntax.specs.At.{At, at, strip}
-use Rattle.interpolator_syntax.specs.Classes.{close_brace}
-use Rattle.interpolator_syntax.specs.Faults.{Fault, Answer, fault}
-use Rattle.interpolator_syntax.specs.Lists.{ListRequest}
 use Rattle.interpolator_syntax.specs.Nodes.{Node, no_nodes, nodes_and, nodes, group_branch}
 use Rattle.interpolator_syntax.specs.Nodes.{piece_node, token_node}
-use Rattle.interpolator_syntax.specs.Pieces.{argument_from, argument_step}
-use Rattle.interpolator_syntax.specs.SpecTexts.{Request, of_value, of_list}
 use Rattle.interpolator_syntax.specs.Tokens.{Token, first_token, past_token, argument}
+use Rattle.interpolator_syntax.specs.{At.At, At.at, At.strip, Classes.close_brace, Faults.Fault}
+use Rattle.interpolator_syntax.specs.{Faults.Answer, Faults.fault, Lists.ListRequest}
+use Rattle.interpolator_syntax.specs.{Pieces.argument_from, Pieces.argument_step, SpecTexts.Request}
+use Rattle.interpolator_syntax.specs.{SpecTexts.of_value, SpecTexts.of_list}
 use Rattle.interpolator_syntax.specs.declared.argument.ArgumentName.{ArgumentName}
 use Rattle.interpolator_syntax.proofs.NodeLemmas.{nodes_first, nodes_none}
-use Rattle.interpolator_eval.specs.Meaning.Environments.{Environment}
 use Rattle.interpolator_eval.specs.Meaning.Meanings.{Meaning, argument_means}
-use Rattle.interpolator_eval.specs.Meaning.ScannedLists.{text_forest}
-use Rattle.interpolator_eval.specs.Meaning.Outcomes.{Outcome}
 use Rattle.interpolator_eval.specs.Meaning.Sources.{asks_list, unlisted_means, ListArgument}
 use Rattle.interpolator_eval.specs.Meaning.Sources.{FirstAsks, first_holds, with_brace}
+use Rattle.interpolator_eval.specs.Meaning.Environments.{Environment}
+use Rattle.interpolator_eval.specs.{Meaning.ScannedLists.text_forest, Meaning.Outcomes.Outcome}
 use Rattle.interpolator_eval.proofs.MeaningLemmas.SinkLemmas.{fault_first, nothing_done, ended}
 
 -- an argument whose name was read, by the request after it

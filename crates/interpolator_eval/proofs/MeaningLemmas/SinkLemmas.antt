@@ -1,16 +1,14 @@
 -- What is written to a sink, one after another.
 use Rattle.std.proofs.Common.{ap, length, length-append, rules, ◌≡◌, ℕ, [], ◌∷◌, Option, None, Some}
 use Rattle.std.proofs.Common.{option_map, false, inl, inr, arith, refl}
-use Rattle.interpolator_render.specs.declared.view.Spec.{Spec}
+use Rattle.interpolator_render.specs.{declared.view.Spec.Spec, Written.Written}
 use Rattle.interpolator_render.proofs.LayoutLemmas.{appends_none}
-use Rattle.interpolator_render.specs.Written.{Written}
 use Rattle.interpolator_syntax.specs.At.{text_of}
 use Rattle.interpolator_syntax.specs.Faults.{Fault, Answer, fault, no_memory}
 use Rattle.interpolator_eval.specs.Meaning.Meanings.{Meaning, nothing, fault_alone, buffered_means}
 use Rattle.interpolator_eval.specs.Meaning.Meanings.{chain, fault_wanting_memory}
-use Rattle.interpolator_eval.specs.Meaning.Outcomes.{Outcome}
 use Rattle.interpolator_eval.specs.Meaning.Sinks.{IsWriter, SameEnd, Writes, taken_by}
-use Rattle.interpolator_eval.specs.declared.evaluate.sink.Sink.{Sink}
+use Rattle.interpolator_eval.specs.{Meaning.Outcomes.Outcome, declared.evaluate.sink.Sink.Sink}
 use Rattle.interpolator_eval.proofs.MeaningLemmas.OutcomeLemmas.{finished_if_none, after_finished}
 use Rattle.interpolator_eval.proofs.MeaningLemmas.OutcomeLemmas.{before_fault}
 

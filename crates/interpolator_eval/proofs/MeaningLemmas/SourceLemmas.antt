@@ -2,21 +2,17 @@
 -- gone through, and how many there are.
 use Rattle.std.proofs.Common.{rules, ◌≡◌, ◌∙◌, refl, sym, arith, ℕ, suc, ◌+◌, ◌<◌, ◌≤◌, Option}
 use Rattle.std.proofs.Common.{None, Some, if◌then◌else◌}
-use Rattle.interpolator_render.specs.Written.{Written}
-use Rattle.interpolator_render.specs.declared.view.Trait.{Trait}
-use Rattle.interpolator_render.specs.declared.view.Spec.{Spec}
-use Rattle.interpolator_render.specs.Views.{Shown}
-use Rattle.interpolator_syntax.specs.Faults.{Answer}
+use Rattle.interpolator_render.specs.{Written.Written, declared.view.Trait.Trait}
+use Rattle.interpolator_render.specs.{declared.view.Spec.Spec, Views.Shown}
 use Rattle.interpolator_syntax.specs.Nodes.{Node, node, Branch, no_branch, branch, Forest, no_nodes}
 use Rattle.interpolator_syntax.specs.Nodes.{nodes_and, argument_content, target_list}
-use Rattle.interpolator_syntax.specs.declared.piece_kind.PieceKind.{PieceKind}
-use Rattle.interpolator_eval.specs.Meaning.Environments.{Environment}
+use Rattle.interpolator_syntax.specs.{Faults.Answer, declared.piece_kind.PieceKind.PieceKind}
 use Rattle.interpolator_eval.specs.Meaning.Meanings.{Meaning, chain, node_means, forest_means}
-use Rattle.interpolator_eval.specs.Meaning.Outcomes.{Outcome}
 use Rattle.interpolator_eval.specs.Meaning.Sinks.{SameEnd, Writes, taken_by}
 use Rattle.interpolator_eval.specs.Meaning.Sources.{ListArgument, FirstAsks, before_list, from_list}
 use Rattle.interpolator_eval.specs.Meaning.Sources.{has_brace, list_with_brace, list_work}
 use Rattle.interpolator_eval.specs.Meaning.Work.{or_stop, node_work, forest_work}
+use Rattle.interpolator_eval.specs.{Meaning.Environments.Environment, Meaning.Outcomes.Outcome}
 use Rattle.interpolator_eval.specs.declared.evaluate.sink.Sink.{Sink}
 use Rattle.interpolator_eval.proofs.MeaningLemmas.MeaningLemmas.{joined_assoc, joined_none}
 use Rattle.interpolator_eval.proofs.MeaningLemmas.SinkLemmas.{and_then, fault_first, nothing_done}

@@ -1,9 +1,7 @@
 -- The environment that the code's environment stands for.
-use Rattle.std.specs.Prelude.{ℕ, List, Option, None}
-use Rattle.std.specs.Option.{option_map}
+use Rattle.std.specs.{Prelude.ℕ, Prelude.List, Prelude.Option, Prelude.None, Option.option_map}
 use Rattle.interpolator_eval.specs.declared.evaluate.environment.Environment as code_environment
-use Rattle.interpolator_eval.specs.Slots.{Slots, slots_of}
-use Rattle.interpolator_eval.specs.Meaning.Environments.{Environment}
+use Rattle.interpolator_eval.specs.{Slots.Slots, Slots.slots_of, Meaning.Environments.Environment}
 
 -- the environment of s, if `finds` is what a context finds under a name
 abbrev pub environment_of : {C X : Type 0} → (C → List ℕ → Option (Slots X))

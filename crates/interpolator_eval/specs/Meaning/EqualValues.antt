@@ -1,12 +1,10 @@
 -- Values under names, compared by what they show and not by what they are, in two contexts whose
 -- values may be of different types.
 use Rattle.std.specs.Prelude.{◌≡◌, ℕ, ⊤, List, [], ◌∷◌, Option, None, Some}
-use Rattle.interpolator_render.specs.declared.view.Trait.{Trait}
-use Rattle.interpolator_render.specs.declared.view.Spec.{Spec}
-use Rattle.interpolator_render.specs.Texts.{view_text}
-use Rattle.interpolator_render.specs.Views.{Shown}
-use Rattle.interpolator_eval.specs.Slots.{Values, Slots, SlotsList, bare, listed, no_slots, slots_and}
-use Rattle.interpolator_eval.specs.Slots.{slot_at}
+use Rattle.interpolator_render.specs.{declared.view.Trait.Trait, declared.view.Spec.Spec}
+use Rattle.interpolator_render.specs.{Texts.view_text, Views.Shown}
+use Rattle.interpolator_eval.specs.Slots.{Values, Slots, SlotsList, bare, listed, no_slots}
+use Rattle.interpolator_eval.specs.Slots.{slots_and, slot_at}
 use Rattle.interpolator_eval.specs.Meaning.Environments.{Environment, slots_under}
 
 -- `shows` is what the values of the first context show, and `others` what those of the second do

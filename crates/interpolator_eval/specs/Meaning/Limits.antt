@@ -1,13 +1,11 @@
 -- Values within limits: how long a text that a value shows, and how many items a list may have.
 use Rattle.std.specs.Prelude.{ℕ, suc, ◌+◌, ◌-◌, ◌≤◌, min, ⊤, List, [], ◌∷◌, length, Option, None}
 use Rattle.std.specs.Prelude.{Some, ℤ, negsuc, Bool, if◌then◌else◌}
-use Rattle.interpolator_render.specs.declared.view.Trait.{Trait}
-use Rattle.interpolator_render.specs.declared.view.Spec.{Spec}
-use Rattle.interpolator_render.specs.Lengths.{IsShownWithin}
-use Rattle.interpolator_render.specs.Views.{Shown}
+use Rattle.interpolator_render.specs.{declared.view.Trait.Trait, declared.view.Spec.Spec}
+use Rattle.interpolator_render.specs.{Lengths.IsShownWithin, Views.Shown}
 use Rattle.interpolator_syntax.specs.declared.range.Range.{Range}
-use Rattle.interpolator_eval.specs.Slots.{Values, Slots, SlotsList, bare, listed, no_slots, slots_and}
-use Rattle.interpolator_eval.specs.Slots.{slot_at, slots_listed}
+use Rattle.interpolator_eval.specs.Slots.{Values, Slots, SlotsList, bare, listed, no_slots}
+use Rattle.interpolator_eval.specs.Slots.{slots_and, slot_at, slots_listed}
 use Rattle.interpolator_eval.specs.Meaning.Choices.{places_of}
 use Rattle.interpolator_eval.specs.Meaning.Environments.{Environment, slots_under}
 

@@ -1,17 +1,13 @@
 -- Lists: what is written for the list under a name, and a text that is made whole.
 use Rattle.std.specs.Prelude.{◌≡◌, ℕ, List, Option, Some, option_map}
-use Rattle.interpolator_render.specs.declared.view.Spec.{Spec}
-use Rattle.interpolator_syntax.specs.At.{text_of}
-use Rattle.interpolator_syntax.specs.declared.range.Range.{Range}
-use Rattle.interpolator_syntax.specs.declared.error.Error.{Error}
-use Rattle.interpolator_syntax.specs.Faults.{answer_of}
-use Rattle.interpolator_render.specs.Written.{Written}
+use Rattle.interpolator_render.specs.{declared.view.Spec.Spec, Written.Written}
+use Rattle.interpolator_syntax.specs.{At.text_of, declared.range.Range.Range}
+use Rattle.interpolator_syntax.specs.{declared.error.Error.Error, Faults.answer_of}
 use Rattle.interpolator_eval.specs.Slots.{Slots, items}
-use Rattle.interpolator_eval.specs.Meaning.Choices.{chosen_items}
 use Rattle.interpolator_eval.specs.Meaning.Environments.{Environment, slots_under}
 use Rattle.interpolator_eval.specs.Meaning.Meanings.{Meaning, buffered_means, under_name}
 use Rattle.interpolator_eval.specs.Meaning.Meanings.{listed_means, padded_list, items_mean}
-use Rattle.interpolator_eval.specs.Meaning.Outcomes.{Outcome}
+use Rattle.interpolator_eval.specs.{Meaning.Choices.chosen_items, Meaning.Outcomes.Outcome}
 
 -- what a list means whose text is made whole and padded, by what its items mean
 abbrev pub padded_list_means : Spec → (end : ℕ) → Meaning → Meaning

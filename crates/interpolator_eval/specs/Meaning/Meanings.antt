@@ -5,26 +5,19 @@ use Rattle.interpolator_render.specs.declared.view.Trait.{Trait}
 use Rattle.interpolator_render.specs.declared.view.Trait.TheVariants as traits
 use Rattle.interpolator_render.specs.declared.view.Sign.{Sign}
 use Rattle.interpolator_render.specs.declared.view.Sign.TheVariants as signs
-use Rattle.interpolator_render.specs.declared.view.Spec.{Spec}
-use Rattle.interpolator_render.specs.Padding.{padded_text}
-use Rattle.interpolator_render.specs.Views.{Shown}
 use Rattle.interpolator_render.specs.Texts.{ViewText, has_text, has_no_text, has_failed, view_text}
+use Rattle.interpolator_render.specs.{declared.view.Spec.Spec, Padding.padded_text, Views.Shown}
 use Rattle.interpolator_syntax.specs.At.{At, Placed, placed_at, placed_from, text_of}
-use Rattle.interpolator_syntax.specs.Arguments.{Argument}
 use Rattle.interpolator_syntax.specs.Faults.{Fault, missing_value, missing_trait_impl, fmt, parse}
 use Rattle.interpolator_syntax.specs.Faults.{expected, iter}
-use Rattle.interpolator_syntax.specs.Groups.{Group}
-use Rattle.interpolator_syntax.specs.Lists.{ListRequest}
 use Rattle.interpolator_syntax.specs.Nodes.{Node, node, Branch, no_branch, branch, as_forest}
 use Rattle.interpolator_syntax.specs.Nodes.{Forest, no_nodes, nodes_and, nodes, Content}
 use Rattle.interpolator_syntax.specs.Nodes.{text_content, argument_content, fault_content, Target}
 use Rattle.interpolator_syntax.specs.Nodes.{target_value, target_list, group_branch, argument_node}
-use Rattle.interpolator_syntax.specs.Pieces.{Piece}
-use Rattle.interpolator_syntax.specs.SpecTexts.{plain_spec}
-use Rattle.interpolator_syntax.specs.Splits.{node_alone}
-use Rattle.interpolator_syntax.specs.declared.piece_kind.PieceKind.{PieceKind}
 use Rattle.interpolator_syntax.specs.declared.piece_kind.PieceKind.TheVariants.{Closed, Unclosed}
-use Rattle.interpolator_syntax.specs.declared.range.Range.{Range}
+use Rattle.interpolator_syntax.specs.declared.{piece_kind.PieceKind.PieceKind, range.Range.Range}
+use Rattle.interpolator_syntax.specs.{Arguments.Argument, Groups.Group, Lists.ListRequest}
+use Rattle.interpolator_syntax.specs.{Pieces.Piece, SpecTexts.plain_spec, Splits.node_alone}
 use Rattle.interpolator_eval.specs.Slots.{Slots, values_of, items, slot_at}
 use Rattle.interpolator_eval.specs.Meaning.Choices.{chosen_items}
 use Rattle.interpolator_eval.specs.Meaning.Environments.{Environment, slots_under, bind}

@@ -1,7 +1,6 @@
 -- What a meaning is at another base: the same, with every place moved by `by` bytes.
 use Rattle.std.specs.Prelude.{ℕ, ◌+◌, map, option_map}
-use Rattle.interpolator_syntax.specs.At.{Placed}
-use Rattle.interpolator_syntax.specs.Moved.{moved_fault}
+use Rattle.interpolator_syntax.specs.{At.Placed, Moved.moved_fault}
 use Rattle.interpolator_eval.specs.Meaning.Meanings.{Meaning}
 
 module _ (by : ℕ) where

@@ -1,13 +1,11 @@
 -- The three outcomes of writing what a format means.
-use Rattle.std.specs.Prelude.{◌≡◌, ℕ, [], ◌∷◌, ◌++◌, length, Contains, Option, None, ⊤}
-use Rattle.std.specs.Prelude.{Some, option_map, true, ◌⊎◌, Result, MatchResult}
-use Rattle.std.specs.Prelude.{string_bytes, encode_utf8, ◌+◌}
-use Rattle.std.specs.Str.{chars}
-use Rattle.std.specs.declared.string.String.{String}
+use Rattle.std.specs.Prelude.{◌≡◌, ℕ, [], ◌∷◌, ◌++◌, length, Contains, Option, None, ⊤, Some}
+use Rattle.std.specs.Prelude.{option_map, true, ◌⊎◌, Result, MatchResult, string_bytes, encode_utf8}
+use Rattle.std.specs.Prelude.{◌+◌}
+use Rattle.std.specs.{Str.chars, declared.string.String.String}
 use Rattle.interpolator_render.specs.Written.{Written, Appends, GoesOver, byte_count}
-use Rattle.interpolator_syntax.specs.declared.error.Error.{Error}
-use Rattle.interpolator_syntax.specs.At.{Placed, text_of}
 use Rattle.interpolator_syntax.specs.Faults.{Answer, fault, no_memory, fmt, answer_of}
+use Rattle.interpolator_syntax.specs.{declared.error.Error.Error, At.Placed, At.text_of}
 use Rattle.interpolator_eval.specs.Meaning.Meanings.{Meaning}
 
 -- a meaning, what the writer had taken before and has after, and what was returned

@@ -1,12 +1,10 @@
 -- When a context resembles a sample: what is filled in the sample is filled in the context, what
 -- has a text there has one here, and what is a list there is one here.
 use Rattle.std.specs.Prelude.{ℕ, ⊤, ◌⊎◌, List, [], ◌∷◌, Option, None, Some, All}
-use Rattle.interpolator_render.specs.declared.view.Trait.{Trait}
-use Rattle.interpolator_render.specs.declared.view.Spec.{Spec}
-use Rattle.interpolator_render.specs.Texts.{ViewText, has_text, view_text}
-use Rattle.interpolator_render.specs.Views.{Shown}
-use Rattle.interpolator_eval.specs.Slots.{Values, Slots, SlotsList, bare, listed, no_slots, slots_and}
-use Rattle.interpolator_eval.specs.Slots.{values_of, items, slot_at}
+use Rattle.interpolator_render.specs.{declared.view.Trait.Trait, declared.view.Spec.Spec}
+use Rattle.interpolator_render.specs.{Texts.ViewText, Texts.has_text, Texts.view_text, Views.Shown}
+use Rattle.interpolator_eval.specs.Slots.{Values, Slots, SlotsList, bare, listed, no_slots}
+use Rattle.interpolator_eval.specs.Slots.{slots_and, values_of, items, slot_at}
 use Rattle.interpolator_eval.specs.Meaning.Environments.{Environment, slots_under}
 
 -- there is a text

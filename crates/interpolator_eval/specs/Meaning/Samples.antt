@@ -1,21 +1,19 @@
 -- What a name may stand for in a sample, which is an example of the contexts that a format will be
 -- written with; and what those values lack.
-use Rattle.std.specs.Prelude.{ℕ, zero, suc, Bool, true, false, ◌||◌, is_some, not, Option, Some, None}
-use Rattle.std.specs.Prelude.{List, [], ◌∷◌, map, flat_map, option_map, unwrap_or}
+use Rattle.std.specs.Prelude.{ℕ, zero, suc, Bool, true, false, ◌||◌, is_some, not, Option, Some}
+use Rattle.std.specs.Prelude.{None, List, [], ◌∷◌, map, flat_map, option_map, unwrap_or}
 use Rattle.std.specs.List.{list_any}
-use Rattle.interpolator_render.specs.declared.view.Trait.{Trait}
 use Rattle.interpolator_render.specs.declared.view.Trait.TheVariants.{Debug, Display, Iter}
 use Rattle.interpolator_render.specs.declared.view.Trait.TheVariants.{LowerExp, UpperExp}
-use Rattle.interpolator_render.specs.declared.view.Spec.{Spec}
 use Rattle.interpolator_render.specs.Texts.{ViewText, has_no_text, has_failed, view_text}
 use Rattle.interpolator_render.specs.Views.{Shown, signed_number, unsigned_number, truth_value}
-use Rattle.interpolator_render.specs.Views.{decimal_number, float_number, one_character, some_text, plain_text}
-use Rattle.interpolator_render.specs.Views.{nothing_implemented, failure}
+use Rattle.interpolator_render.specs.Views.{decimal_number, float_number, one_character, some_text}
+use Rattle.interpolator_render.specs.Views.{plain_text, nothing_implemented, failure}
+use Rattle.interpolator_render.specs.{declared.view.Trait.Trait, declared.view.Spec.Spec}
 use Rattle.interpolator_eval.specs.Slots.{Slots, slots_of, values_of, items, slot_at}
-use Rattle.interpolator_eval.specs.declared.evaluate.sample.Candidates.{Candidates}
 use Rattle.interpolator_eval.specs.declared.evaluate.sample.Candidates.TheVariants.{One, Each}
-use Rattle.interpolator_eval.specs.declared.evaluate.sample.Items.{Items}
-use Rattle.interpolator_eval.specs.declared.evaluate.need.Need.{Need}
+use Rattle.interpolator_eval.specs.declared.evaluate.sample.Candidates.{Candidates}
+use Rattle.interpolator_eval.specs.declared.{evaluate.sample.Items.Items, evaluate.need.Need.Need}
 use Rattle.interpolator_eval.specs.declared.evaluate.need.Need.TheVariants as needs
 use Rattle.interpolator_eval.specs.declared.evaluate.sample.SampleEnvironment.{SampleEnvironment}
 

@@ -2,12 +2,10 @@
 use Rattle.std.specs.Prelude.{◌≡◌, ℕ, ◌+◌, List, ◌++◌, true, false, Option, None, Some, option_map}
 use Rattle.std.specs.Str.{chars}
 use Rattle.interpolator_syntax.specs.At.{At, at, size, strip}
-use Rattle.interpolator_syntax.specs.Arguments.{list_of}
-use Rattle.interpolator_syntax.specs.Classes.{close_brace}
-use Rattle.interpolator_syntax.specs.Nodes.{Forest, no_nodes, nodes_and, as_forest, nodes, group_branch, token_node}
-use Rattle.interpolator_syntax.specs.Pieces.{argument_from}
-use Rattle.interpolator_syntax.specs.Tokens.{argument}
-use Rattle.interpolator_syntax.specs.declared.cursor.Cursor.{Cursor}
+use Rattle.interpolator_syntax.specs.Nodes.{Forest, no_nodes, nodes_and, as_forest, nodes}
+use Rattle.interpolator_syntax.specs.Nodes.{group_branch, token_node}
+use Rattle.interpolator_syntax.specs.{Arguments.list_of, Classes.close_brace, Pieces.argument_from}
+use Rattle.interpolator_syntax.specs.{Tokens.argument, declared.cursor.Cursor.Cursor}
 use Rattle.interpolator_eval.specs.Meaning.Sources.{ListArgument, FirstAsks, asks_list, from_list}
 use Rattle.interpolator_eval.specs.declared.evaluate.scan.ScannedList.{ScannedList}
 

@@ -1,15 +1,13 @@
 -- What is written to a sink: a writer, or a buffer in its place.
 use Rattle.std.specs.Prelude.{◌≡◌, ◌⊎◌, ℕ, ◌-◌, ◌^◌, Option, None, Some, Result, Ok, Err}
-use Rattle.interpolator_render.specs.Written.{Written}
-use Rattle.interpolator_render.specs.Bounds.{bounded_writer, bytes_left}
+use Rattle.interpolator_render.specs.{Written.Written, Bounds.bounded_writer, Bounds.bytes_left}
 use Rattle.interpolator_syntax.specs.Faults.{Answer, fault, missing_trait_impl, fmt}
-use Rattle.interpolator_eval.specs.Meaning.Meanings.{Meaning}
-use Rattle.interpolator_eval.specs.Meaning.Outcomes.{Outcome}
-use Rattle.interpolator_eval.specs.declared.evaluate.sink.Sink.{Sink}
 use Rattle.interpolator_eval.specs.declared.evaluate.sink.Sink.TheVariants.{Writer, Buffer}
-use Rattle.interpolator_eval.specs.declared.evaluate.sink.WriteFault.{WriteFault}
 use Rattle.interpolator_eval.specs.declared.evaluate.sink.WriteFault.TheVariants.{MissingTraitImpl}
 use Rattle.interpolator_eval.specs.declared.evaluate.sink.WriteFault.TheVariants.{Fmt}
+use Rattle.interpolator_eval.specs.{Meaning.Meanings.Meaning, Meaning.Outcomes.Outcome}
+use Rattle.interpolator_eval.specs.declared.evaluate.sink.Sink.{Sink}
+use Rattle.interpolator_eval.specs.declared.evaluate.sink.WriteFault.{WriteFault}
 
 -- what the end of a sink has taken; `written` is what a writer has taken
 abbrev pub taken_by : {W : Type 0} → (W → Written) → Sink W → Written

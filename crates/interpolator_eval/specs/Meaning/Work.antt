@@ -1,22 +1,18 @@
 -- The work of writing a format, up to the first fault: how many pieces are gone through, and how
 -- many characters lists under a width have in buffers at one time.
 use Rattle.std.specs.Prelude.{ℕ, ◌+◌, max, length, List, [], ◌∷◌, Option, None, Some, if◌then◌else◌}
-use Rattle.interpolator_render.specs.declared.view.Spec.{Spec}
-use Rattle.interpolator_render.specs.declared.view.Trait.{Trait}
+use Rattle.interpolator_render.specs.{declared.view.Spec.Spec, declared.view.Trait.Trait}
 use Rattle.interpolator_render.specs.Views.{Shown}
-use Rattle.interpolator_syntax.specs.At.{At}
-use Rattle.interpolator_syntax.specs.Faults.{Fault}
-use Rattle.interpolator_syntax.specs.Nodes.{Node, node, Branch, no_branch, branch}
-use Rattle.interpolator_syntax.specs.Nodes.{Forest, no_nodes, nodes_and, as_forest, nodes}
-use Rattle.interpolator_syntax.specs.Nodes.{Content, text_content, argument_content, fault_content}
-use Rattle.interpolator_syntax.specs.Nodes.{Target, target_value, target_list}
-use Rattle.interpolator_syntax.specs.declared.range.Range.{Range}
-use Rattle.interpolator_eval.specs.Slots.{Slots, items}
-use Rattle.interpolator_eval.specs.Meaning.Choices.{chosen_items}
+use Rattle.interpolator_syntax.specs.Nodes.{Node, node, Branch, no_branch, branch, Forest, no_nodes}
+use Rattle.interpolator_syntax.specs.Nodes.{nodes_and, as_forest, nodes, Content, text_content}
+use Rattle.interpolator_syntax.specs.Nodes.{argument_content, fault_content, Target, target_value}
+use Rattle.interpolator_syntax.specs.Nodes.{target_list}
+use Rattle.interpolator_syntax.specs.{At.At, Faults.Fault, declared.range.Range.Range}
 use Rattle.interpolator_eval.specs.Meaning.Environments.{Environment, slots_under, bind}
 use Rattle.interpolator_eval.specs.Meaning.Meanings.{Meaning, forbids_list, items_mean}
 use Rattle.interpolator_eval.specs.Meaning.Meanings.{join_branch_means, item_branch_means}
 use Rattle.interpolator_eval.specs.Meaning.Meanings.{node_means}
+use Rattle.interpolator_eval.specs.{Slots.Slots, Slots.items, Meaning.Choices.chosen_items}
 
 -- how many pieces are gone through, and the most characters that are held at one time
 pub record Work : Type 0 where

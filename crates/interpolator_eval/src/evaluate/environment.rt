@@ -1,8 +1,7 @@
 //! Looks up names while a format is written.
 ghost use Rattle.std.specs.Prelude.{◌≡◌, ◌⊎◌, ⊤, Some, MatchOption, option_map};
-ghost use Rattle.std.specs.Str.{chars};
+ghost use Rattle.std.specs.{Str.chars, Option.option_copied};
 ghost use Rattle.interpolator_syntax.specs.Faults.{answer_of, fault, missing_value, no_memory};
-ghost use Rattle.std.specs.Option.{option_copied};
 ghost use Rattle.interpolator_eval.specs.Slots.{slots_of, slot_at, values_of, items, lent_slots};
 ghost use Rattle.interpolator_eval.specs.Meaning.Environments.{environment, bind, slots_under};
 ghost use Rattle.interpolator_eval.specs.Meaning.CodeEnvironments.{environment_of};

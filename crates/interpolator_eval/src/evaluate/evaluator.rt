@@ -1,15 +1,12 @@
 //! Writes what a format means, up to the first fault. Callers come before what they call.
 ghost use Rattle.std.specs.Prelude.{◌≡◌, ◌+◌, ◌-◌, ◌<◌, ◌≤◌, IfOk, None, Some, map};
 ghost use Rattle.interpolator_syntax.specs.Faults.{result_answer};
-ghost use Rattle.interpolator_eval.specs.Escaping.{shows_by};
-ghost use Rattle.interpolator_eval.specs.Meaning.CodeEnvironments.{environment_of};
-ghost use Rattle.interpolator_eval.specs.Meaning.Lists.{padded_list_means};
-ghost use Rattle.interpolator_eval.specs.Meaning.Meanings.{forest_means};
-ghost use Rattle.interpolator_eval.specs.Meaning.Sinks.{Writes};
 ghost use Rattle.interpolator_eval.specs.Meaning.Sources.{list_with_brace, list_items};
 ghost use Rattle.interpolator_eval.specs.Meaning.Sources.{list_items_work, list_meaning, list_work};
-ghost use Rattle.interpolator_eval.specs.Meaning.Work.{forest_work};
-ghost use Rattle.interpolator_eval.specs.Slots.{slots_of};
+ghost use Rattle.interpolator_eval.specs.Meaning.CodeEnvironments.{environment_of};
+ghost use Rattle.interpolator_eval.specs.Meaning.{Lists.padded_list_means, Meanings.forest_means};
+ghost use Rattle.interpolator_eval.specs.Meaning.{Sinks.Writes, Work.forest_work};
+ghost use Rattle.interpolator_eval.specs.{Escaping.shows_by, Slots.slots_of};
 
 use crate::context::Context;
 use crate::escaper::Escaper;

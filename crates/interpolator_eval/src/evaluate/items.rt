@@ -1,17 +1,13 @@
 //! Writes the items of a list and what comes between them. Callers come before what they call.
 ghost use Rattle.std.specs.Prelude.{◌≡◌, ◌+◌, ◌-◌, ◌<◌, ◌≤◌, ◌⊎◌, IfOk, IfSome, None, Some, map};
 ghost use Rattle.std.specs.Prelude.{true};
-ghost use Rattle.interpolator_syntax.specs.Faults.{result_answer};
-ghost use Rattle.interpolator_syntax.specs.Groups.{group_of};
-ghost use Rattle.interpolator_syntax.specs.Nodes.{no_nodes};
-ghost use Rattle.interpolator_eval.specs.Escaping.{shows_by};
-ghost use Rattle.interpolator_eval.specs.Meaning.CodeEnvironments.{environment_of};
-ghost use Rattle.interpolator_eval.specs.Meaning.Sinks.{Writes};
+ghost use Rattle.interpolator_syntax.specs.{Faults.result_answer, Groups.group_of, Nodes.no_nodes};
 ghost use Rattle.interpolator_eval.specs.Meaning.Sources.{IsPlainItem, IsText, empty_counts};
 ghost use Rattle.interpolator_eval.specs.Meaning.Sources.{first_holds, list_item, list_item_work};
 ghost use Rattle.interpolator_eval.specs.Meaning.Sources.{list_items, list_items_work, list_join};
 ghost use Rattle.interpolator_eval.specs.Meaning.Sources.{list_join_work};
-ghost use Rattle.interpolator_eval.specs.Slots.{slots_of};
+ghost use Rattle.interpolator_eval.specs.Meaning.{CodeEnvironments.environment_of, Sinks.Writes};
+ghost use Rattle.interpolator_eval.specs.{Escaping.shows_by, Slots.slots_of};
 
 use crate::context::Context;
 use crate::escaper::Escaper;

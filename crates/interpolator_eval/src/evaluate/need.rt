@@ -1,7 +1,6 @@
 //! What an argument needs of a value, and which values lack it.
 ghost use Rattle.std.specs.Prelude.{◌≡◌, ◌<◌, map, flat_map, Some};
-ghost use Rattle.std.specs.List.{list_any};
-ghost use Rattle.std.specs.Option.{option_copied};
+ghost use Rattle.std.specs.{List.list_any, Option.option_copied};
 ghost use Rattle.interpolator_render.specs.Views.{shown_by};
 ghost use Rattle.interpolator_render.specs.declared.view.Trait.TheVariants.{Display};
 ghost use Rattle.interpolator_eval.specs.Slots.{slots_of};

@@ -1,14 +1,12 @@
 //! Items of a list that are displayed plainly, with a text before each and one after it.
 ghost use Rattle.std.specs.Prelude.{◌≡◌, ◌+◌, ◌≤◌, IfOk, None, option_map};
 ghost use Rattle.interpolator_render.specs.Bounds.{bounded_writer};
-ghost use Rattle.interpolator_syntax.specs.Faults.{result_answer};
-ghost use Rattle.interpolator_syntax.specs.Groups.{group_of};
-ghost use Rattle.interpolator_eval.specs.Escaping.{shows_by};
+ghost use Rattle.interpolator_syntax.specs.{Faults.result_answer, Groups.group_of};
 ghost use Rattle.interpolator_eval.specs.Meaning.Meanings.{chain, plain_item_means};
 ghost use Rattle.interpolator_eval.specs.Meaning.Sinks.{Writes, write_answered};
-ghost use Rattle.interpolator_eval.specs.Meaning.Outcomes.{Outcome};
-ghost use Rattle.interpolator_eval.specs.Meaning.Sources.{framed_means};
-ghost use Rattle.interpolator_eval.specs.Meaning.Sources.{framed_pieces, run_means, run_pieces};
+ghost use Rattle.interpolator_eval.specs.Meaning.Sources.{framed_means, framed_pieces, run_means};
+ghost use Rattle.interpolator_eval.specs.Meaning.Sources.{run_pieces};
+ghost use Rattle.interpolator_eval.specs.{Escaping.shows_by, Meaning.Outcomes.Outcome};
 ghost use Rattle.interpolator_eval.specs.Slots.{slots_of};
 
 use crate::escaper::Escaper;

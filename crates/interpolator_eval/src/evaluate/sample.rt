@@ -1,8 +1,7 @@
 //! What the names of a format may stand for in a sample, and what those values lack.
-ghost use Rattle.std.specs.Prelude.{◌≡◌, ◌+◌, ◌≤◌, ◌<◌, ◌^◌, ◌⊎◌, ⊤, [], option_map};
-ghost use Rattle.std.specs.Prelude.{Some, MatchOption, IfSome, unwrap_or};
-ghost use Rattle.std.specs.List.{list_any};
-ghost use Rattle.std.specs.Str.{chars};
+ghost use Rattle.std.specs.Prelude.{◌≡◌, ◌+◌, ◌≤◌, ◌<◌, ◌^◌, ◌⊎◌, ⊤, [], option_map, Some};
+ghost use Rattle.std.specs.Prelude.{MatchOption, IfSome, unwrap_or};
+ghost use Rattle.std.specs.{List.list_any, Str.chars};
 ghost use Rattle.interpolator_syntax.specs.Faults.{answer_of, fault, missing_value, no_memory};
 ghost use Rattle.interpolator_eval.specs.Slots.{lent_slots};
 ghost use Rattle.interpolator_eval.specs.Meaning.Samples.{sample, sample_of, bind_each, level_in};

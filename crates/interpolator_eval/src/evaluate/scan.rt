@@ -1,17 +1,14 @@
 //! A text as a source: it is written while it is read. Callers come before what they call.
 ghost use Rattle.std.specs.Prelude.{◌≡◌, ◌+◌, ◌<◌, ◌≤◌, ⊤, IfOk, None, Some};
 ghost use Rattle.interpolator_render.specs.Bounds.{bounded_writer};
-ghost use Rattle.interpolator_syntax.specs.At.{at, strip};
-ghost use Rattle.interpolator_syntax.specs.Faults.{result_answer};
-ghost use Rattle.interpolator_eval.specs.Escaping.{shows_by};
-ghost use Rattle.interpolator_eval.specs.Meaning.CodeEnvironments.{environment_of};
-ghost use Rattle.interpolator_eval.specs.Meaning.Meanings.{forest_means};
+ghost use Rattle.interpolator_syntax.specs.{At.at, At.strip, Faults.result_answer};
 ghost use Rattle.interpolator_eval.specs.Meaning.ScannedLists.{ListPlace, scanned_list};
 ghost use Rattle.interpolator_eval.specs.Meaning.ScannedLists.{scanned_rest, text_forest};
-ghost use Rattle.interpolator_eval.specs.Meaning.Outcomes.{Outcome};
-ghost use Rattle.interpolator_eval.specs.Meaning.Sinks.{Writes};
 ghost use Rattle.interpolator_eval.specs.Meaning.Sources.{Met, before_list, from_list, met_pieces};
-ghost use Rattle.interpolator_eval.specs.Meaning.Work.{forest_work};
+ghost use Rattle.interpolator_eval.specs.Escaping.{shows_by};
+ghost use Rattle.interpolator_eval.specs.Meaning.CodeEnvironments.{environment_of};
+ghost use Rattle.interpolator_eval.specs.{Meaning.Meanings.forest_means, Meaning.Outcomes.Outcome};
+ghost use Rattle.interpolator_eval.specs.{Meaning.Sinks.Writes, Meaning.Work.forest_work};
 
 use crate::context::Context;
 use crate::escaper::Escaper;

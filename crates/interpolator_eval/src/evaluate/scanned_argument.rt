@@ -1,19 +1,16 @@
 //! An argument that the scan meets: its value is written, and a list is handed back.
 ghost use Rattle.std.specs.Prelude.{◌≡◌, ◌≢◌, ◌<◌, ℕ, IfOk, None, Some};
 ghost use Rattle.interpolator_render.specs.declared.view.Trait.TheVariants.{Iter};
-ghost use Rattle.interpolator_syntax.specs.At.{at, strip};
-ghost use Rattle.interpolator_syntax.specs.Classes.{close_brace};
-ghost use Rattle.interpolator_syntax.specs.Arguments.{argument_at, argument_after};
-ghost use Rattle.interpolator_syntax.specs.Arguments.{plain_argument, named_argument, request_of};
-ghost use Rattle.interpolator_syntax.specs.Faults.{result_answer};
-ghost use Rattle.interpolator_syntax.specs.Nodes.{nodes, token_node};
+ghost use Rattle.interpolator_syntax.specs.Arguments.{argument_at, argument_after, plain_argument};
+ghost use Rattle.interpolator_syntax.specs.Arguments.{named_argument, request_of};
+ghost use Rattle.interpolator_syntax.specs.{At.at, At.strip, Classes.close_brace};
+ghost use Rattle.interpolator_syntax.specs.{Faults.result_answer, Nodes.nodes, Nodes.token_node};
 ghost use Rattle.interpolator_syntax.specs.Tokens.{argument as argument_token};
-ghost use Rattle.interpolator_eval.specs.Escaping.{shows_by};
+ghost use Rattle.interpolator_eval.specs.Meaning.Sources.{unlisted_means, with_brace};
 ghost use Rattle.interpolator_eval.specs.Meaning.CodeEnvironments.{environment_of};
 ghost use Rattle.interpolator_eval.specs.Meaning.Meanings.{argument_means};
-ghost use Rattle.interpolator_eval.specs.Meaning.ScannedLists.{ArgumentTold};
-ghost use Rattle.interpolator_eval.specs.Meaning.Outcomes.{Outcome};
-ghost use Rattle.interpolator_eval.specs.Meaning.Sources.{unlisted_means, with_brace};
+ghost use Rattle.interpolator_eval.specs.Meaning.{ScannedLists.ArgumentTold, Outcomes.Outcome};
+ghost use Rattle.interpolator_eval.specs.Escaping.{shows_by};
 
 use crate::context::Context;
 use crate::escaper::Escaper;

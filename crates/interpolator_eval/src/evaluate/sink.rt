@@ -1,22 +1,18 @@
 //! Where text goes: to the writer, or into a buffer.
 ghost use Rattle.std.specs.Prelude.{◌≡◌, ◌≢◌, ◌+◌, ◌^◌, ◌<◌, Err, MatchBool, Some, length, [], ◌∷◌};
-ghost use Rattle.std.specs.Str.{chars};
-ghost use Rattle.std.specs.Option.{option_copied};
+ghost use Rattle.std.specs.{Str.chars, Option.option_copied};
 ghost use Rattle.interpolator_render.specs.Views.{IsInRange, shown_by, some_text};
-ghost use Rattle.interpolator_render.specs.declared.view.Trait.TheVariants.{Display};
-ghost use Rattle.interpolator_render.specs.Padding.{padded_text};
 ghost use Rattle.interpolator_render.specs.Texts.{Renders, ViewText, view_text};
-ghost use Rattle.interpolator_render.specs.Written.{Written};
-ghost use Rattle.interpolator_syntax.specs.At.{placed_at, placed_from};
-ghost use Rattle.interpolator_syntax.specs.Faults.{answer_of};
-ghost use Rattle.interpolator_syntax.specs.SpecTexts.{plain_spec};
-ghost use Rattle.interpolator_eval.specs.Escaping.{shows_by};
-ghost use Rattle.interpolator_eval.specs.Meaning.Meanings.{text_alone, view_means, value_means};
-ghost use Rattle.interpolator_eval.specs.Meaning.Outcomes.{Outcome};
-ghost use Rattle.interpolator_eval.specs.Meaning.Sinks.{HasRoom, IsWriter, Writes, write_answered};
-ghost use Rattle.interpolator_eval.specs.declared.evaluate.sink.Sink.TheVariants.{Writer};
-ghost use Rattle.interpolator_eval.specs.Meaning.Sinks.{write_fault_answer};
+ghost use Rattle.interpolator_render.specs.declared.view.Trait.TheVariants.{Display};
+ghost use Rattle.interpolator_render.specs.{Padding.padded_text, Written.Written};
 ghost use Rattle.interpolator_render.specs.declared.view.RenderFault.TheVariants.{NotImplemented};
+ghost use Rattle.interpolator_syntax.specs.At.{placed_at, placed_from};
+ghost use Rattle.interpolator_syntax.specs.{Faults.answer_of, SpecTexts.plain_spec};
+ghost use Rattle.interpolator_eval.specs.Meaning.Meanings.{text_alone, view_means, value_means};
+ghost use Rattle.interpolator_eval.specs.Meaning.Sinks.{HasRoom, IsWriter, Writes, write_answered};
+ghost use Rattle.interpolator_eval.specs.Meaning.Sinks.{write_fault_answer};
+ghost use Rattle.interpolator_eval.specs.{Escaping.shows_by, Meaning.Outcomes.Outcome};
+ghost use Rattle.interpolator_eval.specs.declared.evaluate.sink.Sink.TheVariants.{Writer};
 
 use crate::escaper::Escaper;
 use interpolator_render::{Bounded, RenderFault, Spec, TextWrite, Trait, Value, View, pad};

@@ -1,19 +1,16 @@
 //! Sources of a format: a text, or pieces that were read before.
 ghost use Rattle.std.specs.Prelude.{◌≡◌, ◌+◌, ◌≤◌, Option, IfOk, IfSome, MatchBool, MatchResult};
 ghost use Rattle.std.specs.Prelude.{false, is_some, map, option_map, true};
-ghost use Rattle.interpolator_syntax.specs.Faults.{result_answer};
-ghost use Rattle.interpolator_syntax.specs.Groups.{group_of};
 ghost use Rattle.interpolator_syntax.specs.Nodes.{Forest, no_nodes};
-ghost use Rattle.interpolator_eval.specs.Escaping.{shows_by};
-ghost use Rattle.interpolator_eval.specs.Slots.{slots_of};
-ghost use Rattle.interpolator_eval.specs.Meaning.CodeEnvironments.{environment_of};
+ghost use Rattle.interpolator_syntax.specs.{Faults.result_answer, Groups.group_of};
 ghost use Rattle.interpolator_eval.specs.Meaning.Lists.{IsChosen, IsNotChosen, ChosenUnder};
 ghost use Rattle.interpolator_eval.specs.Meaning.Meanings.{forbids_list, forest_means};
-ghost use Rattle.interpolator_eval.specs.Meaning.Sinks.{Writes};
 ghost use Rattle.interpolator_eval.specs.Meaning.Sources.{ListArgument, Met, before_list};
 ghost use Rattle.interpolator_eval.specs.Meaning.Sources.{from_list, IsPlainItem, IsText};
 ghost use Rattle.interpolator_eval.specs.Meaning.Sources.{branch_of, first_holds, met_pieces};
-ghost use Rattle.interpolator_eval.specs.Meaning.Work.{forest_work};
+ghost use Rattle.interpolator_eval.specs.{Escaping.shows_by, Slots.slots_of};
+ghost use Rattle.interpolator_eval.specs.Meaning.CodeEnvironments.{environment_of};
+ghost use Rattle.interpolator_eval.specs.{Meaning.Sinks.Writes, Meaning.Work.forest_work};
 
 use crate::context::Context;
 use crate::escaper::Escaper;

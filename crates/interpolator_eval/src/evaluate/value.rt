@@ -1,20 +1,17 @@
 //! The value and the list under a name, for formats as texts and for formats that were parsed.
 ghost use Rattle.std.specs.Prelude.{◌≡◌, ◌⊎◌, [], IfOk, MatchResult, Some, false, map};
-ghost use Rattle.std.specs.Str.{chars};
-ghost use Rattle.std.specs.Option.{option_copied};
-ghost use Rattle.interpolator_render.specs.Bounds.{bounded_writer};
-ghost use Rattle.interpolator_render.specs.Written.{plain};
+ghost use Rattle.std.specs.{Str.chars, Option.option_copied};
+ghost use Rattle.interpolator_render.specs.{Bounds.bounded_writer, Written.plain};
 ghost use Rattle.interpolator_render.specs.declared.view.Trait.TheVariants.{Display};
 ghost use Rattle.interpolator_syntax.specs.Faults.{result_answer, fault, missing_value, no_memory};
 ghost use Rattle.interpolator_syntax.specs.SpecTexts.{plain_spec};
-ghost use Rattle.interpolator_eval.specs.Escaping.{shows_by};
-ghost use Rattle.interpolator_eval.specs.Meaning.Environments.{slots_under};
 ghost use Rattle.interpolator_eval.specs.Meaning.Lists.{IsChosen, IsNotChosen, ChosenUnder};
 ghost use Rattle.interpolator_eval.specs.Meaning.Meanings.{under_name, value_means, forbids_list};
-ghost use Rattle.interpolator_eval.specs.Meaning.CodeEnvironments.{environment_of};
-ghost use Rattle.interpolator_eval.specs.Meaning.Outcomes.{Outcome};
 ghost use Rattle.interpolator_eval.specs.Meaning.Sinks.{HasRoom, Writes};
 ghost use Rattle.interpolator_eval.specs.Slots.{slots_of, slot_at, values_of};
+ghost use Rattle.interpolator_eval.specs.{Escaping.shows_by, Meaning.Environments.slots_under};
+ghost use Rattle.interpolator_eval.specs.Meaning.CodeEnvironments.{environment_of};
+ghost use Rattle.interpolator_eval.specs.Meaning.Outcomes.{Outcome};
 
 use crate::context::Context;
 use crate::escaper::Escaper;

@@ -1,25 +1,23 @@
 //! Laws of what a text and a list mean, each the contract of a small function.
 
-ghost use Rattle.std.specs.Prelude.{◌≡◌, ℕ, List, [], ◌∷◌, None, Some, false, if◌then◌else◌};
-ghost use Rattle.std.specs.Prelude.{◌++◌, codes, length, max, replicate, unwrap_or};
+ghost use Rattle.std.specs.Prelude.{◌≡◌, ℕ, List, [], ◌∷◌, None, Some, false, if◌then◌else◌, ◌++◌};
+ghost use Rattle.std.specs.Prelude.{codes, length, max, replicate, unwrap_or};
 ghost use Rattle.interpolator_render.specs.Padding.{fill_of, padded_text};
 ghost use Rattle.interpolator_syntax.specs.At.{At, outermost, placed_at, text_of};
-ghost use Rattle.interpolator_syntax.specs.Arguments.{Argument};
-ghost use Rattle.interpolator_syntax.specs.Lists.{ListRequest};
 ghost use Rattle.interpolator_syntax.specs.Faults.{Fault, expected, iter, parse};
-ghost use Rattle.interpolator_syntax.specs.Grammar.{from_place};
 ghost use Rattle.interpolator_syntax.specs.Groups.{Group, inside};
-ghost use Rattle.interpolator_syntax.specs.Moved.{moved_at};
 ghost use Rattle.interpolator_syntax.specs.Pieces.{Piece, closed, pieces, unclosed};
-ghost use Rattle.interpolator_eval.specs.Slots.{Slots};
-ghost use Rattle.interpolator_eval.specs.Meaning.Choices.{chosen_items};
+ghost use Rattle.interpolator_syntax.specs.{Arguments.Argument, Lists.ListRequest};
+ghost use Rattle.interpolator_syntax.specs.{Grammar.from_place, Moved.moved_at};
 ghost use Rattle.interpolator_eval.specs.Meaning.Environments.{Environment, bind};
-ghost use Rattle.interpolator_eval.specs.Meaning.ListArguments.{FindsList, argument_meaning, items_alone};
-ghost use Rattle.interpolator_eval.specs.Meaning.ListArguments.{join_of, item_of, AllFinish};
-ghost use Rattle.interpolator_eval.specs.Meaning.ListArguments.{joined_texts, FirstFault};
+ghost use Rattle.interpolator_eval.specs.Meaning.ListArguments.{FindsList, argument_meaning};
+ghost use Rattle.interpolator_eval.specs.Meaning.ListArguments.{items_alone, join_of, item_of};
+ghost use Rattle.interpolator_eval.specs.Meaning.ListArguments.{AllFinish, joined_texts};
+ghost use Rattle.interpolator_eval.specs.Meaning.ListArguments.{FirstFault};
 ghost use Rattle.interpolator_eval.specs.Meaning.Meanings.{fault_alone, forbids_list, chain};
 ghost use Rattle.interpolator_eval.specs.Meaning.Meanings.{item_means, join_means, means};
 ghost use Rattle.interpolator_eval.specs.Meaning.Meanings.{pieces_mean};
+ghost use Rattle.interpolator_eval.specs.{Slots.Slots, Meaning.Choices.chosen_items};
 ghost use Rattle.interpolator_eval.specs.Meaning.Moves.{moved_meaning};
 
 use interpolator_render::Value;

@@ -2,14 +2,11 @@
 
 ghost use Rattle.std.specs.Prelude.{◌≡◌, ℕ, List, [], ◌∷◌, Option, codes};
 ghost use Rattle.interpolator_render.specs.Written.{Written};
-ghost use Rattle.interpolator_syntax.specs.At.{At, outermost};
-ghost use Rattle.interpolator_syntax.specs.Faults.{Answer};
-ghost use Rattle.interpolator_eval.specs.Meaning.AskedGrammar.{AsksNames};
+ghost use Rattle.interpolator_syntax.specs.{At.At, At.outermost, Faults.Answer};
 ghost use Rattle.interpolator_eval.specs.Meaning.AskedNames.{asked_names, AgreeOn};
 ghost use Rattle.interpolator_eval.specs.Meaning.Environments.{Environment, cut};
-ghost use Rattle.interpolator_eval.specs.Meaning.EqualValues.{EqualOn};
-ghost use Rattle.interpolator_eval.specs.Meaning.Meanings.{means};
-ghost use Rattle.interpolator_eval.specs.Meaning.Outcomes.{Finished};
+ghost use Rattle.interpolator_eval.specs.Meaning.{AskedGrammar.AsksNames, EqualValues.EqualOn};
+ghost use Rattle.interpolator_eval.specs.Meaning.{Meanings.means, Outcomes.Finished};
 
 use interpolator_render::Value;
 

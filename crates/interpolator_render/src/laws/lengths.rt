@@ -3,9 +3,7 @@
 
 ghost use Rattle.std.specs.Prelude.{ℕ, ◌≤◌};
 ghost use Rattle.interpolator_render.specs.Lengths.{IsShownWithin, HasAtMost, most_written};
-ghost use Rattle.interpolator_render.specs.Texts.{view_text};
-ghost use Rattle.interpolator_render.specs.Views.{Shown};
-ghost use Rattle.interpolator_render.specs.declared.view.Spec.{Spec};
+ghost use Rattle.interpolator_render.specs.{Texts.view_text, Views.Shown, declared.view.Spec.Spec};
 ghost use Rattle.interpolator_render.specs.declared.view.Trait.{Trait};
 
 /// The text of a view has at most as many characters as its width says, or as a number or a text

@@ -1,11 +1,9 @@
 //! Laws of the lists in a format text, each the contract of a small function.
 
 ghost use Rattle.std.specs.Prelude.{◌≡◌, ℕ, Option, Ok, Err};
-ghost use Rattle.interpolator_syntax.specs.At.{At};
-ghost use Rattle.interpolator_syntax.specs.Ranges.{range_at};
 ghost use Rattle.interpolator_syntax.specs.Lists.{ListRequest, list_at};
 ghost use Rattle.interpolator_syntax.specs.ListGrammar.{IsRange, IsNoRange, IsList, IsNoList};
-ghost use Rattle.interpolator_syntax.specs.Faults.{Fault};
+ghost use Rattle.interpolator_syntax.specs.{At.At, Ranges.range_at, Faults.Fault};
 ghost use Rattle.interpolator_syntax.specs.declared.range.Range.{Range};
 
 /// A range is its parts, one after the other, each of which is there exactly when its beginning is:

@@ -1,12 +1,10 @@
 //! Laws of a format text at another base, each the contract of a small function.
 
 ghost use Rattle.std.specs.Prelude.{◌≡◌, ℕ, map, Ok, Err};
-ghost use Rattle.interpolator_syntax.specs.At.{At};
 ghost use Rattle.interpolator_syntax.specs.Arguments.{Argument, argument_at};
-ghost use Rattle.interpolator_syntax.specs.Pieces.{pieces};
-ghost use Rattle.interpolator_syntax.specs.Faults.{Fault};
 ghost use Rattle.interpolator_syntax.specs.Moved.{moved_at, moved_argument, moved_fault};
 ghost use Rattle.interpolator_syntax.specs.Moved.{moved_piece};
+ghost use Rattle.interpolator_syntax.specs.{At.At, Pieces.pieces, Faults.Fault};
 
 /// A text reads the same wherever it is. At a base that is `by` bytes further on, there is the same
 /// argument or the same fault, and there are the same pieces, with every place moved by `by` bytes:

@@ -1,14 +1,12 @@
 //! Laws of the pieces of a format text, each the contract of a small function.
 
 ghost use Rattle.std.specs.Prelude.{◌≡◌, ◌↔◌, ℕ, ◌++◌, List, [], flat_map, None, Some};
-ghost use Rattle.interpolator_syntax.specs.Arguments.{Argument};
-ghost use Rattle.interpolator_syntax.specs.At.{At};
-ghost use Rattle.interpolator_syntax.specs.Faults.{Fault};
 ghost use Rattle.interpolator_syntax.specs.Grammar.{IsPieces, IsClosed, IsUnclosed, IsBroken};
 ghost use Rattle.interpolator_syntax.specs.PieceGrammar.{ClosedStands, UnclosedStands};
 ghost use Rattle.interpolator_syntax.specs.PieceGrammar.{BrokenStands, token_pieces};
 ghost use Rattle.interpolator_syntax.specs.Pieces.{Piece, pieces};
 ghost use Rattle.interpolator_syntax.specs.Tokens.{Token, first_token, past_token};
+ghost use Rattle.interpolator_syntax.specs.{Arguments.Argument, At.At, Faults.Fault};
 
 /// The texts of the pieces, joined, are the text: no character is lost, and none is read twice.
 pub fn pieces_join()

@@ -1,7 +1,6 @@
 use Rattle.std.proofs.Common.{map, string_bytes, take}
 use Rattle.interpolator_syntax.specs.Arguments.{argument_of}
-use Rattle.catalogue.specs.Translations.{TellsLacking}
-use Rattle.catalogue.specs.Reported.{Each}
+use Rattle.catalogue.specs.{Translations.TellsLacking, Reported.Each}
 use Rattle.catalogue.proofs.arguments.told_of_lacking.Given as goal
 
 abbrev pub invariant-loop-one : goal.invariant-loop-one

@@ -1,7 +1,6 @@
 use Rattle.std.proofs.Common.{map, string_bytes, take}
 use Rattle.interpolator_syntax.specs.Arguments.{argument_of}
-use Rattle.catalogue.specs.Translations.{TellsOther}
-use Rattle.catalogue.specs.Reported.{Each}
+use Rattle.catalogue.specs.{Translations.TellsOther, Reported.Each}
 use Rattle.catalogue.proofs.arguments.told_of_others.Given as goal
 
 abbrev pub invariant-loop-one : goal.invariant-loop-one

@@ -1,8 +1,7 @@
 use Rattle.std.proofs.Common.{◌≡◌, arith, map, string_bytes}
 use Rattle.std.proofs.lemmas.Grind.{common_steps}
-use Rattle.catalogue.specs.Files.{as_page}
-use Rattle.catalogue.specs.Sought.{as_found, found_in}
-use Rattle.catalogue.specs.Told.{told_of_file, told_of_files}
+use Rattle.catalogue.specs.{Files.as_page, Sought.as_found, Sought.found_in, Told.told_of_file}
+use Rattle.catalogue.specs.Told.{told_of_files}
 use Rattle.catalogue.proofs.FirstLemmas.{drop_item, found_next, told_rest}
 use Rattle.catalogue.proofs.SoundLemmas.{clean_files}
 use Rattle.catalogue.proofs.checks.checked.Goals as goal

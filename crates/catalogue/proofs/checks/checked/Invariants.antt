@@ -1,8 +1,6 @@
 use Rattle.std.proofs.Common.{◌≡◌, ◌++◌, drop, map, string_bytes}
 use Rattle.std.specs.Option.{option_map, option_or}
-use Rattle.catalogue.specs.Files.{as_page}
-use Rattle.catalogue.specs.Sought.{as_found, found_among}
-use Rattle.catalogue.specs.Told.{told_of_files}
+use Rattle.catalogue.specs.{Files.as_page, Sought.as_found, Sought.found_among, Told.told_of_files}
 use Rattle.catalogue.proofs.checks.checked.Given as goal
 
 abbrev pub invariant-loop-page : goal.invariant-loop-page

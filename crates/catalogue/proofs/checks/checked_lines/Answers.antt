@@ -1,11 +1,8 @@
 use Rattle.std.proofs.Common.{◌≡◌, ℕ, Bool, List, ◌∷◌, ◌++◌, append_assoc, map}
 use Rattle.std.proofs.lemmas.List.{at_drop_more}
-use Rattle.catalogue.specs.Files.{Line, as_line}
-use Rattle.catalogue.specs.Forms.{as_sought}
-use Rattle.catalogue.specs.Keys.{with_key}
-use Rattle.catalogue.specs.Lines.{key_with, opens}
-use Rattle.catalogue.specs.Sought.{as_found, line_for}
-use Rattle.catalogue.specs.Told.{told_of_line, told_of_lines}
+use Rattle.catalogue.specs.{Files.Line, Files.as_line, Forms.as_sought, Keys.with_key}
+use Rattle.catalogue.specs.{Lines.key_with, Lines.opens, Sought.as_found, Sought.line_for}
+use Rattle.catalogue.specs.{Told.told_of_line, Told.told_of_lines}
 use Rattle.catalogue.specs.declared.files.Line.{Line as LentLine}
 use Rattle.catalogue.proofs.FirstLemmas.{found_next}
 use Rattle.catalogue.proofs.checks.checked_lines.Goals as goal

@@ -1,10 +1,7 @@
 use Rattle.std.proofs.Common.{◌≡◌, ℕ, List, [], ◌++◌, drop, false, map, string_bytes}
 use Rattle.std.specs.Option.{option_map, option_or}
-use Rattle.catalogue.specs.Files.{as_line}
-use Rattle.catalogue.specs.Forms.{as_sought, first_given}
-use Rattle.catalogue.specs.Keys.{Remembers}
-use Rattle.catalogue.specs.Sought.{as_found, line_for}
-use Rattle.catalogue.specs.Told.{told_of_lines}
+use Rattle.catalogue.specs.{Files.as_line, Forms.as_sought, Forms.first_given, Keys.Remembers}
+use Rattle.catalogue.specs.{Sought.as_found, Sought.line_for, Told.told_of_lines}
 use Rattle.catalogue.proofs.checks.checked_lines.Given as goal
 
 abbrev pub invariant-loop-line : goal.invariant-loop-line

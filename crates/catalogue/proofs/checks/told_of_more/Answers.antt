@@ -1,9 +1,7 @@
 use Rattle.std.proofs.Common.{◌≡◌, ◌∙◌, Bool, ap, arith, false, refl, sym, true}
 use Rattle.std.proofs.lemmas.Result.{IfOk-weaker}
-use Rattle.catalogue.specs.Declarations.{begin_of}
-use Rattle.catalogue.specs.Files.{Line, as_line}
-use Rattle.catalogue.specs.Reports.{told_at}
-use Rattle.catalogue.specs.Told.{told_of_more, what_goes_on}
+use Rattle.catalogue.specs.{Declarations.begin_of, Files.Line, Files.as_line, Reports.told_at}
+use Rattle.catalogue.specs.{Told.told_of_more, Told.what_goes_on}
 use Rattle.folds.specs.Lines.{goes_on}
 use Rattle.catalogue.proofs.checks.told_of_more.Goals as goal
 

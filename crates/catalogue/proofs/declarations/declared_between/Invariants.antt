@@ -1,8 +1,7 @@
 use Rattle.std.proofs.Common.{◌≡◌, [], ◌++◌, drop, map}
 use Rattle.std.specs.List.{slice_split}
-use Rattle.words.specs.Declarations.{as_declaration}
+use Rattle.words.specs.{Declarations.as_declaration, Items.texts_of}
 use Rattle.catalogue.specs.Declarations.{broken_from, declarations, is_comma}
-use Rattle.words.specs.Items.{texts_of}
 use Rattle.catalogue.proofs.declarations.declared_between.Given as goal
 
 abbrev pub invariant-loop-part : goal.invariant-loop-part

@@ -1,7 +1,6 @@
 use Rattle.std.proofs.Common.{◌≡◌, map, take}
 use Rattle.words.specs.Declarations.{as_declaration}
-use Rattle.catalogue.specs.Entries.{held_by}
-use Rattle.catalogue.specs.Examples.{example_of}
+use Rattle.catalogue.specs.{Entries.held_by, Examples.example_of}
 use Rattle.catalogue.proofs.examples.examples_of.Given as goal
 
 abbrev pub invariant-loop-one : goal.invariant-loop-one

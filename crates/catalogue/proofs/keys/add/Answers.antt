@@ -1,6 +1,5 @@
 use Rattle.std.proofs.Common.{◌≡◌, ◌∙◌, sym, None, rules, ◌+◌}
-use Rattle.std.specs.HashMap.{get_by, hash_map_len}
-use Rattle.std.specs.Str.{bytes_eq}
+use Rattle.std.specs.{HashMap.get_by, HashMap.hash_map_len, Str.bytes_eq}
 use Rattle.catalogue.proofs.KeyLemmas.{remembers_new}
 use Rattle.catalogue.proofs.keys.add.Goals as goal
 

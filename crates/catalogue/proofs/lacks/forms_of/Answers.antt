@@ -1,7 +1,5 @@
-use Rattle.std.proofs.Common.{ap, map, string_bytes}
-use Rattle.std.proofs.lemmas.List.{at_drop_more}
-use Rattle.plurals.specs.Values.{as_form}
-use Rattle.plurals.specs.declared.expression.Form.{Form}
+use Rattle.std.proofs.{Common.ap, Common.map, Common.string_bytes, lemmas.List.at_drop_more}
+use Rattle.plurals.specs.{Values.as_form, declared.expression.Form.Form}
 use Rattle.catalogue.proofs.FormLemmas.{none_yet, once_more}
 use Rattle.catalogue.proofs.lacks.forms_of.Goals as goal
 

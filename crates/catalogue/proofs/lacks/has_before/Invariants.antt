@@ -1,6 +1,5 @@
 use Rattle.std.proofs.Common.{◌≡◌, List, drop, map, string_bytes}
-use Rattle.catalogue.specs.Files.{Line}
-use Rattle.catalogue.specs.Lacks.{HasFirsts, has_before}
+use Rattle.catalogue.specs.{Files.Line, Lacks.HasFirsts, Lacks.has_before}
 use Rattle.catalogue.proofs.lacks.has_before.Given as goal
 
 abbrev pub invariant-loop-form : goal.invariant-loop-form

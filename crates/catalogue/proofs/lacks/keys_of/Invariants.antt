@@ -1,8 +1,6 @@
 use Rattle.std.proofs.Common.{◌≡◌, ℕ, List, drop, map}
 use Rattle.std.specs.Option.{option_or}
-use Rattle.catalogue.specs.Files.{as_line}
-use Rattle.catalogue.specs.Keys.{Remembers, number_of}
-use Rattle.catalogue.specs.Lacks.{first_of}
+use Rattle.catalogue.specs.{Files.as_line, Keys.Remembers, Keys.number_of, Lacks.first_of}
 use Rattle.catalogue.proofs.lacks.keys_of.Given as goal
 
 abbrev pub invariant-loop-line : goal.invariant-loop-line

@@ -1,7 +1,6 @@
 use Rattle.std.proofs.Common.{◌≡◌, ◌++◌, List, drop, map, string_bytes}
 use Rattle.words.specs.Items.{texts_of}
-use Rattle.catalogue.specs.Files.{Line}
-use Rattle.catalogue.specs.Lacks.{HasFirsts, lacking}
+use Rattle.catalogue.specs.{Files.Line, Lacks.HasFirsts, Lacks.lacking}
 use Rattle.catalogue.proofs.lacks.lacking.Given as goal
 
 abbrev pub invariant-loop-form : goal.invariant-loop-form

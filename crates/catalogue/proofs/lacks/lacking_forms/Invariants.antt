@@ -1,6 +1,5 @@
 use Rattle.std.proofs.Common.{◌≡◌, ◌++◌, drop, map, string_bytes}
-use Rattle.catalogue.specs.Files.{page_of}
-use Rattle.catalogue.specs.Lacks.{told_of_files}
+use Rattle.catalogue.specs.{Files.page_of, Lacks.told_of_files}
 use Rattle.catalogue.proofs.lacks.lacking_forms.Given as goal
 
 abbrev pub invariant-loop-file : goal.invariant-loop-file

@@ -1,7 +1,6 @@
 use Rattle.std.proofs.Common.{◌≡◌, ◌++◌, drop, map, string_bytes}
 use Rattle.std.specs.List.{concat}
-use Rattle.catalogue.specs.Files.{as_line}
-use Rattle.catalogue.specs.Lacks.{told_of_line}
+use Rattle.catalogue.specs.{Files.as_line, Lacks.told_of_line}
 use Rattle.catalogue.proofs.lacks.told_of_lines.Given as goal
 
 abbrev pub invariant-loop-line : goal.invariant-loop-line

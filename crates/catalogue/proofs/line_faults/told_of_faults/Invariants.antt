@@ -1,7 +1,6 @@
 use Rattle.std.proofs.Common.{◌≡◌, ◌++◌, drop, map, string_bytes}
 use Rattle.interpolator.specs.Faults.{answer_of}
-use Rattle.catalogue.specs.Files.{as_line}
-use Rattle.catalogue.specs.Told.{told_of_faults}
+use Rattle.catalogue.specs.{Files.as_line, Told.told_of_faults}
 use Rattle.catalogue.proofs.line_faults.told_of_faults.Given as goal
 
 abbrev pub invariant-loop-error : goal.invariant-loop-error

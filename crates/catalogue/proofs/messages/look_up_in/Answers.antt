@@ -1,11 +1,7 @@
 use Rattle.std.proofs.Common.{◌≡◌, length, map, arith, string_bytes, sym}
-use Rattle.std.proofs.lemmas.Bool.Decides.{nat_tests}
-use Rattle.std.proofs.lemmas.Result.{IfOk-weaker}
-use Rattle.catalogue.specs.Files.{as_page}
-use Rattle.catalogue.specs.Messages.{GiveValues}
-use Rattle.catalogue.specs.Sought.{as_found}
-use Rattle.catalogue.proofs.AnswerLemmas.{answers_line}
-use Rattle.catalogue.proofs.KindLemmas.{all_given}
+use Rattle.std.proofs.{lemmas.Bool.Decides.nat_tests, lemmas.Result.IfOk-weaker}
+use Rattle.catalogue.specs.{Files.as_page, Messages.GiveValues, Sought.as_found}
+use Rattle.catalogue.proofs.{AnswerLemmas.answers_line, KindLemmas.all_given}
 use Rattle.catalogue.proofs.SoundLemmas.{sound_among}
 use Rattle.catalogue.proofs.messages.look_up_in.Goals as goal
 

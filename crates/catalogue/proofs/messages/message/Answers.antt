@@ -1,6 +1,5 @@
 use Rattle.std.proofs.lemmas.Result.{IfOk-weaker}
-use Rattle.catalogue.specs.Declarations.{declared_by}
-use Rattle.catalogue.specs.Files.{as_line}
+use Rattle.catalogue.specs.{Declarations.declared_by, Files.as_line}
 use Rattle.catalogue.proofs.AnswerLemmas.{replies_made}
 use Rattle.catalogue.proofs.messages.message.Goals as goal
 

@@ -1,9 +1,7 @@
 use Rattle.std.proofs.Common.{◌∙◌, map, sym}
 use Rattle.interpolator.specs.Faults.{answer_of}
-use Rattle.catalogue.specs.Entries.{held_by_entry}
-use Rattle.catalogue.specs.Messages.{message_means}
-use Rattle.catalogue.proofs.AnswerLemmas.{told_fault}
-use Rattle.catalogue.proofs.HeldLemmas.{found_held}
+use Rattle.catalogue.specs.{Entries.held_by_entry, Messages.message_means}
+use Rattle.catalogue.proofs.{AnswerLemmas.told_fault, HeldLemmas.found_held}
 use Rattle.catalogue.proofs.messages.said.Goals as goal
 
 pub returns-clause-said : goal.returns-clause-said

@@ -1,5 +1,4 @@
-use Rattle.catalogue.specs.Files.{as_page}
-use Rattle.catalogue.specs.Told.{told_absent}
+use Rattle.catalogue.specs.{Files.as_page, Told.told_absent}
 use Rattle.catalogue.proofs.FirstLemmas.{drop_item, told_rest}
 use Rattle.catalogue.proofs.messages.told_of_absent.Goals as goal
 

@@ -1,6 +1,5 @@
 use Rattle.std.proofs.Common.{◌≡◌, ◌++◌, drop, map, string_bytes}
-use Rattle.catalogue.specs.Files.{as_page}
-use Rattle.catalogue.specs.Told.{told_of_absent}
+use Rattle.catalogue.specs.{Files.as_page, Told.told_of_absent}
 use Rattle.catalogue.proofs.messages.told_of_absent.Given as goal
 
 abbrev pub invariant-loop-page : goal.invariant-loop-page

@@ -1,9 +1,7 @@
 use Rattle.std.proofs.Common.{◌≡◌, arith, refl, rules, ℤ, pos, negsuc, nat_lt, true}
-use Rattle.std.specs.Int.{w128}
-use Rattle.std.specs.Prelude.{FitsSigned}
 use Rattle.std.proofs.lemmas.Int.{ints, to_z-of_z}
-use Rattle.interpolator.specs.Views.{fits_signed}
-use Rattle.interpolator.specs.declared.Bits.TheVariants.{B128}
+use Rattle.std.specs.{Int.w128, Prelude.FitsSigned}
+use Rattle.interpolator.specs.{Views.fits_signed, declared.Bits.TheVariants.B128}
 use Rattle.words.proofs.PartLemmas.{bad_is_not_good}
 use Rattle.catalogue.proofs.objects.object_of.Goals as goal
 

@@ -1,7 +1,6 @@
 use Rattle.std.proofs.lemmas.List.{get_or_default, take_all}
 use Rattle.words.specs.Declarations.{as_declaration}
-use Rattle.catalogue.specs.Entries.{held_by_entry}
-use Rattle.catalogue.specs.Picks.{HasPick, HoldsPick}
+use Rattle.catalogue.specs.{Entries.held_by_entry, Picks.HasPick, Picks.HoldsPick}
 use Rattle.catalogue.proofs.ZipLemmas.{first_without, zip_mapped, zip_more}
 use Rattle.catalogue.proofs.picks.picks_for.Goals as goal
 

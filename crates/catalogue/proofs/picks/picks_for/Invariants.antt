@@ -1,8 +1,7 @@
 use Rattle.std.proofs.Common.{take}
 use Rattle.std.specs.List.{AllZip}
 use Rattle.words.specs.Declarations.{as_declaration}
-use Rattle.catalogue.specs.Entries.{held_by_entry}
-use Rattle.catalogue.specs.Picks.{HoldsPick}
+use Rattle.catalogue.specs.{Entries.held_by_entry, Picks.HoldsPick}
 use Rattle.catalogue.proofs.picks.picks_for.Given as goal
 
 abbrev pub invariant-loop-one : goal.invariant-loop-one

@@ -1,8 +1,5 @@
-use Rattle.std.proofs.Common.{subst}
-use Rattle.std.proofs.lemmas.List.{take_all}
-use Rattle.std.proofs.lemmas.List.Elements.{All-map}
-use Rattle.catalogue.specs.Files.{as_page}
-use Rattle.catalogue.specs.Places.{IsPlacedFile}
+use Rattle.std.proofs.{Common.subst, lemmas.List.take_all, lemmas.List.Elements.All-map}
+use Rattle.catalogue.specs.{Files.as_page, Places.IsPlacedFile}
 use Rattle.catalogue.proofs.PlaceLemmas.{placed_more}
 use Rattle.catalogue.proofs.places.misplaced_in.Goals as goal
 

@@ -1,7 +1,6 @@
 use Rattle.std.proofs.Common.{◌≡◌, length, string_bytes, take}
 use Rattle.std.specs.List.{All}
-use Rattle.catalogue.specs.Files.{as_page}
-use Rattle.catalogue.specs.Places.{IsPlacedFile}
+use Rattle.catalogue.specs.{Files.as_page, Places.IsPlacedFile}
 use Rattle.catalogue.proofs.places.misplaced_in.Given as goal
 
 abbrev pub invariant-loop-page : goal.invariant-loop-page

@@ -1,7 +1,5 @@
-use Rattle.std.proofs.lemmas.List.{take_all}
-use Rattle.std.proofs.lemmas.List.Elements.{All-map}
-use Rattle.catalogue.specs.Files.{as_line}
-use Rattle.catalogue.specs.Places.{IsPlacedLine}
+use Rattle.std.proofs.{lemmas.List.take_all, lemmas.List.Elements.All-map}
+use Rattle.catalogue.specs.{Files.as_line, Places.IsPlacedLine}
 use Rattle.catalogue.proofs.PlaceLemmas.{placed_more}
 use Rattle.catalogue.proofs.places.told_of_lines.Goals as goal
 

@@ -1,7 +1,6 @@
 use Rattle.std.proofs.Common.{◌≡◌, length, string_bytes, take}
 use Rattle.std.specs.List.{All}
-use Rattle.catalogue.specs.Files.{as_line}
-use Rattle.catalogue.specs.Places.{IsPlacedLine}
+use Rattle.catalogue.specs.{Files.as_line, Places.IsPlacedLine}
 use Rattle.catalogue.proofs.places.told_of_lines.Given as goal
 
 abbrev pub invariant-loop-line : goal.invariant-loop-line

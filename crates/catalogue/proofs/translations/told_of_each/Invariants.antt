@@ -1,7 +1,6 @@
 use Rattle.std.proofs.Common.{map, string_bytes, take}
 use Rattle.interpolator_syntax.specs.Arguments.{argument_of}
-use Rattle.catalogue.specs.Translations.{TellsText}
-use Rattle.catalogue.specs.Reported.{Each}
+use Rattle.catalogue.specs.{Translations.TellsText, Reported.Each}
 use Rattle.catalogue.proofs.translations.told_of_each.Given as goal
 
 abbrev pub invariant-loop-text : goal.invariant-loop-text

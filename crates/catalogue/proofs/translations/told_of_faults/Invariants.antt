@@ -1,7 +1,6 @@
 use Rattle.std.proofs.Common.{map, string_bytes, take}
 use Rattle.interpolator.specs.Faults.{answer_of}
-use Rattle.catalogue.specs.Translations.{TellsFault}
-use Rattle.catalogue.specs.Reported.{Each}
+use Rattle.catalogue.specs.{Translations.TellsFault, Reported.Each}
 use Rattle.catalogue.proofs.translations.told_of_faults.Given as goal
 
 abbrev pub invariant-loop-error : goal.invariant-loop-error

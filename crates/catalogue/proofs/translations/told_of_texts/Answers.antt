@@ -1,7 +1,6 @@
 use Rattle.std.proofs.Common.{◌≡◌, ◌∙◌, ap, map, string_bytes}
 use Rattle.std.specs.Str.{chars}
-use Rattle.interpolator.specs.At.{outermost}
-use Rattle.interpolator.specs.Template.AllArguments.{arguments_of}
+use Rattle.interpolator.specs.{At.outermost, Template.AllArguments.arguments_of}
 use Rattle.interpolator_syntax.specs.Arguments.{argument_of}
 use Rattle.catalogue.specs.Translations.{arguments_in}
 use Rattle.catalogue.proofs.translations.told_of_texts.Goals as goal

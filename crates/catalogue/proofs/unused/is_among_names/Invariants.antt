@@ -1,6 +1,5 @@
 use Rattle.std.proofs.Common.{◌≡◌, drop}
-use Rattle.std.specs.List.{list_any}
-use Rattle.std.specs.Str.{bytes_eq, chars}
+use Rattle.std.specs.{List.list_any, Str.bytes_eq, Str.chars}
 use Rattle.interpolator_pieces.specs.NodeNames.{name_texts}
 use Rattle.catalogue.proofs.unused.is_among_names.Given as goal
 

@@ -1,8 +1,7 @@
 use Rattle.std.proofs.Common.{◌∙◌, ap, ℕ, List, not, rules, sym}
 use Rattle.std.proofs.lemmas.Fn.{filter_same}
 use Rattle.words.specs.Items.{texts_of}
-use Rattle.catalogue.specs.Declarations.{declared_by}
-use Rattle.catalogue.specs.Unused.{declares}
+use Rattle.catalogue.specs.{Declarations.declared_by, Unused.declares}
 use Rattle.catalogue.proofs.FirstLemmas.{filter_mapped}
 use Rattle.catalogue.proofs.unused.leave_declared.Goals as goal
 

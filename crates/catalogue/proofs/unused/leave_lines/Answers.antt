@@ -1,7 +1,5 @@
-use Rattle.std.proofs.Common.{map}
-use Rattle.std.proofs.lemmas.List.{at_drop_all, at_drop_more}
-use Rattle.catalogue.specs.Files.{as_line}
-use Rattle.catalogue.specs.declared.files.Line.{Line as LentLine}
+use Rattle.std.proofs.{Common.map, lemmas.List.at_drop_all, lemmas.List.at_drop_more}
+use Rattle.catalogue.specs.{Files.as_line, declared.files.Line.Line as LentLine}
 use Rattle.catalogue.proofs.UnusedLemmas.{left_last, left_next}
 use Rattle.catalogue.proofs.unused.leave_lines.Goals as goal
 

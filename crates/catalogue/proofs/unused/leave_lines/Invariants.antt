@@ -1,7 +1,6 @@
 use Rattle.std.proofs.Common.{◌≡◌, drop, filter, map, not}
 use Rattle.words.specs.Items.{texts_of}
-use Rattle.catalogue.specs.Files.{as_line}
-use Rattle.catalogue.specs.Unused.{is_used}
+use Rattle.catalogue.specs.{Files.as_line, Unused.is_used}
 use Rattle.catalogue.proofs.unused.leave_lines.Given as goal
 
 abbrev pub invariant-loop-line : goal.invariant-loop-line

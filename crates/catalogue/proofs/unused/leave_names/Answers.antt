@@ -1,7 +1,6 @@
 use Rattle.std.proofs.Common.{◌∙◌, ap, ℕ, List, not, rules, sym}
 use Rattle.std.proofs.lemmas.Fn.{filter_same}
-use Rattle.std.specs.List.{list_any}
-use Rattle.std.specs.Str.{bytes_eq, chars}
+use Rattle.std.specs.{List.list_any, Str.bytes_eq, Str.chars}
 use Rattle.interpolator_pieces.specs.NodeNames.{name_texts}
 use Rattle.words.specs.Items.{texts_of}
 use Rattle.catalogue.proofs.FirstLemmas.{filter_mapped}

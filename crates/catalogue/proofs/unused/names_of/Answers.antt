@@ -1,10 +1,7 @@
-use Rattle.std.proofs.Common.{ap}
+use Rattle.std.proofs.Common.{ap, string_bytes}
 use Rattle.words.specs.Items.{texts_of}
 use Rattle.catalogue.specs.Unused.{names_of}
-use Rattle.catalogue.proofs.FirstLemmas.{drop_item}
-use Rattle.catalogue.proofs.FormLemmas.{none_yet}
-use Rattle.catalogue.proofs.UnusedLemmas.{name_more}
-use Rattle.std.proofs.Common.{string_bytes}
+use Rattle.catalogue.proofs.{FirstLemmas.drop_item, FormLemmas.none_yet, UnusedLemmas.name_more}
 use Rattle.catalogue.proofs.unused.names_of.Goals as goal
 
 pub loop-word-init : goal.loop-word-init

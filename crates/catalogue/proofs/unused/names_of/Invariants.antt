@@ -1,7 +1,6 @@
 use Rattle.std.proofs.Common.{◌≡◌, ◌++◌, drop, filter, map, not, string_bytes}
 use Rattle.words.specs.Items.{texts_of}
-use Rattle.catalogue.specs.Lacks.{each_once, is_one_of}
-use Rattle.catalogue.specs.Unused.{names_of}
+use Rattle.catalogue.specs.{Lacks.each_once, Lacks.is_one_of, Unused.names_of}
 use Rattle.catalogue.proofs.unused.names_of.Given as goal
 
 abbrev pub invariant-loop-word : goal.invariant-loop-word

@@ -1,5 +1,4 @@
-use Rattle.std.proofs.Common.{map}
-use Rattle.std.proofs.lemmas.List.{at_drop_all}
+use Rattle.std.proofs.{Common.map, lemmas.List.at_drop_all}
 use Rattle.catalogue.specs.Files.{page_of}
 use Rattle.catalogue.proofs.FirstLemmas.{drop_item}
 use Rattle.catalogue.proofs.UnusedLemmas.{left_last_file, left_next_file}

@@ -1,7 +1,6 @@
 use Rattle.std.proofs.Common.{◌≡◌, drop, filter, map, not, string_bytes}
 use Rattle.words.specs.Items.{texts_of}
-use Rattle.catalogue.specs.Files.{page_of}
-use Rattle.catalogue.specs.Unused.{is_used_in, unused}
+use Rattle.catalogue.specs.{Files.page_of, Unused.is_used_in, Unused.unused}
 use Rattle.catalogue.proofs.unused.unused.Given as goal
 
 abbrev pub invariant-loop-file : goal.invariant-loop-file

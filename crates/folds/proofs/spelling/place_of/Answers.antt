@@ -1,7 +1,6 @@
 use Rattle.std.proofs.Common.{◌≡◌, Some, None, rules, arith, length}
-use Rattle.std.proofs.lemmas.Iterator.{YieldsList-from_chars}
 use Rattle.std.proofs.lemmas.Iterator.Consumers.{YieldsList-end, YieldsList-turn}
-use Rattle.std.proofs.lemmas.List.{length_push}
+use Rattle.std.proofs.{lemmas.Iterator.YieldsList-from_chars, lemmas.List.length_push}
 use Rattle.std.specs.Str.{chars}
 use Rattle.folds.specs.Spellings.{byte_after, step}
 use Rattle.folds.proofs.SpellingLemmas.{place_end, place_here, place_next, place_wrong}

@@ -1,7 +1,6 @@
 use Rattle.std.proofs.Common.{◌≡◌, Some, None, rules, arith, length, string_bytes}
-use Rattle.std.proofs.lemmas.Iterator.{YieldsList-from_chars}
 use Rattle.std.proofs.lemmas.Iterator.Consumers.{YieldsList-end, YieldsList-turn}
-use Rattle.std.proofs.lemmas.List.{length_push}
+use Rattle.std.proofs.{lemmas.Iterator.YieldsList-from_chars, lemmas.List.length_push}
 use Rattle.std.specs.Str.{chars}
 use Rattle.folds.specs.Spellings.{step}
 use Rattle.folds.proofs.SpellingLemmas.{text_end, text_next, wrong_end, wrong_next, wrong_there}

@@ -1,6 +1,5 @@
 use Rattle.std.proofs.Common.{inl, inr, string_bytes, sym}
-use Rattle.std.proofs.lemmas.List.{drop_more, take_all}
-use Rattle.std.proofs.lemmas.List.Elements.{All-more}
+use Rattle.std.proofs.{lemmas.List.drop_more, lemmas.List.take_all, lemmas.List.Elements.All-more}
 use Rattle.words.specs.Words.{IsGood}
 use Rattle.ifmt.proofs.command.first_bad.Goals as goal
 

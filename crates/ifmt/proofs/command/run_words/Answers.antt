@@ -1,5 +1,4 @@
-use Rattle.std.proofs.Common.{refl}
-use Rattle.std.proofs.lemmas.List.{drop_all, drop_more}
+use Rattle.std.proofs.{Common.refl, lemmas.List.drop_all, lemmas.List.drop_more}
 use Rattle.interpolator.specs.NameMaps.{stored_slots}
 use Rattle.ifmt.proofs.BindLemmas.{binds_all, none_filled}
 use Rattle.ifmt.proofs.command.run_words.Goals as goal

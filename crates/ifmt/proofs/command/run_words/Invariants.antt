@@ -1,8 +1,6 @@
 use Rattle.std.proofs.Common.{drop, List, ℕ, Option}
 use Rattle.std.specs.List.{FoldsTo}
-use Rattle.interpolator.specs.NameMaps.{stored_slots}
-use Rattle.interpolator.specs.Slots.{Slots}
-use Rattle.interpolator.specs.declared.View.{View}
+use Rattle.interpolator.specs.{NameMaps.stored_slots, Slots.Slots, declared.View.View}
 use Rattle.ifmt.proofs.BindLemmas.{AreFilled, IsFilled}
 use Rattle.ifmt.proofs.command.run_words.Given as goal
 

@@ -1,5 +1,4 @@
-use Rattle.std.proofs.Common.{None, lit<}
-use Rattle.std.proofs.lemmas.Str.Pattern.{strip_prefix_char}
+use Rattle.std.proofs.{Common.None, Common.lit<, lemmas.Str.Pattern.strip_prefix_char}
 use Rattle.interpolator.proofs.DecimalTextLemmas.{after_none}
 use Rattle.interpolator.proofs.decimal.split_sign.Goals as goal
 

@@ -1,5 +1,4 @@
-use Rattle.std.proofs.Common.{arith}
-use Rattle.std.proofs.lemmas.Str.Parse.{digit_at}
+use Rattle.std.proofs.{Common.arith, lemmas.Str.Parse.digit_at}
 use Rattle.interpolator.proofs.DecimalDigitLemmas.{loop_end, loop_over}
 use Rattle.interpolator.proofs.decimal.with_digits.Goals as goal
 

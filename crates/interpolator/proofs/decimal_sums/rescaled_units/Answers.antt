@@ -1,7 +1,5 @@
-use Rattle.std.proofs.Common.{arith, rules}
-use Rattle.std.proofs.lemmas.Int.{to_z-of_z}
-use Rattle.std.specs.Int.{w128}
-use Rattle.std.specs.Prelude.{FitsSigned}
+use Rattle.std.proofs.{Common.arith, Common.rules, lemmas.Int.to_z-of_z}
+use Rattle.std.specs.{Int.w128, Prelude.FitsSigned}
 use Rattle.interpolator.proofs.DecimalSumLemmas.{fewer_same, match_map, more_digits, same_fewer}
 use Rattle.interpolator.proofs.decimal_sums.rescaled_units.Goals as goal
 

@@ -1,5 +1,4 @@
-use Rattle.std.proofs.Common.{ap, arith, of_z}
-use Rattle.std.proofs.lemmas.Int.{ints, to_z-of_z}
+use Rattle.std.proofs.{Common.ap, Common.arith, Common.of_z, lemmas.Int.ints, lemmas.Int.to_z-of_z}
 use Rattle.std.specs.Int.{w128}
 use Rattle.interpolator.proofs.DecimalSumLemmas.{unit_out_less, unit_some}
 use Rattle.interpolator.proofs.decimal_sums.shifted_difference.Goals as goal

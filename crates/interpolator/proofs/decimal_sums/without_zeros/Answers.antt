@@ -1,5 +1,4 @@
-use Rattle.std.proofs.Common.{ap, arith, of_z}
-use Rattle.std.proofs.lemmas.Int.{ints, to_z-of_z}
+use Rattle.std.proofs.{Common.ap, Common.arith, Common.of_z, lemmas.Int.ints, lemmas.Int.to_z-of_z}
 use Rattle.std.specs.Int.{w128}
 use Rattle.interpolator.proofs.DecimalSumLemmas.{no_fewer, unit_some}
 use Rattle.interpolator.proofs.decimal_sums.without_zeros.Goals as goal

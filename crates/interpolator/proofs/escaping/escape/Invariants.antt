@@ -1,6 +1,5 @@
 use Rattle.std.proofs.Common.{◌≡◌, ◌++◌, length}
-use denote.Text.{Utf8}
-use denote.Shadow.{shadow}
+use denote.{Text.Utf8, Shadow.shadow}
 use Rattle.std.specs.Str.{chars}
 use Rattle.interpolator.specs.Escaping.{braces_doubled}
 use Rattle.interpolator.proofs.escaping.escape.Given as goal

@@ -1,5 +1,4 @@
-use Rattle.std.proofs.Common.{rules}
-use Rattle.std.proofs.lemmas.Str.{encodes-chars}
+use Rattle.std.proofs.{Common.rules, lemmas.Str.encodes-chars}
 use Rattle.interpolator.proofs.excerpt.shown_line.Goals as goal
 
 pub returns : goal.returns

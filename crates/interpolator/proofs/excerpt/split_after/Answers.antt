@@ -1,7 +1,6 @@
 use Rattle.std.proofs.Common.{rules, arith, ◌≡◌, ◌≤◌, sym, ap, ◌∙◌, length, take, drop}
+use Rattle.std.proofs.lemmas.{List.drop_all, List.length-drop, List.take_all, Str.chars-nil}
 use Rattle.std.specs.Str.{chars}
-use Rattle.std.proofs.lemmas.List.{drop_all, length-drop, take_all}
-use Rattle.std.proofs.lemmas.Str.{chars-nil}
 use Rattle.interpolator.proofs.PositionLemmas.{read_none, read_more, read_front, read_end}
 use Rattle.interpolator.proofs.excerpt.split_after.Goals as goal
 

@@ -1,8 +1,7 @@
 use Rattle.std.proofs.Common.{◌-◌, [], arith}
-use Rattle.std.specs.Str.Lines.{lines}
 use Rattle.std.proofs.lemmas.Iterator.Consumers.{nth_from_yields_List}
-use Rattle.std.proofs.lemmas.Iterator.Splits.{YieldsList-from_lines}
-use Rattle.std.proofs.lemmas.Option.{unwrap_or-slice_get}
+use Rattle.std.proofs.lemmas.{Iterator.Splits.YieldsList-from_lines, Option.unwrap_or-slice_get}
+use Rattle.std.specs.Str.Lines.{lines}
 use Rattle.interpolator.proofs.explaining.line_of.Goals as goal
 
 pub returns : goal.returns

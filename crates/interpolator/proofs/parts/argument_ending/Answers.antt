@@ -1,5 +1,4 @@
-use Rattle.std.proofs.Common.{arith}
-use Rattle.std.proofs.lemmas.Str.{chars-nil}
+use Rattle.std.proofs.{Common.arith, lemmas.Str.chars-nil}
 use Rattle.interpolator_syntax.specs.Pieces.{argument_from}
 use Rattle.interpolator_syntax.proofs.PieceLemmas.{pieces_none}
 use Rattle.interpolator.proofs.parts.argument_ending.Goals as goal

@@ -1,7 +1,6 @@
 use Rattle.std.proofs.Common.{◌+◌, ◌∙◌, sym, length, ap, arith}
-use Rattle.std.proofs.lemmas.Iterator.{YieldsList-from_chars}
 use Rattle.std.proofs.lemmas.Iterator.Consumers.{YieldsList-end, YieldsList-turn}
-use Rattle.std.proofs.lemmas.List.{map-id}
+use Rattle.std.proofs.{lemmas.Iterator.YieldsList-from_chars, lemmas.List.map-id}
 use Rattle.interpolator.specs.Positions.{last_line}
 use Rattle.interpolator.proofs.PositionLemmas.{characters_short, last_line_ends, last_line_goes_on}
 use Rattle.interpolator.proofs.PositionLemmas.{last_line_short}

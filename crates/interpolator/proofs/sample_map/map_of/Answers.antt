@@ -1,5 +1,4 @@
-use Rattle.std.proofs.Common.{take}
-use Rattle.std.proofs.lemmas.List.{take_all, take_more}
+use Rattle.std.proofs.{Common.take, lemmas.List.take_all, lemmas.List.take_more}
 use Rattle.interpolator.proofs.SampleMapLemmas.{map_finds}
 use Rattle.interpolator.proofs.sample_map.map_of.Goals as goal
 

@@ -1,8 +1,7 @@
 use Rattle.std.proofs.Common.{Err, Ok, ap, subst}
 use Rattle.std.proofs.lemmas.Str.{is_utf8-from_IsUtf8}
 use Rattle.interpolator_eval.specs.Escaping.{shows_by}
-use Rattle.interpolator_border.specs.Fields.{field_shows}
-use Rattle.interpolator_border.specs.Measures.{TellsWhy, measured}
+use Rattle.interpolator_border.specs.{Fields.field_shows, Measures.TellsWhy, Measures.measured}
 use Rattle.interpolator_border.proofs.AnswerLemmas.{formats}
 use Rattle.interpolator_border.proofs.formatting.format_text.Goals as goal
 

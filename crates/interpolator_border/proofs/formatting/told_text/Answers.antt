@@ -1,5 +1,4 @@
-use Rattle.std.proofs.Common.{arith, inl}
-use Rattle.std.proofs.lemmas.Str.{encodes-chars}
+use Rattle.std.proofs.{Common.arith, Common.inl, lemmas.Str.encodes-chars}
 use Rattle.interpolator_border.proofs.formatting.told_text.Goals as goal
 
 pub returns-in-Some : goal.returns-in-Some

@@ -1,8 +1,6 @@
 use Rattle.std.proofs.Common.{length, ◌++◌, chars}
-use denote.Text.{Utf8}
-use denote.Shadow.{shadow}
-use Rattle.interpolator_escapes.specs.Escapes.{escaped}
-use Rattle.interpolator_escapes.specs.Rooms.{HasPlace}
+use denote.{Text.Utf8, Shadow.shadow}
+use Rattle.interpolator_escapes.specs.{Escapes.escaped, Rooms.HasPlace}
 use Rattle.interpolator_escapes.proofs.RoomLemmas.{LaysOn}
 use Rattle.interpolator_escapes.proofs.escaped.put_steps.Given as goal
 

@@ -1,5 +1,4 @@
-use Rattle.interpolator_escapes.specs.Escapes.{escape_of}
-use Rattle.interpolator_escapes.specs.Languages.{language}
+use Rattle.interpolator_escapes.specs.{Escapes.escape_of, Languages.language}
 use Rattle.interpolator_escapes.proofs.LanguageLemmas.{keeps, keeps_plain}
 use Rattle.interpolator_escapes.proofs.ReaderLemmas.{parts_read}
 use Rattle.interpolator_escapes.proofs.laws.values_come_back.Goals as goal

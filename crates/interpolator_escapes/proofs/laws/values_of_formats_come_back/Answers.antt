@@ -1,6 +1,5 @@
-use Rattle.interpolator_escapes.specs.Escapes.{escape_of}
 use Rattle.interpolator_escapes.specs.FormatParts.{as_it_is, escaped_value}
-use Rattle.interpolator_escapes.specs.Languages.{language}
+use Rattle.interpolator_escapes.specs.{Escapes.escape_of, Languages.language}
 use Rattle.interpolator_escapes.proofs.FormatPartLemmas.{escaped_parts, plain_parts, format_read}
 use Rattle.interpolator_escapes.proofs.PartValueLemmas.{same_values}
 use Rattle.interpolator_escapes.proofs.LanguageLemmas.{keeps, keeps_plain, inner, whole}

@@ -1,15 +1,10 @@
 use Rattle.std.proofs.Common.{refl, codes}
-use Rattle.interpolator_syntax.specs.Arguments.{argument_at}
-use Rattle.interpolator_syntax.specs.Groups.{group_at}
-use Rattle.interpolator_syntax.specs.Lists.{list_at}
-use Rattle.interpolator_syntax.specs.Pieces.{argument_from}
-use Rattle.interpolator_syntax.specs.Ranges.{range_at}
 use Rattle.interpolator_syntax.specs.SpecTexts.{spec_from_sign, spec_after}
-use Rattle.interpolator_syntax.specs.Tokens.{first_token}
+use Rattle.interpolator_syntax.specs.{Arguments.argument_at, Groups.group_at, Lists.list_at}
+use Rattle.interpolator_syntax.specs.{Pieces.argument_from, Ranges.range_at, Tokens.first_token}
 use Rattle.interpolator_syntax.specs.Nodes.{nodes}
-use Rattle.interpolator_escapes.specs.Csv.{quoted, quote_seen}
-use Rattle.interpolator_escapes.specs.Json.{between, in_string}
 use Rattle.interpolator_escapes.specs.Html.{in_base, in_value, double, plain, html_start}
+use Rattle.interpolator_escapes.specs.{Csv.quoted, Csv.quote_seen, Json.between, Json.in_string}
 use Rattle.interpolator_escapes.proofs.laws.worked_places.Goals as goal
 
 pub returns : goal.returns

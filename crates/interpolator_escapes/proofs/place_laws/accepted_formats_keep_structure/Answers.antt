@@ -1,21 +1,18 @@
 use Rattle.std.proofs.Common.{◌≡◌, None, inl}
-use Rattle.interpolator_render.specs.declared.view.Spec.{Spec}
-use Rattle.interpolator_render.specs.declared.view.Trait.{Trait}
+use Rattle.interpolator_render.specs.{declared.view.Spec.Spec, declared.view.Trait.Trait}
 use Rattle.interpolator_render.specs.Views.{Shown}
 use Rattle.interpolator_syntax.specs.At.{At}
-use Rattle.interpolator_eval.specs.Meaning.Environments.{Environment}
-use Rattle.interpolator_eval.specs.Meaning.Meanings.{means}
+use Rattle.interpolator_eval.specs.{Meaning.Environments.Environment, Meaning.Meanings.means}
 use Rattle.interpolator_escapes.specs.Csv.{field_start, csv_step, is_csv_place}
 use Rattle.interpolator_escapes.specs.Escapes.{html_escape, csv_escape, json_escape, shell_escape}
-use Rattle.interpolator_escapes.specs.Formats.{escaped_shows, shows_nothing}
 use Rattle.interpolator_escapes.specs.Html.{html_start, html_step, is_html_place}
 use Rattle.interpolator_escapes.specs.Json.{between, json_step, is_json_place}
-use Rattle.interpolator_escapes.specs.Lines.{control_step, everywhere}
-use Rattle.interpolator_escapes.specs.Placing.{StandsFor, structure_for}
 use Rattle.interpolator_escapes.specs.Shell.{outside, shell_step, is_shell_place}
-use Rattle.interpolator_escapes.specs.declared.escape.Escape.{Escape}
 use Rattle.interpolator_escapes.specs.declared.escape.Escape.TheVariants.{Line, Html, Csv, Json}
 use Rattle.interpolator_escapes.specs.declared.escape.Escape.TheVariants.{Shell}
+use Rattle.interpolator_escapes.specs.{Formats.escaped_shows, Formats.shows_nothing}
+use Rattle.interpolator_escapes.specs.{Lines.control_step, Lines.everywhere, Placing.StandsFor}
+use Rattle.interpolator_escapes.specs.{Placing.structure_for, declared.escape.Escape.Escape}
 use Rattle.interpolator_escapes.proofs.FormatLemmas.{escaped_structure, view_quiet}
 use Rattle.interpolator_escapes.proofs.JsonLemmas.{json_inner, whole_stays}
 use Rattle.interpolator_escapes.proofs.ControlLemmas.{controls_quiet}

@@ -1,11 +1,10 @@
 use Rattle.std.proofs.Common.{rules, arith, ◌≡◌, ◌<◌, length, true}
 use Rattle.std.proofs.lemmas.Result.{err_from_is_err_and}
 use Rattle.interpolator_pieces.specs.declared.piece.Piece.TheViews.{out-Piece, size-Piece}
-use Rattle.interpolator_pieces.specs.Stored.{detail_of}
-use Rattle.interpolator_pieces.specs.StoredLists.{is_list_form}
+use Rattle.interpolator_pieces.specs.{Stored.detail_of, StoredLists.is_list_form}
 use Rattle.interpolator_pieces.proofs.RunLemmas.{text_fits}
-use Rattle.interpolator_pieces.proofs.WholePieceLemmas.{fits_text, piece_whole, most_at}
-use Rattle.interpolator_pieces.proofs.WholePieceLemmas.{in_item, in_join}
+use Rattle.interpolator_pieces.proofs.WholePieceLemmas.{fits_text, piece_whole, most_at, in_item}
+use Rattle.interpolator_pieces.proofs.WholePieceLemmas.{in_join}
 use Rattle.interpolator_escapes.proofs.PlacingLemmas.{text_told, broken_told, value_told}
 use Rattle.interpolator_escapes.proofs.PlacingLemmas.{plain_told, item_told, join_told, fill_told}
 use Rattle.interpolator_escapes.proofs.PlacingLemmas.{lies, list_lies, plain_lies, value_lies}

@@ -1,7 +1,6 @@
 use Rattle.std.proofs.Common.{arith, sym, ap, ◌∙◌}
 use Rattle.std.proofs.lemmas.Iterator.{YieldsList-from_chars}
-use Rattle.std.proofs.lemmas.Iterator.Consumers.{YieldsList-end}
-use Rattle.std.proofs.lemmas.List.{map-id}
+use Rattle.std.proofs.{lemmas.Iterator.Consumers.YieldsList-end, lemmas.List.map-id}
 use Rattle.interpolator_escapes.specs.Readers.{state_after}
 use Rattle.interpolator_escapes.proofs.ReaderLemmas.{state-append}
 use Rattle.interpolator_escapes.proofs.placing.read_text.Goals as goal

@@ -1,8 +1,7 @@
 use Rattle.std.proofs.Common.{◌≡◌, drop}
 use Rattle.interpolator_syntax.specs.Nodes.{as_forest}
 use Rattle.interpolator_pieces.specs.Stored.{nodes_of}
-use Rattle.interpolator_escapes.specs.CodeRecords.{spot_of}
-use Rattle.interpolator_escapes.specs.RecordFormats.{after_forest}
+use Rattle.interpolator_escapes.specs.{CodeRecords.spot_of, RecordFormats.after_forest}
 use Rattle.interpolator_escapes.proofs.records.+record.Given as goal
 
 -- the pieces that are left, from here, lead where all do

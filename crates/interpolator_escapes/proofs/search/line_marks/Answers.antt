@@ -1,5 +1,4 @@
-use Rattle.std.proofs.Common.{refl, bit_and}
-use Rattle.std.proofs.lemmas.Simd.{zip2_splat}
+use Rattle.std.proofs.{Common.refl, Common.bit_and, lemmas.Simd.zip2_splat}
 use Rattle.interpolator_escapes.specs.Search.{may_begin_escaped}
 use Rattle.interpolator_escapes.specs.declared.escape.Escape.TheVariants.{Line}
 use Rattle.interpolator_escapes.proofs.MarkLemmas.{marks_are, either, changed, equal, below}

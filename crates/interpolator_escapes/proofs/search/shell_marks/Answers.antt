@@ -1,5 +1,4 @@
-use Rattle.std.proofs.Common.{refl}
-use Rattle.std.proofs.lemmas.Simd.{zip2_splat}
+use Rattle.std.proofs.{Common.refl, lemmas.Simd.zip2_splat}
 use Rattle.interpolator_escapes.specs.Search.{may_begin_escaped}
 use Rattle.interpolator_escapes.specs.declared.escape.Escape.TheVariants.{Shell}
 use Rattle.interpolator_escapes.proofs.MarkLemmas.{marks_are, equal}

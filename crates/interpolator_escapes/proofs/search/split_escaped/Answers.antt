@@ -1,6 +1,5 @@
 use Rattle.std.proofs.Common.{arith, ◌≡◌, IsCharBoundary}
-use Rattle.std.proofs.lemmas.Grind.{common_steps}
-use Rattle.std.proofs.lemmas.Str.{IsUtf8-past_char, IsUtf8-drop}
+use Rattle.std.proofs.lemmas.{Grind.common_steps, Str.IsUtf8-past_char, Str.IsUtf8-drop}
 use Rattle.interpolator_escapes.proofs.SearchLemmas.{front_boundary, found_parts, found_none}
 use Rattle.interpolator_escapes.proofs.search.split_escaped.Goals as goal
 

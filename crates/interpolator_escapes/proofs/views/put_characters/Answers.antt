@@ -1,7 +1,6 @@
 use Rattle.std.proofs.Common.{arith}
 use Rattle.interpolator_escapes.specs.Escapes.{escape_of}
-use Rattle.interpolator_escapes.proofs.EscapingLemmas.{escape_some}
-use Rattle.interpolator_escapes.proofs.PassingLemmas.{refused_before}
+use Rattle.interpolator_escapes.proofs.{EscapingLemmas.escape_some, PassingLemmas.refused_before}
 use Rattle.interpolator_escapes.proofs.views.put_characters.Goals as goal
 
 pub returns-then-refused : goal.returns-then-refused

@@ -1,10 +1,8 @@
 use Rattle.std.proofs.Common.{◌≡◌, [], ◌∷◌, arith, map, rules}
-use Rattle.std.proofs.lemmas.Grind.{common_steps}
-use Rattle.interpolator_eval.specs.Escaping.{shows_by}
-use Rattle.interpolator_eval.specs.Slots.{slots_of}
-use Rattle.interpolator_eval.specs.Meaning.CodeEnvironments.{environment_of}
-use Rattle.std.proofs.lemmas.Result.{err_from_is_err_and}
+use Rattle.std.proofs.{lemmas.Grind.common_steps, lemmas.Result.err_from_is_err_and}
 use Rattle.interpolator_eval.specs.Meaning.Sources.{list_item, list_items, list_join}
+use Rattle.interpolator_eval.specs.{Escaping.shows_by, Slots.slots_of}
+use Rattle.interpolator_eval.specs.Meaning.CodeEnvironments.{environment_of}
 use Rattle.interpolator_eval.proofs.MeaningLemmas.ListLemmas.{first_passed, item_passed, item_stops}
 use Rattle.interpolator_eval.proofs.MeaningLemmas.ListLemmas.{items_done, join_stops, one_item}
 use Rattle.interpolator_eval.proofs.MeaningLemmas.PlainItemLemmas.{item_framed, item_framed_pieces}

@@ -1,9 +1,8 @@
 use Rattle.std.proofs.Common.{◌+◌, ◌*◌, ◌≤◌, drop}
-use Rattle.interpolator_eval.specs.Escaping.{shows_by}
-use Rattle.interpolator_eval.specs.Slots.{slots_of}
-use Rattle.interpolator_eval.specs.Meaning.CodeEnvironments.{environment_of}
 use Rattle.interpolator_eval.specs.Meaning.Sources.{list_join, list_join_work, list_item}
 use Rattle.interpolator_eval.specs.Meaning.Sources.{list_item_work}
+use Rattle.interpolator_eval.specs.{Escaping.shows_by, Slots.slots_of}
+use Rattle.interpolator_eval.specs.Meaning.CodeEnvironments.{environment_of}
 use Rattle.interpolator_eval.proofs.MeaningLemmas.ListLemmas.{ItemsPassed}
 use Rattle.interpolator_eval.proofs.MeaningLemmas.SourceLemmas.{ListsPassed, asked_size}
 use Rattle.interpolator_eval.proofs.MeaningLemmas.SourceLemmas.{forest_size}

@@ -1,7 +1,6 @@
 use Rattle.std.proofs.Common.{◌≡◌, ◌+◌, ◌*◌, ◌^◌, ◌<◌, suc, ap, arith, subst, sym, ◌∙◌, pow-suc}
 use Rattle.interpolator_floats.proofs.RoundedLemmas.{count_least, count_most}
-use Rattle.interpolator_floats.proofs.StepLemmas.{count_some}
-use Rattle.interpolator_floats.proofs.UnitLemmas.{unit_some}
+use Rattle.interpolator_floats.proofs.{StepLemmas.count_some, UnitLemmas.unit_some}
 use Rattle.interpolator_floats.specs.Shortest.{units_down, units_up}
 use Rattle.interpolator_floats.proofs.rounding.round_to.Goals as goal
 

@@ -1,9 +1,7 @@
 use Rattle.std.proofs.Common.{◌-◌, arith}
-use Rattle.interpolator_floats.proofs.DecideLemmas.{choice_some}
-use Rattle.interpolator_floats.proofs.ReadLemmas.{slack-le}
-use Rattle.interpolator_floats.proofs.BoundLemmas.{slack}
 use Rattle.interpolator_floats.proofs.ScaledLemmas.{short_scale, wide_choice}
-use Rattle.interpolator_floats.proofs.UnitLemmas.{step_some}
+use Rattle.interpolator_floats.proofs.{DecideLemmas.choice_some, ReadLemmas.slack-le}
+use Rattle.interpolator_floats.proofs.{BoundLemmas.slack, UnitLemmas.step_some}
 use Rattle.interpolator_floats.specs.Shortest.{units_down, units_up}
 use Rattle.interpolator_floats.proofs.shortest.short_scaled_choice.Goals as goal
 

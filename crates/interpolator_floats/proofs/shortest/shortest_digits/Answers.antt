@@ -2,8 +2,7 @@ use Rattle.std.proofs.Common.{◌*◌, ◌<◌, ◌^◌, ap, arith, inl, refl, s
 use lib.Ieee.{binary64}
 use Rattle.interpolator_floats.proofs.ChosenLemmas.{shortest_of_mantissa, shortest_of_zero}
 use Rattle.interpolator_floats.proofs.ShortestLemmas.{any_size, is_mantissa, zero_shortest}
-use Rattle.interpolator_floats.specs.Floats.{has_minus}
-use Rattle.interpolator_floats.specs.Shortest.{IsShortest}
+use Rattle.interpolator_floats.specs.{Floats.has_minus, Shortest.IsShortest}
 use Rattle.interpolator_floats.proofs.shortest.shortest_digits.Goals as goal
 
 pub returns-then-parts-eq0-clause-shortest : goal.returns-then-parts-eq0-clause-shortest

@@ -1,10 +1,7 @@
 use Rattle.std.proofs.Common.{refl}
-use Rattle.interpolator_syntax.specs.Arguments.{argument_at}
-use Rattle.interpolator_syntax.specs.Groups.{group_at}
-use Rattle.interpolator_syntax.specs.Lists.{list_at}
-use Rattle.interpolator_syntax.specs.Pieces.{pieces, argument_from}
-use Rattle.interpolator_syntax.specs.Ranges.{range_at}
-use Rattle.interpolator_syntax.specs.SpecTexts.{spec_from_sign, spec_after}
+use Rattle.interpolator_syntax.specs.{Arguments.argument_at, Groups.group_at, Lists.list_at}
+use Rattle.interpolator_syntax.specs.{Pieces.pieces, Pieces.argument_from, Ranges.range_at}
+use Rattle.interpolator_syntax.specs.{SpecTexts.spec_from_sign, SpecTexts.spec_after}
 use Rattle.interpolator_pieces.specs.AllArguments.{arguments_of}
 use Rattle.interpolator_pieces.proofs.AllArgumentLemmas.{arguments_pieces}
 use Rattle.interpolator_laws.proofs.all_arguments.arguments_are_those_of_the_pieces.Goals as goal

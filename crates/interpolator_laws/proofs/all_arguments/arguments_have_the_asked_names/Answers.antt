@@ -1,12 +1,8 @@
 use Rattle.std.proofs.Common.{refl}
-use Rattle.interpolator_syntax.specs.Arguments.{argument_at}
-use Rattle.interpolator_syntax.specs.Groups.{group_at}
-use Rattle.interpolator_syntax.specs.Lists.{list_at}
 use Rattle.interpolator_syntax.specs.Pieces.{pieces, argument_from}
-use Rattle.interpolator_syntax.specs.Ranges.{range_at}
 use Rattle.interpolator_syntax.specs.SpecTexts.{spec_from_sign, spec_after}
-use Rattle.interpolator_syntax.specs.Nodes.{nodes}
-use Rattle.interpolator_syntax.specs.Tokens.{first_token}
+use Rattle.interpolator_syntax.specs.{Arguments.argument_at, Groups.group_at, Lists.list_at}
+use Rattle.interpolator_syntax.specs.{Ranges.range_at, Nodes.nodes, Tokens.first_token}
 use Rattle.interpolator_pieces.specs.AllArguments.{arguments_of}
 use Rattle.interpolator_pieces.proofs.AllArgumentLemmas.{arguments_name}
 use Rattle.interpolator_laws.proofs.all_arguments.arguments_have_the_asked_names.Goals as goal

@@ -1,9 +1,7 @@
 use Rattle.std.proofs.Common.{chars, ◌≡◌, [], filter}
 use Rattle.interpolator_syntax.specs.At.{outermost}
-use Rattle.interpolator_eval.specs.Meaning.Environments.{environment}
-use Rattle.interpolator_eval.specs.Meaning.Meanings.{means}
-use Rattle.interpolator_escapes.specs.Escapes.{is_control}
-use Rattle.interpolator_escapes.specs.Formats.{escaped_shows}
+use Rattle.interpolator_eval.specs.{Meaning.Environments.environment, Meaning.Meanings.means}
+use Rattle.interpolator_escapes.specs.{Escapes.is_control, Formats.escaped_shows}
 use Rattle.interpolator_laws.proofs.EscapedLemmas.{made_text, line_meant}
 use Rattle.interpolator_laws.proofs.escaped.a_line_stays_a_line.Goals as goal
 

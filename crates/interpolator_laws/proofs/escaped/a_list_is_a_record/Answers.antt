@@ -1,11 +1,8 @@
 use Rattle.std.proofs.Common.{chars, ◌≡◌, ◌∷◌, map}
 use Rattle.interpolator_syntax.specs.At.{outermost}
-use Rattle.interpolator_eval.specs.Meaning.Environments.{environment}
-use Rattle.interpolator_eval.specs.Meaning.Meanings.{means}
-use Rattle.interpolator_escapes.specs.Formats.{escaped_shows}
-use Rattle.interpolator_escapes.specs.Languages.{read_by}
-use Rattle.interpolator_escapes.specs.Records.{fields_of, item_text}
-use Rattle.interpolator_escapes.specs.declared.escape.Escape.TheVariants.{Csv}
+use Rattle.interpolator_eval.specs.{Meaning.Environments.environment, Meaning.Meanings.means}
+use Rattle.interpolator_escapes.specs.{Formats.escaped_shows, Languages.read_by, Records.fields_of}
+use Rattle.interpolator_escapes.specs.{Records.item_text, declared.escape.Escape.TheVariants.Csv}
 use Rattle.interpolator_laws.proofs.EscapedLemmas.{made_text, row_meant}
 use Rattle.interpolator_laws.proofs.escaped.a_list_is_a_record.Goals as goal
 

@@ -1,7 +1,6 @@
 use Rattle.std.proofs.Common.{chars}
 use Rattle.interpolator_syntax.specs.At.{outermost}
-use Rattle.interpolator_eval.specs.Meaning.Environments.{environment}
-use Rattle.interpolator_eval.specs.Meaning.Meanings.{means}
+use Rattle.interpolator_eval.specs.{Meaning.Environments.environment, Meaning.Meanings.means}
 use Rattle.interpolator_escapes.specs.Formats.{escaped_shows}
 use Rattle.interpolator_laws.proofs.EscapedLemmas.{same_answer}
 use Rattle.interpolator_laws.proofs.escaped.an_escape_makes_no_fault.Goals as goal

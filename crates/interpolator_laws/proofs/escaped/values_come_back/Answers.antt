@@ -1,10 +1,8 @@
 use Rattle.std.proofs.Common.{chars, ◌≡◌}
 use Rattle.interpolator_syntax.specs.At.{outermost}
-use Rattle.interpolator_eval.specs.Meaning.Environments.{environment}
-use Rattle.interpolator_eval.specs.Meaning.Meanings.{means}
-use Rattle.interpolator_escapes.specs.FormatParts.{parts_by}
-use Rattle.interpolator_escapes.specs.Formats.{escaped_shows}
+use Rattle.interpolator_eval.specs.{Meaning.Environments.environment, Meaning.Meanings.means}
 use Rattle.interpolator_escapes.specs.Languages.{read_by, read_parts_by}
+use Rattle.interpolator_escapes.specs.{FormatParts.parts_by, Formats.escaped_shows}
 use Rattle.interpolator_escapes.proofs.LanguageLemmas.{stands_in}
 use Rattle.interpolator_laws.proofs.EscapedLemmas.{made_text}
 use Rattle.interpolator_laws.proofs.escaped.values_come_back.Goals as goal

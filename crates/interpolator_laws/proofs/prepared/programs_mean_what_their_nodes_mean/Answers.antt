@@ -1,9 +1,7 @@
 use lib.Utf8.{encode}
 use Rattle.std.proofs.Common.{refl}
-use Rattle.interpolator_syntax.specs.Arguments.{argument_at}
-use Rattle.interpolator_syntax.specs.Pieces.{argument_from}
-use Rattle.interpolator_syntax.specs.Nodes.{nodes}
 use Rattle.interpolator_syntax.specs.SpecTexts.{spec_from_sign, spec_after}
+use Rattle.interpolator_syntax.specs.{Arguments.argument_at, Pieces.argument_from, Nodes.nodes}
 use Rattle.interpolator_syntax.specs.Tokens.{first_token}
 use Rattle.interpolator_prepared.proofs.ProgramLemmas.{program_means}
 use Rattle.interpolator_laws.proofs.prepared.programs_mean_what_their_nodes_mean.Goals as goal

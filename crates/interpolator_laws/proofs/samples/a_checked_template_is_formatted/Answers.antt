@@ -1,9 +1,7 @@
 use Rattle.std.proofs.Common.{chars}
 use Rattle.interpolator_syntax.specs.At.{outermost}
-use Rattle.interpolator_eval.specs.Meaning.Environments.{environment}
-use Rattle.interpolator_eval.specs.Meaning.Meanings.{means}
-use Rattle.interpolator_laws.proofs.ResembleLemmas.{no_fault}
-use Rattle.interpolator_laws.proofs.UnfailingLemmas.{only_memory_refused}
+use Rattle.interpolator_eval.specs.{Meaning.Environments.environment, Meaning.Meanings.means}
+use Rattle.interpolator_laws.proofs.{ResembleLemmas.no_fault, UnfailingLemmas.only_memory_refused}
 use Rattle.interpolator_laws.proofs.samples.a_checked_template_is_formatted.Goals as goal
 
 pub returns-clause-refused : goal.returns-clause-refused

@@ -1,9 +1,6 @@
 use Rattle.std.proofs.Common.{refl}
-use Rattle.interpolator_syntax.specs.Arguments.{argument_at}
-use Rattle.interpolator_syntax.specs.Pieces.{argument_from}
-use Rattle.interpolator_syntax.specs.SpecTexts.{spec_after}
-use Rattle.interpolator_syntax.specs.Tokens.{first_token}
-use Rattle.interpolator_syntax.specs.Nodes.{nodes}
+use Rattle.interpolator_syntax.specs.{Arguments.argument_at, Pieces.argument_from}
+use Rattle.interpolator_syntax.specs.{SpecTexts.spec_after, Tokens.first_token, Nodes.nodes}
 use Rattle.interpolator_eval.proofs.MeaningLemmas.MeaningLemmas.{forest_joined}
 use Rattle.interpolator_pieces.proofs.WholePieceLemmas.{rest_fits}
 use Rattle.interpolator_laws.proofs.templates.rest_of_the_pieces_follows.Goals as goal

@@ -1,7 +1,6 @@
 use denote.Param.Weighed.{most}
 use Rattle.std.proofs.Common.{◌≡◌, ℕ, List, take, ◌+◌, ◌*◌}
-use Rattle.interpolator_pieces.specs.Stored.{nodes_of}
-use Rattle.interpolator_pieces.specs.declared.piece.Piece.TheViews.{size-Piece}
+use Rattle.interpolator_pieces.specs.{Stored.nodes_of, declared.piece.Piece.TheViews.size-Piece}
 use Rattle.interpolator_pieces.proofs.WholePieceLemmas.{group_most}
 use Rattle.interpolator_pieces.proofs.copy.+copy.Given as goal
 

@@ -1,6 +1,5 @@
 use Rattle.std.proofs.Common.{arith}
-use Rattle.interpolator_pieces.proofs.CostLemmas.{form_told}
-use Rattle.interpolator_pieces.proofs.RunLemmas.{text_fits}
+use Rattle.interpolator_pieces.proofs.{CostLemmas.form_told, RunLemmas.text_fits}
 use Rattle.interpolator_pieces.proofs.WholePieceLemmas.{fits_text}
 use Rattle.interpolator_pieces.proofs.cost.content_cost.Goals as goal
 

@@ -1,7 +1,6 @@
 use Rattle.std.proofs.Common.{rules}
 use Rattle.interpolator_eval.specs.Escaping.{shows_by}
-use Rattle.interpolator_pieces.proofs.CallLemmas.{text_written}
-use Rattle.interpolator_pieces.proofs.ListTextLemmas.{or_else}
+use Rattle.interpolator_pieces.proofs.{CallLemmas.text_written, ListTextLemmas.or_else}
 use Rattle.interpolator_pieces.proofs.formatting.write_once.Goals as goal
 
 pub returns : goal.returns

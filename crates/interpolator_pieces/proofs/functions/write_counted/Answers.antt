@@ -1,9 +1,7 @@
 use Rattle.std.proofs.Common.{arith, rules, chars, IsUtf8}
 use Rattle.interpolator_syntax.specs.At.{outermost}
-use Rattle.interpolator_eval.specs.Meaning.Environments.{environment}
-use Rattle.interpolator_eval.specs.Escaping.{shows_by}
-use Rattle.interpolator_pieces.proofs.CallLemmas.{text_written}
-use Rattle.interpolator_pieces.proofs.CostLawLemmas.{text_at_most}
+use Rattle.interpolator_eval.specs.{Meaning.Environments.environment, Escaping.shows_by}
+use Rattle.interpolator_pieces.proofs.{CallLemmas.text_written, CostLawLemmas.text_at_most}
 use Rattle.interpolator_pieces.proofs.RunLemmas.{text_whole}
 use Rattle.interpolator_pieces.proofs.functions.write_counted.Goals as goal
 

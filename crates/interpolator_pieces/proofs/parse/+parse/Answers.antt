@@ -1,16 +1,15 @@
 use Rattle.std.proofs.Common.{refl, sym, arith, rules}
-use Rattle.interpolator_syntax.specs.At.{at}
 use Rattle.interpolator_syntax.specs.declared.piece_kind.PieceKind.TheVariants.{Literal, Doubled}
 use Rattle.interpolator_syntax.specs.declared.piece_kind.PieceKind.TheVariants.{LoneClose}
-use Rattle.interpolator_syntax.specs.Tokens.{argument}
+use Rattle.interpolator_syntax.specs.{At.at, Tokens.argument}
 use Rattle.interpolator_syntax.proofs.TokenLemmas.{scan_shorter, token_shorter}
+use Rattle.interpolator_syntax.proofs.TokenTextLemmas.{takes_token}
 use Rattle.interpolator_eval.proofs.MeaningLemmas.GroupSizeLemmas.{groups_within}
 use Rattle.interpolator_eval.proofs.MeaningLemmas.ScanLemmas.{asked_ok, asked_broken}
 use Rattle.interpolator_pieces.proofs.WithinLemmas.{after_front}
-use Rattle.interpolator_syntax.proofs.TokenTextLemmas.{takes_token}
-use Rattle.interpolator_pieces.proofs.ParseLemmas.{rest_is, list_pushed, broken_is}
-use Rattle.interpolator_pieces.proofs.ParseLemmas.{left_within, text_reads, name_pushed}
-use Rattle.interpolator_pieces.proofs.ParseLemmas.{name_closes, name_rest, reads_on, all_read}
+use Rattle.interpolator_pieces.proofs.ParseLemmas.{rest_is, list_pushed, broken_is, left_within}
+use Rattle.interpolator_pieces.proofs.ParseLemmas.{text_reads, name_pushed, name_closes, name_rest}
+use Rattle.interpolator_pieces.proofs.ParseLemmas.{reads_on, all_read}
 use Rattle.interpolator_pieces.proofs.parse.+parse.Goals as goal
 
 pub parse_pieces-push_argument-requires : goal.parse_pieces-push_argument-requires

@@ -1,6 +1,5 @@
 use Rattle.std.proofs.Common.{length, ◌+◌, ◌*◌, option_map, chars}
-use Rattle.interpolator_syntax.specs.At.{at}
-use Rattle.interpolator_syntax.specs.Groups.{group_of}
+use Rattle.interpolator_syntax.specs.{At.at, Groups.group_of}
 use Rattle.interpolator_eval.proofs.MeaningLemmas.GroupSizeLemmas.{group_size}
 use Rattle.interpolator_pieces.proofs.ParseLemmas.{Reading}
 use Rattle.interpolator_pieces.proofs.parse.+parse.Given as goal

@@ -1,6 +1,5 @@
 use Rattle.std.proofs.Common.{rules, arith, ◌<◌, ◌^◌, length}
-use Rattle.interpolator_pieces.proofs.RunLemmas.{part_within}
-use Rattle.interpolator_pieces.proofs.StoredLemmas.{detail_bare}
+use Rattle.interpolator_pieces.proofs.{RunLemmas.part_within, StoredLemmas.detail_bare}
 use Rattle.interpolator_pieces.proofs.piece.part_of.Goals as goal
 
 pub bare_from-requires : goal.bare_from-requires

@@ -1,7 +1,6 @@
 use Rattle.std.proofs.Common.{◌≡◌, ℕ, List, drop}
-use Rattle.interpolator_pieces.specs.NodePlaces.{argument_among}
+use Rattle.interpolator_pieces.specs.{NodePlaces.argument_among, Stored.nodes_of}
 use Rattle.interpolator_syntax.specs.Nodes.{as_forest}
-use Rattle.interpolator_pieces.specs.Stored.{nodes_of}
 use Rattle.interpolator_pieces.proofs.place.+place.Given as goal
 
 -- no piece so far has the place

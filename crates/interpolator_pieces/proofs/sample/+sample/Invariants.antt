@@ -1,9 +1,7 @@
 use Rattle.std.proofs.Common.{drop, Option}
-use Rattle.interpolator_syntax.specs.Faults.{Answer}
-use Rattle.interpolator_syntax.specs.Nodes.{as_forest}
+use Rattle.interpolator_syntax.specs.{Faults.Answer, Nodes.as_forest}
 use Rattle.interpolator_eval.specs.Meaning.Samples.{sample_of}
-use Rattle.interpolator_pieces.specs.NodeSamples.{forest_faults_in}
-use Rattle.interpolator_pieces.specs.Stored.{nodes_of}
+use Rattle.interpolator_pieces.specs.{NodeSamples.forest_faults_in, Stored.nodes_of}
 use Rattle.interpolator_pieces.specs.Collecting.{Collects}
 use Rattle.interpolator_pieces.specs.declared.fault_collector.FaultCollector.{FaultCollector}
 use Rattle.interpolator_pieces.proofs.sample.+sample.Given as goal

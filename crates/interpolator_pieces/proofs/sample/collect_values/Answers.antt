@@ -1,5 +1,4 @@
-use Rattle.std.proofs.Common.{arith, refl}
-use Rattle.std.proofs.lemmas.Result.{err_from_is_err_and}
+use Rattle.std.proofs.{Common.arith, Common.refl, lemmas.Result.err_from_is_err_and}
 use Rattle.interpolator_syntax.specs.Faults.{missing_trait_impl}
 use Rattle.interpolator_pieces.proofs.CollectLemmas.{collects_before, collects_nothing, shown_right}
 use Rattle.interpolator_pieces.proofs.sample.collect_values.Goals as goal

@@ -1,6 +1,5 @@
 use Rattle.std.proofs.Common.{arith}
-use Rattle.interpolator_pieces.proofs.RunLemmas.{list_fits}
-use Rattle.interpolator_pieces.proofs.WholePieceLemmas.{fits_text}
+use Rattle.interpolator_pieces.proofs.{RunLemmas.list_fits, WholePieceLemmas.fits_text}
 use Rattle.interpolator_pieces.proofs.sample.items_of.Goals as goal
 
 pub name_of-requires : goal.name_of-requires

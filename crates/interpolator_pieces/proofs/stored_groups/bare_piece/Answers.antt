@@ -1,10 +1,6 @@
-use Rattle.std.proofs.Common.{arith}
-use Rattle.std.proofs.lemmas.Grind.{common_steps}
-use Rattle.std.proofs.lemmas.Str.{chars-nil}
-use Rattle.interpolator_pieces.proofs.PlainPieceLemmas.{bare_piece_is}
-use Rattle.interpolator_pieces.proofs.RunLemmas.{name_fits}
-use Rattle.interpolator_pieces.proofs.StoredLemmas.{detail_bare}
-use Rattle.interpolator_pieces.proofs.WholePieceLemmas.{fits_text}
+use Rattle.std.proofs.{Common.arith, lemmas.Grind.common_steps, lemmas.Str.chars-nil}
+use Rattle.interpolator_pieces.proofs.{PlainPieceLemmas.bare_piece_is, RunLemmas.name_fits}
+use Rattle.interpolator_pieces.proofs.{StoredLemmas.detail_bare, WholePieceLemmas.fits_text}
 use Rattle.interpolator_pieces.proofs.stored_groups.bare_piece.Goals as goal
 
 pub name_of-requires : goal.name_of-requires

@@ -1,8 +1,6 @@
 use Rattle.std.proofs.Common.{arith}
-use Rattle.interpolator_pieces.proofs.PlainPieceLemmas.{text_piece_is}
-use Rattle.interpolator_pieces.proofs.RunLemmas.{text_fits}
-use Rattle.interpolator_pieces.proofs.StoredLemmas.{detail_bare}
-use Rattle.interpolator_pieces.proofs.WholePieceLemmas.{fits_text}
+use Rattle.interpolator_pieces.proofs.{PlainPieceLemmas.text_piece_is, RunLemmas.text_fits}
+use Rattle.interpolator_pieces.proofs.{StoredLemmas.detail_bare, WholePieceLemmas.fits_text}
 use Rattle.interpolator_pieces.proofs.stored_groups.text_piece.Goals as goal
 
 pub text_of-requires : goal.text_of-requires

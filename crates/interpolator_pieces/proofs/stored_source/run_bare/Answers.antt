@@ -1,5 +1,4 @@
-use Rattle.std.proofs.Common.{arith}
-use Rattle.std.proofs.lemmas.Result.{err_from_is_err_and}
+use Rattle.std.proofs.{Common.arith, lemmas.Result.err_from_is_err_and}
 use Rattle.interpolator_pieces.proofs.RunLemmas.{closed_done, closed_fault, name_fits, name_held}
 use Rattle.interpolator_pieces.proofs.RunLemmas.{text_fits, text_held}
 use Rattle.interpolator_pieces.proofs.StoredLemmas.{node_of_out, detail_bare}

@@ -1,11 +1,9 @@
-use Rattle.std.proofs.Common.{arith}
-use Rattle.std.proofs.lemmas.Result.{err_from_is_err_and}
+use Rattle.std.proofs.{Common.arith, lemmas.Result.err_from_is_err_and}
 use Rattle.interpolator_eval.proofs.MeaningLemmas.SinkLemmas.{ended, nothing_done}
 use Rattle.interpolator_pieces.proofs.RunLemmas.{broken_held, closed_done, closed_fault, name_fits}
 use Rattle.interpolator_pieces.proofs.RunLemmas.{name_held, text_fits, text_held, value_fits}
 use Rattle.interpolator_pieces.proofs.RunLemmas.{value_held}
-use Rattle.interpolator_pieces.proofs.StoredLemmas.{node_of_out}
-use Rattle.interpolator_pieces.proofs.WholePieceLemmas.{fits_text}
+use Rattle.interpolator_pieces.proofs.{StoredLemmas.node_of_out, WholePieceLemmas.fits_text}
 use Rattle.interpolator_pieces.proofs.stored_source.run_detailed.Goals as goal
 
 pub text_of-requires : goal.text_of-requires

@@ -1,7 +1,6 @@
 use Rattle.std.proofs.Common.{◌≡◌, length, true}
 use Rattle.interpolator_syntax.specs.Nodes.{as_forest}
-use Rattle.interpolator_eval.specs.Escaping.{shows_by}
-use Rattle.interpolator_eval.specs.Meaning.CodeEnvironments.{environment_of}
+use Rattle.interpolator_eval.specs.{Escaping.shows_by, Meaning.CodeEnvironments.environment_of}
 use Rattle.interpolator_eval.proofs.MeaningLemmas.FirstPieceLemmas.{Passed}
 use Rattle.interpolator_pieces.specs.Stored.{forest_whole, nodes_of}
 use Rattle.interpolator_pieces.proofs.stored_source.run_pieces.Given as goal

@@ -2,9 +2,7 @@ use Rattle.std.proofs.Common.{◌≡◌, arith, refl, sym}
 use Rattle.std.proofs.lemmas.Result.{err_from_is_err_and}
 use Rattle.interpolator_render.specs.declared.view.Trait.TheVariants.{Display}
 use Rattle.interpolator_syntax.specs.Arguments.{kind_of_request, list_of}
-use Rattle.interpolator_syntax.specs.At.{at}
-use Rattle.interpolator_syntax.specs.SpecTexts.{of_list}
-use Rattle.interpolator_syntax.specs.Tokens.{argument}
+use Rattle.interpolator_syntax.specs.{At.at, SpecTexts.of_list, Tokens.argument}
 use Rattle.interpolator_syntax.proofs.PieceLemmas.{read_alone}
 use Rattle.interpolator_syntax.proofs.TokenLemmas.{scan_shorter, token_shorter}
 use Rattle.interpolator_eval.proofs.MeaningLemmas.GroupSizeLemmas.{groups_within}

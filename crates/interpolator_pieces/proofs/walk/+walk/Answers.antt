@@ -1,5 +1,4 @@
-use Rattle.std.proofs.Common.{arith, rules}
-use Rattle.std.proofs.lemmas.Result.{err_from_is_err_and}
+use Rattle.std.proofs.{Common.arith, Common.rules, lemmas.Result.err_from_is_err_and}
 use Rattle.interpolator_pieces.specs.declared.piece.Piece.TheViews.{size-Piece}
 use Rattle.interpolator_pieces.proofs.StoredLemmas.{node_of_out, left_next, left_none}
 use Rattle.interpolator_pieces.proofs.WalkLemmas.{walks_one, walks_then, walks_stop, walks_on}

@@ -1,11 +1,9 @@
 use denote.Param.Weighed.{most}
 use Rattle.std.proofs.Common.{drop, ◌+◌, ◌*◌}
-use Rattle.interpolator_pieces.specs.Visits.{forest_visits}
-use Rattle.interpolator_syntax.specs.Nodes.{as_forest}
-use Rattle.interpolator_pieces.specs.Stored.{nodes_of}
-use Rattle.interpolator_pieces.proofs.WalkLemmas.{WalksOn}
-use Rattle.interpolator_pieces.proofs.WholePieceLemmas.{group_most}
+use Rattle.interpolator_pieces.specs.{Visits.forest_visits, Stored.nodes_of}
 use Rattle.interpolator_pieces.specs.declared.piece.Piece.TheViews.{size-Piece}
+use Rattle.interpolator_syntax.specs.Nodes.{as_forest}
+use Rattle.interpolator_pieces.proofs.{WalkLemmas.WalksOn, WholePieceLemmas.group_most}
 use Rattle.interpolator_pieces.proofs.walk.+walk.Given as goal
 
 -- the visits of the pieces that are left end those of all

@@ -1,8 +1,7 @@
 use Rattle.std.proofs.Common.{◌≡◌, ◌++◌, flat_map, length, map, Some, true}
 use Rattle.interpolator_syntax.specs.Nodes.{as_forest}
 use Rattle.interpolator_pieces.specs.Stored.{forest_whole, nodes_of}
-use Rattle.interpolator_prepared.specs.Programs.{program}
-use Rattle.interpolator_prepared.specs.StoredSteps.{steps_of}
+use Rattle.interpolator_prepared.specs.{Programs.program, StoredSteps.steps_of}
 use Rattle.interpolator_prepared.proofs.compile.compile_by.Given as goal
 
 -- the steps so far, and those of the pieces that are left, are the program of all

@@ -1,5 +1,4 @@
-use Rattle.interpolator_prepared.proofs.CompileLemmas.{if_same}
-use Rattle.interpolator_prepared.proofs.KeptLemmas.{kept_is}
+use Rattle.interpolator_prepared.proofs.{CompileLemmas.if_same, KeptLemmas.kept_is}
 use Rattle.interpolator_prepared.proofs.compile.list_step.Goals as goal
 
 pub returns-in-None : goal.returns-in-None

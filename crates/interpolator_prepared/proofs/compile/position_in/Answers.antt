@@ -1,9 +1,8 @@
 use Rattle.std.proofs.Common.{◌≡◌, ◌∙◌, sym, ap, nat_lt, Some}
-use Rattle.std.specs.Str.{chars, encode_utf8_all}
 use Rattle.std.proofs.lemmas.Str.{encodes-chars}
+use Rattle.std.specs.Str.{chars, encode_utf8_all}
 use Rattle.interpolator_prepared.specs.Rows.{last_position}
-use Rattle.interpolator_pieces.specs.Stored.{detail_of}
-use Rattle.interpolator_pieces.specs.StoredMeanings.{stored_part}
+use Rattle.interpolator_pieces.specs.{Stored.detail_of, StoredMeanings.stored_part}
 use Rattle.interpolator_pieces.specs.declared.piece.Piece.TheViews.{out-Piece}
 use Rattle.interpolator_prepared.proofs.CompileLemmas.{named_part}
 use Rattle.interpolator_prepared.proofs.compile.position_in.Goals as goal

@@ -1,6 +1,5 @@
 use Rattle.std.proofs.Common.{◌≡◌, ◌∷◌, rules}
-use Rattle.std.proofs.lemmas.List.{drop_all}
-use Rattle.std.proofs.lemmas.Result.{err_from_is_err_and}
+use Rattle.std.proofs.{lemmas.List.drop_all, lemmas.Result.err_from_is_err_and}
 use Rattle.interpolator_eval.specs.Slots.{slots_of}
 use Rattle.interpolator_eval.proofs.MeaningLemmas.SinkLemmas.{and_then, fault_first, nothing_done}
 use Rattle.interpolator_prepared.proofs.ItemLemmas.{next_item}

@@ -1,12 +1,9 @@
 use Rattle.std.proofs.Common.{map, drop, Option}
 use Rattle.interpolator_syntax.specs.Faults.{Answer}
-use Rattle.interpolator_eval.specs.Slots.{slots_of}
 use Rattle.interpolator_eval.specs.Meaning.Meanings.{items_after, items_mean, text_alone}
-use Rattle.interpolator_eval.specs.Escaping.{shows_by}
-use Rattle.interpolator_eval.specs.Meaning.Outcomes.{Outcome}
+use Rattle.interpolator_eval.specs.{Slots.slots_of, Escaping.shows_by, Meaning.Outcomes.Outcome}
 use Rattle.interpolator_render.specs.Written.{Written}
-use Rattle.interpolator_prepared.specs.Items.{value_under}
-use Rattle.interpolator_prepared.specs.StoredSteps.{joined_text}
+use Rattle.interpolator_prepared.specs.{Items.value_under, StoredSteps.joined_text}
 use Rattle.interpolator_prepared.proofs.items.put_each.Given as goal
 
 -- what was written, and then what the items that are left mean, is what all of them mean

@@ -1,6 +1,5 @@
 use Rattle.std.proofs.lemmas.Result.{err_from_is_err_and}
-use Rattle.interpolator_eval.specs.Slots.{slots_of}
-use Rattle.interpolator_eval.specs.Escaping.{shows_by}
+use Rattle.interpolator_eval.specs.{Slots.slots_of, Escaping.shows_by}
 use Rattle.interpolator_eval.proofs.MeaningLemmas.SinkLemmas.{and_then, fault_first}
 use Rattle.interpolator_prepared.proofs.ItemLemmas.{none_within, some_within}
 use Rattle.interpolator_prepared.proofs.items.put_list.Goals as goal

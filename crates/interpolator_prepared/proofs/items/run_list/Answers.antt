@@ -1,5 +1,4 @@
-use Rattle.std.proofs.Common.{map}
-use Rattle.std.proofs.lemmas.Result.{err_from_is_err_and}
+use Rattle.std.proofs.{Common.map, lemmas.Result.err_from_is_err_and}
 use Rattle.std.specs.Str.{chars}
 use Rattle.interpolator_eval.specs.Slots.{slots_of}
 use Rattle.interpolator_prepared.proofs.ItemLemmas.{compiled_fits, list_refused, list_written}

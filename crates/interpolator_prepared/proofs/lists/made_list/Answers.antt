@@ -1,7 +1,5 @@
-use Rattle.interpolator_pieces.proofs.RunLemmas.{list_fits}
-use Rattle.interpolator_pieces.proofs.WholePieceLemmas.{fits_text}
-use Rattle.interpolator_prepared.proofs.CompileLemmas.{part_fits}
-use Rattle.interpolator_prepared.proofs.SimpleListLemmas.{list_made}
+use Rattle.interpolator_pieces.proofs.{RunLemmas.list_fits, WholePieceLemmas.fits_text}
+use Rattle.interpolator_prepared.proofs.{CompileLemmas.part_fits, SimpleListLemmas.list_made}
 use Rattle.interpolator_prepared.proofs.lists.made_list.Goals as goal
 
 pub name_of-start-requires : goal.name_of-start-requires

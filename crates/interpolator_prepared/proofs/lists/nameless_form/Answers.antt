@@ -1,6 +1,5 @@
 use Rattle.std.specs.Str.{chars}
-use Rattle.interpolator_prepared.proofs.ItemLemmas.{empty_name}
-use Rattle.interpolator_prepared.proofs.SimpleListLemmas.{nameless_item}
+use Rattle.interpolator_prepared.proofs.{ItemLemmas.empty_name, SimpleListLemmas.nameless_item}
 use Rattle.interpolator_prepared.proofs.lists.nameless_form.Goals as goal
 
 pub returns : goal.returns

@@ -1,8 +1,7 @@
 use Rattle.std.proofs.Common.{◌∙◌, ap, map, Some}
 use Rattle.std.specs.Str.{chars}
 use Rattle.interpolator_syntax.specs.At.{outermost}
-use Rattle.interpolator_prepared.specs.Programs.{program}
-use Rattle.interpolator_prepared.specs.Rows.{name_bytes}
+use Rattle.interpolator_prepared.specs.{Programs.program, Rows.name_bytes}
 use Rattle.interpolator_pieces.specs.Stored.{nodes_of}
 use Rattle.interpolator_pieces.proofs.RunLemmas.{text_whole}
 use Rattle.interpolator_prepared.proofs.prepared.prepare_pieces.Goals as goal

@@ -1,6 +1,5 @@
 use Rattle.std.proofs.Common.{rules}
-use Rattle.interpolator_eval.specs.Escaping.{shows_by}
-use Rattle.interpolator_eval.specs.Meaning.Environments.{environment}
+use Rattle.interpolator_eval.specs.{Escaping.shows_by, Meaning.Environments.environment}
 use Rattle.interpolator_pieces.specs.Stored.{node_of}
 use Rattle.interpolator_prepared.specs.Rows.{name_bytes}
 use Rattle.interpolator_prepared.proofs.KeptLemmas.{kept_whole, kept_means}

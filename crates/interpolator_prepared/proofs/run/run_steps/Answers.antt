@@ -1,6 +1,5 @@
 use Rattle.std.proofs.Common.{◌≡◌, arith, length, rules, [], ◌∷◌}
-use Rattle.std.proofs.lemmas.Bool.Decides.{nat_tests}
-use Rattle.std.proofs.lemmas.Result.{err_from_is_err_and}
+use Rattle.std.proofs.{lemmas.Bool.Decides.nat_tests, lemmas.Result.err_from_is_err_and}
 use Rattle.interpolator_eval.specs.Meaning.Environments.{environment}
 use Rattle.interpolator_eval.proofs.MeaningLemmas.SinkLemmas.{and_then, fault_first}
 use Rattle.interpolator_prepared.specs.Rows.{name_bytes}

@@ -1,8 +1,7 @@
 use Rattle.std.proofs.Common.{length, Option}
 use Rattle.std.specs.List.{All}
 use Rattle.interpolator_syntax.specs.Faults.{Answer}
-use Rattle.interpolator_eval.specs.Meaning.Environments.{environment}
-use Rattle.interpolator_eval.specs.Escaping.{shows_by}
+use Rattle.interpolator_eval.specs.{Meaning.Environments.environment, Escaping.shows_by}
 use Rattle.interpolator_eval.specs.Meaning.Outcomes.{Outcome}
 use Rattle.interpolator_render.specs.Written.{Written}
 use Rattle.interpolator_prepared.specs.Rows.{name_bytes}

@@ -2,12 +2,10 @@ use Rattle.std.proofs.Common.{◌≡◌, arith, length, rules, true}
 use Rattle.std.proofs.lemmas.Result.{err_from_is_err_and}
 use Rattle.std.specs.Str.{chars}
 use Rattle.interpolator_syntax.proofs.CharacterLemmas.{size-chars}
-use Rattle.interpolator_eval.specs.Meaning.Environments.{environment}
-use Rattle.interpolator_eval.specs.Escaping.{shows_by}
+use Rattle.interpolator_eval.specs.{Meaning.Environments.environment, Escaping.shows_by}
 use Rattle.interpolator_eval.proofs.MeaningLemmas.PlaceLemmas.{outcome_lies_from}
 use Rattle.interpolator_prepared.specs.Rows.{name_bytes}
-use Rattle.interpolator_prepared.proofs.StepLemmas.{program_fits}
-use Rattle.interpolator_prepared.proofs.WriteLemmas.{row_outcome}
+use Rattle.interpolator_prepared.proofs.{StepLemmas.program_fits, WriteLemmas.row_outcome}
 use Rattle.interpolator_prepared.proofs.written_row.write_row.Goals as goal
 
 pub run_steps-requires : goal.run_steps-requires

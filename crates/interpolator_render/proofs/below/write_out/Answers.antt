@@ -1,6 +1,4 @@
-use Rattle.std.proofs.Common.{arith, length-take}
-use Rattle.std.proofs.Math.Seq.{take-add}
-use Rattle.std.proofs.lemmas.List.{take-take}
+use Rattle.std.proofs.{Common.arith, Common.length-take, Math.Seq.take-add, lemmas.List.take-take}
 use Rattle.interpolator_render.proofs.IoWriterLemmas.{gets_more}
 use Rattle.interpolator_render.proofs.below.write_out.Goals as goal
 

@@ -1,6 +1,5 @@
-use Rattle.std.proofs.Common.{rules, arith}
+use Rattle.std.proofs.{Common.rules, Common.arith, lemmas.Str.len_utf8_bounds}
 use Rattle.std.specs.Char.{IsScalar}
-use Rattle.std.proofs.lemmas.Str.{len_utf8_bounds}
 use Rattle.interpolator_render.proofs.CopyLemmas.{IsUtf8-copies}
 use Rattle.interpolator_render.proofs.copies.put_amid_copies.Goals as goal
 

@@ -1,5 +1,4 @@
-use Rattle.std.proofs.Common.{replicate, append-nil}
-use Rattle.std.proofs.lemmas.Str.{chars-nil}
+use Rattle.std.proofs.{Common.replicate, Common.append-nil, lemmas.Str.chars-nil}
 use Rattle.interpolator_render.proofs.copies.put_other_copies.Goals as goal
 
 pub returns : goal.returns

@@ -1,8 +1,7 @@
 use Rattle.std.proofs.Common.{◌≡◌, ◌-◌, arith, refl}
 use Rattle.std.proofs.lemmas.List.{length-replicate}
 use Rattle.interpolator_render.proofs.CopyLemmas.{copies_more, copies_stop}
-use Rattle.interpolator_render.proofs.LayoutLemmas.{refused_whole}
-use Rattle.interpolator_render.proofs.WrittenLemmas.{stays_within}
+use Rattle.interpolator_render.proofs.{LayoutLemmas.refused_whole, WrittenLemmas.stays_within}
 use Rattle.interpolator_render.proofs.copies.put_runs.Goals as goal
 
 pub returns-in_err-reserve : goal.returns-in_err-reserve

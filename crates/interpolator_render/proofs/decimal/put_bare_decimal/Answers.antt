@@ -1,6 +1,5 @@
 use Rattle.std.proofs.Common.{append_assoc, append-nil, arith, length-append}
-use Rattle.interpolator_render.proofs.DecimalRowLemmas.{few_after}
-use Rattle.interpolator_render.proofs.ExponentRowLemmas.{decimal_digits}
+use Rattle.interpolator_render.proofs.{DecimalRowLemmas.few_after, ExponentRowLemmas.decimal_digits}
 use Rattle.interpolator_render.proofs.decimal.put_bare_decimal.Goals as goal
 
 pub put_sign-requires : goal.put_sign-requires

@@ -1,6 +1,5 @@
 use Rattle.std.proofs.Common.{length-append, arith}
-use Rattle.std.proofs.lemmas.List.{length-replicate}
-use Rattle.std.proofs.lemmas.Str.{chars-IsAscii}
+use Rattle.std.proofs.{lemmas.List.length-replicate, lemmas.Str.chars-IsAscii}
 use Rattle.interpolator_render.proofs.DecimalRowLemmas.{decimal_parts}
 use Rattle.interpolator_render.proofs.decimal_parts.put_padded_decimal.Goals as goal
 

@@ -1,5 +1,4 @@
-use Rattle.std.proofs.Common.{arith}
-use Rattle.std.proofs.lemmas.List.{length-replicate}
+use Rattle.std.proofs.{Common.arith, lemmas.List.length-replicate}
 use Rattle.interpolator_digits.proofs.DigitLemmas.{digit_text_some, one_count}
 use Rattle.interpolator_render.proofs.ExponentRowLemmas.{more_digits, leading_pieces, alone_pieces}
 use Rattle.interpolator_render.proofs.exponent.put_leading.Goals as goal

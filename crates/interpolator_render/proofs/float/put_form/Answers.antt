@@ -1,9 +1,8 @@
 use Rattle.std.proofs.Common.{subst, sym, ◌∙◌, arith}
-use Rattle.std.specs.Str.{IsAscii}
 use Rattle.std.proofs.lemmas.Str.{IsAscii-drop, IsAscii-take}
+use Rattle.std.specs.Str.{IsAscii}
 use Rattle.interpolator_floats.specs.ExponentTexts.{signed_tail}
-use Rattle.interpolator_render.proofs.ExponentRowLemmas.{grown_alone}
-use Rattle.interpolator_render.proofs.FloatRowLemmas.{form_parts}
+use Rattle.interpolator_render.proofs.{ExponentRowLemmas.grown_alone, FloatRowLemmas.form_parts}
 use Rattle.interpolator_render.proofs.float.put_form.Goals as goal
 
 pub put_padded_decimal-requires-clause-whole : goal.put_padded_decimal-requires-clause-whole

@@ -1,6 +1,5 @@
-use Rattle.std.proofs.Common.{arith}
+use Rattle.std.proofs.{Common.arith, lemmas.Str.chars-IsAscii}
 use Rattle.std.specs.Str.{chars}
-use Rattle.std.proofs.lemmas.Str.{chars-IsAscii}
 use Rattle.interpolator_render.proofs.quoting.put_code.Goals as goal
 
 pub returns : goal.returns

@@ -1,5 +1,4 @@
-use Rattle.std.proofs.Common.{arith}
-use Rattle.std.proofs.lemmas.Result.{err_from_is_err_and}
+use Rattle.std.proofs.{Common.arith, lemmas.Result.err_from_is_err_and}
 use Rattle.interpolator_render.specs.Quoting.{escape_of}
 use Rattle.interpolator_render.proofs.QuotingLemmas.{escaped_wide, runs_none, runs_plain}
 use Rattle.interpolator_render.proofs.QuotingLemmas.{runs_escaped, runs_stop, runs_last}

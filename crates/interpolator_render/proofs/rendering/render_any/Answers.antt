@@ -1,5 +1,4 @@
-use Rattle.std.proofs.Common.{arith}
-use Rattle.std.proofs.lemmas.Int.{to_z-of_z}
+use Rattle.std.proofs.{Common.arith, lemmas.Int.to_z-of_z}
 use Rattle.interpolator_render.specs.Texts.{view_text}
 use Rattle.interpolator_render.proofs.RenderingLemmas.{renders_puts, signed_text}
 use Rattle.interpolator_render.proofs.rendering.render_any.Goals as goal

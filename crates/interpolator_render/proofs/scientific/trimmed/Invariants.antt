@@ -1,6 +1,5 @@
 use Rattle.std.proofs.Common.{◌≡◌, false}
-use Rattle.interpolator_digits.specs.Digits.{digit_text}
-use Rattle.interpolator_digits.specs.Exponent.{significant_digits}
+use Rattle.interpolator_digits.specs.{Digits.digit_text, Exponent.significant_digits}
 use Rattle.interpolator_render.proofs.scientific.trimmed.Given as goal
 
 abbrev pub invariant-loop-rest : goal.invariant-loop-rest

@@ -1,8 +1,6 @@
 use Rattle.std.proofs.Common.{◌≡◌, ◌≤◌, ◌+◌, length}
-use Rattle.interpolator_syntax.specs.At.{at, after}
-use Rattle.interpolator_syntax.specs.Classes.{front_of, in_class}
-use Rattle.interpolator_syntax.specs.Numbers.{digits_after}
-use Rattle.interpolator_syntax.specs.declared.class.Class.TheVariants.{Number}
+use Rattle.interpolator_syntax.specs.{At.at, At.after, Classes.front_of, Classes.in_class}
+use Rattle.interpolator_syntax.specs.{Numbers.digits_after, declared.class.Class.TheVariants.Number}
 use Rattle.interpolator_syntax.proofs.number.take_digits.Given as goal
 
 -- the run that is left, after the digits that were read, is the whole

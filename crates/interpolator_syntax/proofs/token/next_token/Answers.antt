@@ -1,5 +1,4 @@
-use Rattle.std.proofs.Common.{arith}
-use Rattle.std.proofs.lemmas.Grind.{common_steps}
+use Rattle.std.proofs.{Common.arith, lemmas.Grind.common_steps}
 use Rattle.interpolator_syntax.proofs.StripLemmas.{literals_scanned}
 use Rattle.interpolator_syntax.proofs.token.next_token.Goals as goal
 

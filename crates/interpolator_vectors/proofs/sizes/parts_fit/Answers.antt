@@ -1,5 +1,4 @@
-use Rattle.std.proofs.Common.{ap, arith}
-use Rattle.std.proofs.lemmas.List.{drop_all}
+use Rattle.std.proofs.{Common.ap, Common.arith, lemmas.List.drop_all}
 use Rattle.interpolator.specs.Meaning.Parts.{bytes_of}
 use Rattle.interpolator.proofs.PartLemmas.{rest_at}
 use Rattle.interpolator_vectors.proofs.sizes.parts_fit.Goals as goal

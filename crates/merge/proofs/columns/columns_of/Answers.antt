@@ -1,8 +1,6 @@
 use Rattle.std.proofs.Common.{◌∙◌, List, ap, map, sym, ℕ}
-use Rattle.std.proofs.lemmas.List.{take_all}
-use Rattle.std.proofs.lemmas.Simd.{map-map}
-use Rattle.merge.specs.Columns.{as_column}
-use Rattle.merge.specs.declared.columns.Kind.{Kind}
+use Rattle.std.proofs.{lemmas.List.take_all, lemmas.Simd.map-map}
+use Rattle.merge.specs.{Columns.as_column, declared.columns.Kind.Kind}
 use Rattle.merge.proofs.columns.columns_of.Goals as goal
 
 pub returns-clause-kinds : goal.returns-clause-kinds

@@ -1,6 +1,5 @@
 use Rattle.std.proofs.Common.{◌≡◌, List, length}
-use Rattle.merge.specs.Columns.{kinds_in, names_in}
-use Rattle.merge.specs.Letters.{WritesRows}
+use Rattle.merge.specs.{Columns.kinds_in, Columns.names_in, Letters.WritesRows}
 use Rattle.merge.proofs.TableLemmas.{HasRead}
 use Rattle.records.specs.Tables.{Entry, at, separator_of}
 use Rattle.merge.proofs.letters.write_rows.Given as goal

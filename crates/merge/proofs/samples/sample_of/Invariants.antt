@@ -1,8 +1,6 @@
 use Rattle.std.proofs.Common.{◌≡◌, map, take}
-use Rattle.interpolator.specs.Prepared.Rows.{pair_names}
-use Rattle.interpolator.specs.Slots.{slots_of}
-use Rattle.merge.specs.Columns.{kinds_in}
-use Rattle.merge.specs.Values.{example_by}
+use Rattle.interpolator.specs.{Prepared.Rows.pair_names, Slots.slots_of}
+use Rattle.merge.specs.{Columns.kinds_in, Values.example_by}
 use Rattle.merge.proofs.samples.sample_of.Given as goal
 
 abbrev pub invariant-loop-column : goal.invariant-loop-column

@@ -1,6 +1,5 @@
 use Rattle.std.proofs.Common.{◌≡◌, ◌++◌, drop, map, take}
-use Rattle.merge.specs.Names.{Knows}
-use Rattle.merge.specs.Table.{repeats, repeats_after}
+use Rattle.merge.specs.{Names.Knows, Table.repeats, Table.repeats_after}
 use Rattle.merge.proofs.table.repeats_of.Given as goal
 
 abbrev pub invariant-loop-before : goal.invariant-loop-before

@@ -1,5 +1,4 @@
-use Rattle.std.proofs.Common.{refl}
-use Rattle.std.proofs.lemmas.Int.{to_z-of_z}
+use Rattle.std.proofs.{Common.refl, lemmas.Int.to_z-of_z}
 use Rattle.std.specs.Int.{w128}
 use Rattle.merge.proofs.values.number_in.Goals as goal
 

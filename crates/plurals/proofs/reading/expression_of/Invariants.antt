@@ -1,6 +1,5 @@
 use Rattle.std.proofs.Common.{◌≡◌, [], drop, map}
-use Rattle.plurals.specs.Readings.{state_of, steps, wants}
-use Rattle.plurals.specs.Tokens.{as_spot}
+use Rattle.plurals.specs.{Readings.state_of, Readings.steps, Readings.wants, Tokens.as_spot}
 use Rattle.plurals.proofs.reading.expression_of.Given as goal
 
 abbrev pub invariant-loop-token : goal.invariant-loop-token

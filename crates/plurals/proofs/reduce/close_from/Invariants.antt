@@ -1,6 +1,5 @@
 use Rattle.std.proofs.Common.{◌≡◌, length}
-use Rattle.plurals.specs.Readings.{close_from, frames}
-use Rattle.plurals.specs.Trees.{tree_of}
+use Rattle.plurals.specs.{Readings.close_from, Readings.frames, Trees.tree_of}
 use Rattle.plurals.proofs.reduce.close_from.Given as goal
 
 abbrev pub invariant-loop-frame : goal.invariant-loop-frame

@@ -1,6 +1,5 @@
 use Rattle.std.proofs.Common.{rules, tests}
-use Rattle.std.proofs.lemmas.Iterator.{YieldsList-from_chars}
-use Rattle.std.proofs.lemmas.Iterator.Search.{any_from_yields_List}
+use Rattle.std.proofs.lemmas.{Iterator.YieldsList-from_chars, Iterator.Search.any_from_yields_List}
 use Rattle.std.specs.Char.{is_whitespace}
 use Rattle.plurals.proofs.token.has_space.Goals as goal
 

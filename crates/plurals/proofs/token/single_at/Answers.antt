@@ -1,5 +1,4 @@
-use Rattle.std.proofs.Common.{arith}
-use Rattle.std.proofs.lemmas.Grind.{common_steps}
+use Rattle.std.proofs.{Common.arith, lemmas.Grind.common_steps}
 use Rattle.plurals.proofs.TokenLemmas.{boundary_after}
 use Rattle.plurals.proofs.token.single_at.Goals as goal
 

@@ -1,6 +1,5 @@
 use Rattle.std.proofs.Common.{length, map}
-use Rattle.po.specs.Entries.{ReadsEntry, as_entry}
-use Rattle.po.specs.Steps.{Leads}
+use Rattle.po.specs.{Entries.ReadsEntry, Entries.as_entry, Steps.Leads}
 use Rattle.po.proofs.entry.entries_of.Given as goal
 
 abbrev pub invariant-entries : goal.invariant-entries

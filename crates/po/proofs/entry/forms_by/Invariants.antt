@@ -1,6 +1,5 @@
 use Rattle.std.proofs.Common.{◌≡◌, ◌≤◌, drop, length}
-use Rattle.po.specs.Entries.{forms_by, lists_of, with_forms}
-use Rattle.po.specs.Tokens.{texts_of}
+use Rattle.po.specs.{Entries.forms_by, Entries.lists_of, Entries.with_forms, Tokens.texts_of}
 use Rattle.po.proofs.entry.forms_by.Given as goal
 
 abbrev pub invariant-loop-key : goal.invariant-loop-key

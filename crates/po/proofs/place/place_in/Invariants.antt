@@ -1,7 +1,5 @@
 use Rattle.std.proofs.Common.{◌≤◌, ◌∷◌, ℕ, List, drop, length}
-use Rattle.po.specs.Marks.{quote}
-use Rattle.po.specs.Steps.{Leads}
-use Rattle.po.specs.Strings.{ReadsByte}
+use Rattle.po.specs.{Marks.quote, Steps.Leads, Strings.ReadsByte}
 use Rattle.po.proofs.place.place_in.Given as goal
 
 abbrev pub invariant-loop-taken : goal.invariant-loop-taken

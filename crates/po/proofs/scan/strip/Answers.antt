@@ -1,5 +1,4 @@
-use Rattle.std.proofs.Common.{arith}
-use Rattle.std.proofs.lemmas.Grind.{common_steps}
+use Rattle.std.proofs.{Common.arith, lemmas.Grind.common_steps}
 use Rattle.po.proofs.ScanLemmas.{boundary_after}
 use Rattle.po.proofs.scan.strip.Goals as goal
 

@@ -1,5 +1,4 @@
-use Rattle.std.proofs.Common.{arith}
-use Rattle.std.proofs.lemmas.List.Sums.{prefix_len-le-length}
+use Rattle.std.proofs.{Common.arith, lemmas.List.Sums.prefix_len-le-length}
 use Rattle.po.proofs.section.split_of.Goals as goal
 
 pub split_at-requires : goal.split_at-requires

@@ -1,6 +1,5 @@
 use Rattle.std.proofs.Common.{◌≡◌, ◌≤◌, length, string_bytes}
-use Rattle.po.specs.Steps.{Leads}
-use Rattle.po.specs.Strings.{ReadsByte}
+use Rattle.po.specs.{Steps.Leads, Strings.ReadsByte}
 use Rattle.po.proofs.string.take_string.Given as goal
 
 abbrev pub invariant-pieces : goal.invariant-pieces

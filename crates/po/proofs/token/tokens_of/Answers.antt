@@ -1,6 +1,5 @@
 use Rattle.std.proofs.Common.{◌∙◌, Global, length, map}
-use Rattle.po.proofs.StepLemmas.{one_more}
-use Rattle.po.proofs.TokenLemmas.{broken_after}
+use Rattle.po.proofs.{StepLemmas.one_more, TokenLemmas.broken_after}
 use Rattle.po.specs.Tokens.{ReadsSpot, as_spot}
 use Rattle.po.proofs.token.tokens_of.Goals as goal
 

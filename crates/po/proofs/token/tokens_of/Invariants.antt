@@ -1,6 +1,5 @@
 use Rattle.std.proofs.Common.{◌≡◌, length, map}
-use Rattle.po.specs.Steps.{Leads}
-use Rattle.po.specs.Tokens.{ReadsSpot, as_spot}
+use Rattle.po.specs.{Steps.Leads, Tokens.ReadsSpot, Tokens.as_spot}
 use Rattle.po.proofs.token.tokens_of.Given as goal
 
 abbrev pub invariant-tokens : goal.invariant-tokens

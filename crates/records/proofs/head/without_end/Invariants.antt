@@ -1,6 +1,5 @@
 use Rattle.std.proofs.Common.{length}
-use denote.Text.{Utf8}
-use denote.Shadow.{shadow}
+use denote.{Text.Utf8, Shadow.shadow}
 use Rattle.records.proofs.EndLemmas.{HasLost}
 use Rattle.records.proofs.head.without_end.Given as goal
 

@@ -1,5 +1,4 @@
-use Rattle.std.proofs.Common.{arith, inr}
-use Rattle.std.proofs.lemmas.Str.Pattern.{strip_suffix_char}
+use Rattle.std.proofs.{Common.arith, Common.inr, lemmas.Str.Pattern.strip_suffix_char}
 use Rattle.records.proofs.head.without_line_end.Goals as goal
 
 pub returns-in-None-strip_suffix : goal.returns-in-None-strip_suffix

@@ -1,5 +1,4 @@
-use Rattle.std.proofs.Common.{arith, string_bytes}
-use Rattle.std.proofs.lemmas.Grind.{common_steps}
+use Rattle.std.proofs.{Common.arith, Common.string_bytes, lemmas.Grind.common_steps}
 use Rattle.records.proofs.QuoteLemmas.{never_closed, past_quotes, to_quote}
 use Rattle.records.proofs.ScanLemmas.{utf8_after, utf8_behind}
 use Rattle.records.proofs.quoted.undoubled.Goals as goal

@@ -1,8 +1,6 @@
 use Rattle.std.proofs.Common.{◌≡◌, ◌++◌, ℕ, List, length, map}
-use denote.Text.{Utf8}
-use denote.Shadow.{shadow}
-use Rattle.records.specs.Records.{Opens}
-use Rattle.records.specs.Spellings.{text_of}
+use denote.{Text.Utf8, Shadow.shadow}
+use Rattle.records.specs.{Records.Opens, Spellings.text_of}
 use Rattle.records.proofs.record.take_record.Given as goal
 
 abbrev pub invariant-fields : goal.invariant-fields

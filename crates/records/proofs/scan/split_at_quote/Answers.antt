@@ -1,5 +1,4 @@
-use Rattle.std.proofs.Common.{arith}
-use Rattle.std.proofs.lemmas.Str.Pattern.{split_parts}
+use Rattle.std.proofs.{Common.arith, lemmas.Str.Pattern.split_parts}
 use Rattle.records.proofs.ScanLemmas.{at_quote}
 use Rattle.records.proofs.scan.split_at_quote.Goals as goal
 

@@ -1,5 +1,4 @@
-use Rattle.std.proofs.Common.{arith}
-use Rattle.std.proofs.lemmas.Grind.{common_steps}
+use Rattle.std.proofs.{Common.arith, lemmas.Grind.common_steps}
 use Rattle.records.proofs.ScanLemmas.{boundary_after}
 use Rattle.records.proofs.scan.strip.Goals as goal
 

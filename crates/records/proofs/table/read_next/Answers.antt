@@ -1,7 +1,6 @@
 use Rattle.std.proofs.Common.{Err, Ok}
 use Rattle.records.proofs.EntryLemmas.{fault_kept, record_kept}
-use Rattle.records.specs.Tables.{as_read}
-use Rattle.records.specs.declared.table.Record.{Record}
+use Rattle.records.specs.{Tables.as_read, declared.table.Record.Record}
 use Rattle.records.proofs.table.read_next.Goals as goal
 
 pub returns-in-Ok-Some-clause-adds : goal.returns-in-Ok-Some-clause-adds

@@ -1,6 +1,5 @@
 use Rattle.std.proofs.Common.{arith, string_bytes}
-use Rattle.records.proofs.ScanLemmas.{utf8_behind}
-use Rattle.records.proofs.WrittenLemmas.{past_one}
+use Rattle.records.proofs.{ScanLemmas.utf8_behind, WrittenLemmas.past_one}
 use Rattle.records.proofs.written.push_doubled.Goals as goal
 
 pub loop-front-preserved : goal.loop-front-preserved

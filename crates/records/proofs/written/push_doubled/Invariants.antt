@@ -1,6 +1,5 @@
 use Rattle.std.proofs.Common.{◌≡◌, ◌++◌, length, string_bytes}
-use denote.Text.{Utf8}
-use denote.Shadow.{shadow}
+use denote.{Text.Utf8, Shadow.shadow}
 use Rattle.records.specs.Spellings.{doubled}
 use Rattle.records.proofs.written.push_doubled.Given as goal
 

@@ -1,6 +1,5 @@
 use Rattle.std.proofs.Common.{ℕ, List, map, string_bytes, take}
-use Rattle.records.specs.Records.{Opens}
-use Rattle.records.specs.Written.{Puts}
+use Rattle.records.specs.{Records.Opens, Written.Puts}
 use Rattle.records.proofs.written.push_opening.Given as goal
 
 abbrev pub invariant-loop-field : goal.invariant-loop-field

@@ -1,6 +1,5 @@
 use Rattle.std.proofs.Common.{◌≡◌, map, take}
-use Rattle.interpolator.specs.Prepared.Rows.{pair_names}
-use Rattle.interpolator.specs.Slots.{slots_of}
+use Rattle.interpolator.specs.{Prepared.Rows.pair_names, Slots.slots_of}
 use Rattle.report.specs.Lines.{as_value, names_in}
 use Rattle.report.proofs.lines.sample_of.Given as goal
 

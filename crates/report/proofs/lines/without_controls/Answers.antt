@@ -1,9 +1,7 @@
 use Rattle.std.proofs.Common.{◌∙◌, ap, map, sym}
 use Rattle.std.proofs.lemmas.Iterator.{YieldsList-from_chars}
-use Rattle.std.proofs.lemmas.Iterator.Consumers.{YieldsList-end}
-use Rattle.std.proofs.lemmas.List.{map-id}
-use Rattle.std.specs.Prelude.{string_bytes}
-use Rattle.std.specs.Str.{encode_utf8_all}
+use Rattle.std.proofs.{lemmas.Iterator.Consumers.YieldsList-end, lemmas.List.map-id}
+use Rattle.std.specs.{Prelude.string_bytes, Str.encode_utf8_all}
 use Rattle.report.specs.Lines.{shown_character}
 use Rattle.report.proofs.LineLemmas.{controls_step}
 use Rattle.report.proofs.lines.without_controls.Goals as goal

@@ -1,6 +1,5 @@
 use Rattle.std.proofs.Common.{◌≡◌, map}
-use Rattle.std.specs.Prelude.{string_bytes}
-use Rattle.std.specs.Str.{encode_utf8_all}
+use Rattle.std.specs.{Prelude.string_bytes, Str.encode_utf8_all}
 use Rattle.report.specs.Lines.{shown_character}
 use Rattle.report.proofs.lines.without_controls.Given as goal
 

@@ -1,7 +1,5 @@
 use Rattle.std.proofs.Common.{refl, sym}
-use Rattle.std.proofs.lemmas.Bool.{false_from_ne_true}
-use Rattle.std.proofs.lemmas.Bool.Decides.{Decides-eqb}
-use Rattle.std.proofs.lemmas.Slice.Eq.{starts_is}
+use Rattle.std.proofs.lemmas.{Bool.false_from_ne_true, Bool.Decides.Decides-eqb, Slice.Eq.starts_is}
 use Rattle.report.proofs.totals.begins.Goals as goal
 
 pub returns-in-None : goal.returns-in-None

@@ -1,9 +1,7 @@
 use Rattle.std.proofs.Common.{List, None, Option, subst, sym, ◌∙◌}
-use Rattle.std.specs.Int.{w128}
-use Rattle.std.specs.Prelude.{FitsSigned, SomeIff}
+use Rattle.std.specs.{Int.w128, Prelude.FitsSigned, Prelude.SomeIff}
 use Rattle.interpolator.specs.declared.decimal.Decimal.{Decimal}
-use Rattle.report.specs.Totals.{exact_sum, exact_total}
-use Rattle.report.specs.declared.totals.Total.{Total}
+use Rattle.report.specs.{Totals.exact_sum, Totals.exact_total, declared.totals.Total.Total}
 use Rattle.report.proofs.totals.small_total.Goals as goal
 
 pub returns-in-Ok-None-clause-err : goal.returns-in-Ok-None-clause-err

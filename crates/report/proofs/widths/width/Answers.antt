@@ -1,8 +1,7 @@
 use Rattle.std.proofs.Common.{◌∙◌, ap, arith, sym}
-use Rattle.std.specs.List.{sum_by}
-use Rattle.std.proofs.lemmas.Iterator.{YieldsList-from_chars}
 use Rattle.std.proofs.lemmas.Iterator.Consumers.{YieldsList-end, YieldsList-turn}
-use Rattle.std.proofs.lemmas.List.{map-id}
+use Rattle.std.proofs.{lemmas.Iterator.YieldsList-from_chars, lemmas.List.map-id}
+use Rattle.std.specs.List.{sum_by}
 use Rattle.report.specs.Widths.{width_of}
 use Rattle.report.specs.declared.widths.TheConstants.{NONE, TWO}
 use Rattle.report.proofs.WidthLemmas.{width_step}

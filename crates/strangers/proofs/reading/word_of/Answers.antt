@@ -1,12 +1,9 @@
 use Rattle.std.proofs.Common.{◌≡◌, ◌∙◌, ap, refl, rules}
-use Rattle.std.specs.Int.{w128}
-use Rattle.std.specs.Prelude.{FitsSigned}
 use Rattle.std.proofs.lemmas.Int.{to_z-of_z}
-use Rattle.words.specs.Items.{texts_of}
-use Rattle.words.specs.Words.{float}
+use Rattle.std.specs.{Int.w128, Prelude.FitsSigned}
+use Rattle.words.specs.{Items.texts_of, Words.float}
 use Rattle.words.proofs.PartLemmas.{bad_is_not_good}
-use Rattle.strangers.specs.Words.{are_texts}
-use Rattle.strangers.specs.declared.values.Datum.TheVariants.{Number}
+use Rattle.strangers.specs.{Words.are_texts, declared.values.Datum.TheVariants.Number}
 use Rattle.strangers.specs.declared.values.Given.TheVariants.{One}
 use Rattle.strangers.proofs.reading.word_of.Goals as goal
 

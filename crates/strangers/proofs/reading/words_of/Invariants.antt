@@ -1,6 +1,5 @@
 use Rattle.std.proofs.Common.{List, ℕ, ◌++◌, drop, map, string_bytes}
-use Rattle.strangers.specs.Words.{GiveAll, IsFirstBad}
-use Rattle.strangers.specs.declared.values.Word.{Word}
+use Rattle.strangers.specs.{Words.GiveAll, Words.IsFirstBad, declared.values.Word.Word}
 use Rattle.strangers.proofs.reading.words_of.Given as goal
 
 -- what is said of the words from here on is said of all

@@ -1,6 +1,5 @@
 use Rattle.std.proofs.Common.{◌∙◌, sym}
-use Rattle.std.proofs.lemmas.List.Elements.{All-more}
-use Rattle.std.proofs.lemmas.Result.{err_from_is_err_and}
+use Rattle.std.proofs.{lemmas.List.Elements.All-more, lemmas.Result.err_from_is_err_and}
 use Rattle.strangers.proofs.ValueLemmas.{words_next}
 use Rattle.strangers.specs.Values.{AreInRange}
 use Rattle.strangers.proofs.serving.check_words.Goals as goal

@@ -1,6 +1,5 @@
 use Rattle.std.proofs.Common.{◌≡◌, All, drop, take}
-use Rattle.strangers.specs.Serving.{words_why}
-use Rattle.strangers.specs.Values.{AreInRange}
+use Rattle.strangers.specs.{Serving.words_why, Values.AreInRange}
 use Rattle.strangers.proofs.serving.check_words.Given as goal
 
 abbrev pub invariant-loop-word : goal.invariant-loop-word

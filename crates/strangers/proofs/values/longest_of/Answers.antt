@@ -1,6 +1,4 @@
-use Rattle.std.proofs.Common.{arith}
-use Rattle.std.proofs.lemmas.List.{drop_all}
-use Rattle.std.proofs.lemmas.List.Elements.{All-more}
+use Rattle.std.proofs.{Common.arith, lemmas.List.drop_all, lemmas.List.Elements.All-more}
 use Rattle.strangers.proofs.ValueLemmas.{longest_next}
 use Rattle.strangers.specs.Values.{IsInRange}
 use Rattle.strangers.proofs.values.longest_of.Goals as goal

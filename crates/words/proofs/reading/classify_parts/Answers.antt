@@ -1,6 +1,5 @@
-use Rattle.std.proofs.Common.{None, Some, refl}
+use Rattle.std.proofs.{Common.None, Common.Some, Common.refl, lemmas.Int.to_z-of_z}
 use Rattle.std.specs.Int.{w128}
-use Rattle.std.proofs.lemmas.Int.{to_z-of_z}
 use Rattle.interpolator.specs.DecimalTexts.{Spells as IsDecimal}
 use Rattle.words.specs.Words.{IsFloat, Spells, decimal, float, list, number, text}
 use Rattle.words.proofs.PartLemmas.{alone, spelled_alone}

@@ -1,5 +1,4 @@
-use Rattle.std.proofs.Common.{ℕ, ℤ, arith}
-use Rattle.std.proofs.lemmas.Grind.{common_steps}
+use Rattle.std.proofs.{Common.ℕ, Common.ℤ, Common.arith, lemmas.Grind.common_steps}
 use Rattle.interpolator.specs.DecimalTexts.{SpellsDecimal}
 use Rattle.interpolator.proofs.DecimalTextLemmas.{only_spelled, read_answer, read_fault, spelled}
 use Rattle.interpolator.proofs.DecimalTextLemmas.{spells_none}

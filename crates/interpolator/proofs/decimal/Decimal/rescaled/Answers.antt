@@ -1,7 +1,5 @@
-use Rattle.std.proofs.Common.{rules}
-use Rattle.std.proofs.lemmas.Int.{to_z-of_z}
-use Rattle.std.specs.Int.{w128}
-use Rattle.std.specs.Prelude.{FitsSigned}
+use Rattle.std.proofs.{Common.rules, lemmas.Int.to_z-of_z}
+use Rattle.std.specs.{Int.w128, Prelude.FitsSigned}
 use Rattle.interpolator.proofs.DecimalSumLemmas.{only_rescaled}
 use Rattle.interpolator.proofs.decimal.Decimal.rescaled.Goals as goal
 

@@ -1,7 +1,6 @@
 use Rattle.std.proofs.Common.{◌≡◌, refl, ap, arith, length}
-use Rattle.interpolator_syntax.specs.Arguments.{argument_at}
 use Rattle.interpolator_syntax.specs.Pieces.{pieces, argument_from}
-use Rattle.interpolator_syntax.specs.SpecTexts.{spec_after}
+use Rattle.interpolator_syntax.specs.{Arguments.argument_at, SpecTexts.spec_after}
 use Rattle.interpolator.proofs.laws.parts.seams_are_real.Goals as goal
 
 pub returns : goal.returns

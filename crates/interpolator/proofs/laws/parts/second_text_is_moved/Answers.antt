@@ -1,10 +1,9 @@
 use Rattle.std.proofs.Common.{ap, sym, ◌∙◌, ◌+◌}
-use Rattle.interpolator_syntax.specs.At.{size, outermost}
-use Rattle.interpolator_syntax.specs.Grammar.{from_place}
+use Rattle.interpolator_syntax.specs.{At.size, At.outermost, Grammar.from_place}
 use Rattle.interpolator_eval.specs.Meaning.Meanings.{chain, means}
 use Rattle.interpolator_eval.proofs.MeaningLemmas.MovedLemmas.{means_from}
-use Rattle.interpolator.proofs.PartLemmas.{means_next, zero_and}
 use Rattle.interpolator_eval.proofs.MeaningLemmas.MeaningLemmas.{nothing_last}
+use Rattle.interpolator.proofs.PartLemmas.{means_next, zero_and}
 use Rattle.interpolator.proofs.laws.parts.second_text_is_moved.Goals as goal
 
 pub returns-clause-joined : goal.returns-clause-joined

@@ -1,10 +1,8 @@
 use Rattle.std.proofs.Common.{◌≡◌, option_map}
 use Rattle.std.specs.Str.{chars}
-use Rattle.interpolator_syntax.specs.At.{outermost}
-use Rattle.interpolator_syntax.specs.Faults.{fault, result_answer}
+use Rattle.interpolator_syntax.specs.{At.outermost, Faults.fault, Faults.result_answer}
 use Rattle.interpolator_pieces.specs.NodeChecks.{first_fault, text_faults}
-use Rattle.interpolator_pieces.proofs.CheckLemmas.{text_told}
-use Rattle.interpolator_pieces.proofs.CheckPlaceLemmas.{first_lies}
+use Rattle.interpolator_pieces.proofs.{CheckLemmas.text_told, CheckPlaceLemmas.first_lies}
 use Rattle.interpolator.proofs.template.Template.check.Goals as goal
 
 -- the first fault of the stored pieces is that of the text

@@ -1,13 +1,9 @@
 use Rattle.std.proofs.Common.{ap, ◌∙◌, subst, rules, ◌<◌, ◌^◌, length}
 use Rattle.std.proofs.lemmas.Str.{IsUtf8-string_bytes}
-use Rattle.std.specs.Prelude.{string_bytes}
-use Rattle.std.specs.Str.{chars, IsUtf8}
-use Rattle.interpolator_syntax.specs.At.{outermost}
-use Rattle.interpolator_syntax.specs.Faults.{result_answer}
-use Rattle.interpolator_syntax.specs.Nodes.{nodes}
+use Rattle.std.specs.{Prelude.string_bytes, Str.chars, Str.IsUtf8}
+use Rattle.interpolator_syntax.specs.{At.outermost, Faults.result_answer, Nodes.nodes}
 use Rattle.interpolator_eval.specs.Meaning.Samples.{sample_of, level_in}
-use Rattle.interpolator_pieces.specs.NodeSamples.{faults_over}
-use Rattle.interpolator_pieces.specs.Stored.{nodes_of}
+use Rattle.interpolator_pieces.specs.{NodeSamples.faults_over, Stored.nodes_of}
 use Rattle.interpolator.proofs.SamplePlaceLemmas.{first_lies_over}
 use Rattle.interpolator.proofs.SampleWalkLemmas.{walk_whole, walk_deep, walk_tells}
 use Rattle.interpolator_pieces.proofs.CollectLemmas.{answers_first}

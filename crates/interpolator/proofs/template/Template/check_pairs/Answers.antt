@@ -1,5 +1,4 @@
-use Rattle.std.proofs.Common.{inr}
-use Rattle.std.proofs.lemmas.Result.{err_from_is_err_and}
+use Rattle.std.proofs.{Common.inr, lemmas.Result.err_from_is_err_and}
 use Rattle.interpolator.proofs.template.Template.check_pairs.Goals as goal
 
 pub returns-in_err-check_template-clause-refused :

@@ -1,10 +1,8 @@
 use Rattle.std.proofs.Common.{refl, ◌∙◌}
 use Rattle.std.specs.Str.{chars}
 use Rattle.interpolator_syntax.specs.At.{outermost}
-use Rattle.interpolator_pieces.specs.NodeExtents.{visit_depth}
-use Rattle.interpolator_pieces.specs.declared.extent.Deepest.{Deepest}
-use Rattle.interpolator_pieces.proofs.ExtentLemmas.{text_greatest}
-use Rattle.interpolator_pieces.proofs.VisitLemmas.{text_depth}
+use Rattle.interpolator_pieces.specs.{NodeExtents.visit_depth, declared.extent.Deepest.Deepest}
+use Rattle.interpolator_pieces.proofs.{ExtentLemmas.text_greatest, VisitLemmas.text_depth}
 use Rattle.interpolator.proofs.template.Template.depth.Goals as goal
 
 pub returns : goal.returns

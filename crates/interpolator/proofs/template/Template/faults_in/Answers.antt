@@ -1,14 +1,9 @@
 use Rattle.std.proofs.Common.{ap, ◌∙◌, subst, rules, ◌<◌, ◌^◌, length, None}
-use Rattle.std.proofs.lemmas.Result.{err_from_is_err_and}
-use Rattle.std.proofs.lemmas.Str.{IsUtf8-string_bytes}
-use Rattle.std.specs.Prelude.{string_bytes}
-use Rattle.std.specs.Str.{chars, IsUtf8}
-use Rattle.interpolator_syntax.specs.At.{outermost}
-use Rattle.interpolator_syntax.specs.Faults.{answer_of}
-use Rattle.interpolator_syntax.specs.Nodes.{nodes}
+use Rattle.std.proofs.{lemmas.Result.err_from_is_err_and, lemmas.Str.IsUtf8-string_bytes}
+use Rattle.std.specs.{Prelude.string_bytes, Str.chars, Str.IsUtf8}
+use Rattle.interpolator_syntax.specs.{At.outermost, Faults.answer_of, Nodes.nodes}
 use Rattle.interpolator_eval.specs.Meaning.Samples.{sample_of, level_in}
-use Rattle.interpolator_pieces.specs.NodeSamples.{faults_over}
-use Rattle.interpolator_pieces.specs.Stored.{nodes_of}
+use Rattle.interpolator_pieces.specs.{NodeSamples.faults_over, Stored.nodes_of}
 use Rattle.interpolator.proofs.SampleWalkLemmas.{walk_whole, walk_deep, walk_tells}
 use Rattle.interpolator.proofs.SamplePlaceLemmas.{told_lie_over}
 use Rattle.interpolator_pieces.proofs.CollectLemmas.{all_kept, only_memory}

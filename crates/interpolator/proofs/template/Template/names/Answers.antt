@@ -2,8 +2,7 @@ use Rattle.std.proofs.Common.{◌++◌, ap, ◌∙◌}
 use Rattle.std.specs.Str.{chars}
 use Rattle.interpolator_syntax.specs.At.{outermost}
 use Rattle.interpolator_eval.specs.Meaning.AskedNames.{asked_names}
-use Rattle.interpolator_pieces.specs.NodeNames.{name_texts}
-use Rattle.interpolator_pieces.specs.declared.names.Names.{Names}
+use Rattle.interpolator_pieces.specs.{NodeNames.name_texts, declared.names.Names.Names}
 use Rattle.interpolator_pieces.proofs.StoredNameLemmas.{text_names}
 use Rattle.interpolator.proofs.template.Template.names.Goals as goal
 

@@ -1,5 +1,4 @@
-use Rattle.std.proofs.Common.{append-nil, arith}
-use Rattle.std.proofs.lemmas.Str.{encodes-chars}
+use Rattle.std.proofs.{Common.append-nil, Common.arith, lemmas.Str.encodes-chars}
 use Rattle.interpolator_border.proofs.measured.Measured.len.Goals as goal
 
 pub returns-then-self-eq0 : goal.returns-then-self-eq0

@@ -1,23 +1,15 @@
 -- `and` makes the empty struct, with what its clause names. Assumes `Logic`.
 use Rattle.std.proofs.Common.{ℕ, List, [], ◌∷◌, ◌++◌, refl}
-use Rattle.std.specs.Str.{chars}
 use Rattle.std.proofs.raw_atomic.Walks.{proved}
+use Rattle.std.specs.Str.{chars}
 use mir.Syntax.{named}
 use types.Kit.{‵, raw, ◌⊛◌, ◌$◌, ◌∵◌, !, qed, keep, split, move, fjoin, suffices, done}
-use types.Part.{agg}
-use types.Run.{enter, returns, and_then, no_more}
 use types.ByLocal.{alloc_all, pass_all, free_all, look_at, get, sets}
-use denote.Builtin.{RefOf, unit}
-use denote.Exit.{yes}
-use denote.Laws.{Is}
-use denote.RattleType.{owns}
-use denote.Ref.{shr_vals, shr_Tells}
-use denote.Signature.{plain, types_at}
-use denote.Steps.{nothing, owned}
-use denote.Struct.Laws.{makes}
-use denote.Text.{StrRefOf, str-laws}
-use denote.Triple.Entry.{alive}
+use types.{Part.agg, Run.enter, Run.returns, Run.and_then, Run.no_more}
 use denote.Triple.Walked.{says, Stays, stay_dropped, walk_of, ends_at, Goes-dropped}
+use denote.{Builtin.RefOf, Builtin.unit, Exit.yes, Laws.Is, RattleType.owns, Ref.shr_vals}
+use denote.{Ref.shr_Tells, Signature.plain, Signature.types_at, Steps.nothing, Steps.owned}
+use denote.{Struct.Laws.makes, Text.StrRefOf, Text.str-laws, Triple.Entry.alive}
 use Rattle.std.specs.contracts.marker.PhantomData as Mark
 use Rattle.interpolator_border.proofs.HandSteps.{none, one, one_made}
 use Rattle.interpolator_border.specs.contracts.taken.Taken as Taken

@@ -2,17 +2,11 @@
 use Rattle.std.proofs.Common.{[], ◌∷◌, refl}
 use Rattle.std.proofs.raw_atomic.Walks.{proved}
 use types.Kit.{‵, raw, ◌⊛◌, ◌$◌, ◌∵◌, !, qed, keep, split, move, fjoin, suffices, done}
-use types.Part.{agg}
-use types.Run.{enter, returns, and_then, no_more}
 use types.ByLocal.{alloc_all, pass_all, free_all, look_at, get, sets}
-use denote.Builtin.{unit}
-use denote.Laws.{Is}
-use denote.RattleType.{owns}
-use denote.Signature.{types_at}
-use denote.Steps.{nothing, owned}
-use denote.Struct.Laws.{makes}
-use denote.Triple.Entry.{alive}
+use types.{Part.agg, Run.enter, Run.returns, Run.and_then, Run.no_more}
 use denote.Triple.Walked.{says, walk_of, ends_at}
+use denote.{Builtin.unit, Laws.Is, RattleType.owns, Signature.types_at, Steps.nothing, Steps.owned}
+use denote.{Struct.Laws.makes, Triple.Entry.alive}
 use Rattle.std.specs.contracts.marker.PhantomData as Mark
 use Rattle.interpolator_border.proofs.HandSteps.{none, one, one_made}
 use Rattle.interpolator_border.specs.contracts.taken.Taken as Taken

@@ -1,5 +1,4 @@
-use Rattle.interpolator_render.specs.Texts.{view_text}
-use Rattle.interpolator_render.specs.Views.{shown_by}
+use Rattle.interpolator_render.specs.{Texts.view_text, Views.shown_by}
 use Rattle.interpolator_escapes.proofs.EscapingLemmas.{through_escaped}
 use Rattle.interpolator_escapes.proofs.escaping.Escaping.put.Goals as goal
 

@@ -1,10 +1,7 @@
 use Rattle.std.proofs.Common.{arith, sym, ap, ◌∙◌}
 use Rattle.std.proofs.lemmas.Iterator.{YieldsList-from_chars}
-use Rattle.std.proofs.lemmas.Iterator.Consumers.{YieldsList-end}
-use Rattle.std.proofs.lemmas.List.{map-id}
-use Rattle.interpolator_escapes.specs.CodeReaders.{csv_state}
-use Rattle.interpolator_escapes.specs.Csv.{csv_step}
-use Rattle.interpolator_escapes.specs.Readers.{state_after}
+use Rattle.std.proofs.{lemmas.Iterator.Consumers.YieldsList-end, lemmas.List.map-id}
+use Rattle.interpolator_escapes.specs.{CodeReaders.csv_state, Csv.csv_step, Readers.state_after}
 use Rattle.interpolator_escapes.proofs.ReaderLemmas.{state-append}
 use Rattle.interpolator_escapes.proofs.readers.csv.csv_after.Goals as goal
 

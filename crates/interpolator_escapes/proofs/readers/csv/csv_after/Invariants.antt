@@ -1,7 +1,5 @@
 use Rattle.std.proofs.Common.{◌≡◌}
-use Rattle.interpolator_escapes.specs.CodeReaders.{csv_state}
-use Rattle.interpolator_escapes.specs.Csv.{csv_step}
-use Rattle.interpolator_escapes.specs.Readers.{state_after}
+use Rattle.interpolator_escapes.specs.{CodeReaders.csv_state, Csv.csv_step, Readers.state_after}
 use Rattle.interpolator_escapes.proofs.readers.csv.csv_after.Given as goal
 
 -- the state is where the characters so far leave it

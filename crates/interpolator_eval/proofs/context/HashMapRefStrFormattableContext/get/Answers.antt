@@ -1,6 +1,5 @@
 -- The map is searched for the bytes of the name, which are the bytes of its characters.
-use Rattle.std.proofs.Common.{arith}
-use Rattle.std.proofs.lemmas.Str.{encodes-chars}
+use Rattle.std.proofs.{Common.arith, lemmas.Str.encodes-chars}
 use Rattle.interpolator_eval.proofs.context.HashMapRefStrFormattableContext.get.Goals as goal
 
 pub returns : goal.returns

@@ -1,6 +1,5 @@
 use Rattle.std.proofs.Common.{arith, chars}
-use Rattle.interpolator_render.proofs.RenderingLemmas.{plain_text}
-use Rattle.interpolator_render.proofs.WrittenLemmas.{appended_within}
+use Rattle.interpolator_render.proofs.{RenderingLemmas.plain_text, WrittenLemmas.appended_within}
 use Rattle.interpolator_eval.proofs.escaper.UnescapedEscaper.put_text.Goals as goal
 
 pub returns-in-Ok : goal.returns-in-Ok

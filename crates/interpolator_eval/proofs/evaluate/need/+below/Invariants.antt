@@ -1,7 +1,6 @@
 use Rattle.std.proofs.Common.{◌≡◌, ◌+◌, ◌*◌, map, drop, flat_map}
 use Rattle.std.specs.List.{list_any}
-use Rattle.interpolator_eval.specs.Slots.{slots_of}
-use Rattle.interpolator_eval.specs.Meaning.Samples.{at_level, lacks}
+use Rattle.interpolator_eval.specs.{Slots.slots_of, Meaning.Samples.at_level, Meaning.Samples.lacks}
 use Rattle.interpolator_eval.proofs.evaluate.need.+below.Given as goal
 
 abbrev pub decreases-lacks_below : goal.decreases-lacks_below

@@ -1,8 +1,7 @@
 use Rattle.std.proofs.Common.{◌≡◌, length, map}
 use Rattle.std.specs.List.{list_any}
 use Rattle.interpolator_render.specs.declared.view.Trait.TheVariants.{Display}
-use Rattle.interpolator_eval.specs.Slots.{slots_of}
-use Rattle.interpolator_eval.specs.Meaning.Samples.{hidden}
+use Rattle.interpolator_eval.specs.{Slots.slots_of, Meaning.Samples.hidden}
 use Rattle.interpolator_eval.proofs.evaluate.need.any_undisplayed.Given as goal
 
 -- one of the items that are left is hidden exactly if one of all is

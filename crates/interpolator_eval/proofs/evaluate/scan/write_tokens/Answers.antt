@@ -1,5 +1,4 @@
-use Rattle.std.proofs.Common.{refl, sym, arith}
-use Rattle.std.proofs.lemmas.Result.{err_from_is_err_and}
+use Rattle.std.proofs.{Common.refl, Common.sym, Common.arith, lemmas.Result.err_from_is_err_and}
 use Rattle.interpolator_syntax.specs.At.{at}
 use Rattle.interpolator_syntax.proofs.TokenLemmas.{scan_shorter, token_shorter}
 use Rattle.interpolator_eval.proofs.MeaningLemmas.FirstPieceLemmas.{passed_stops, passed_list}

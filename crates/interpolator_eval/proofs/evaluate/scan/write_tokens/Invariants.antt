@@ -1,7 +1,6 @@
 use Rattle.std.proofs.Common.{length, chars}
 use Rattle.interpolator_syntax.specs.At.{at}
-use Rattle.interpolator_eval.specs.Escaping.{shows_by}
-use Rattle.interpolator_eval.specs.Meaning.CodeEnvironments.{environment_of}
+use Rattle.interpolator_eval.specs.{Escaping.shows_by, Meaning.CodeEnvironments.environment_of}
 use Rattle.interpolator_eval.specs.Meaning.ScannedLists.{text_forest}
 use Rattle.interpolator_eval.proofs.MeaningLemmas.FirstPieceLemmas.{Passed}
 use Rattle.interpolator_eval.proofs.evaluate.scan.write_tokens.Given as goal

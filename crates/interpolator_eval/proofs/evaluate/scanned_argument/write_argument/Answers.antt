@@ -1,5 +1,4 @@
-use Rattle.std.proofs.Common.{refl, sym}
-use Rattle.std.proofs.lemmas.Result.{err_from_is_err_and}
+use Rattle.std.proofs.{Common.refl, Common.sym, lemmas.Result.err_from_is_err_and}
 use Rattle.interpolator_syntax.specs.At.{at}
 use Rattle.interpolator_syntax.proofs.PieceLemmas.{read_alone}
 use Rattle.interpolator_eval.proofs.MeaningLemmas.ScanLemmas.{value_told, value_means_so}

@@ -1,12 +1,11 @@
 use Rattle.std.proofs.Common.{refl, ◌≡◌}
 use Rattle.std.proofs.lemmas.Result.{err_from_is_err_and}
-use Rattle.interpolator_syntax.specs.At.{at}
 use Rattle.interpolator_syntax.specs.Arguments.{list_of, kind_of_request}
-use Rattle.interpolator_syntax.specs.SpecTexts.{of_list}
+use Rattle.interpolator_syntax.specs.{At.at, SpecTexts.of_list}
 use Rattle.interpolator_eval.proofs.MeaningLemmas.LookUpLemmas.{value_asked}
 use Rattle.interpolator_eval.proofs.MeaningLemmas.ScanLemmas.{asked_ok, asked_broken, broken_writes}
-use Rattle.interpolator_eval.proofs.MeaningLemmas.ScanLemmas.{list_told, list_writes}
-use Rattle.interpolator_eval.proofs.MeaningLemmas.ScanLemmas.{value_told, value_means_so}
+use Rattle.interpolator_eval.proofs.MeaningLemmas.ScanLemmas.{list_told, list_writes, value_told}
+use Rattle.interpolator_eval.proofs.MeaningLemmas.ScanLemmas.{value_means_so}
 use Rattle.interpolator_eval.proofs.evaluate.scanned_argument.write_asked.Goals as goal
 
 pub returns-in-Err-clause-outcome : goal.returns-in-Err-clause-outcome

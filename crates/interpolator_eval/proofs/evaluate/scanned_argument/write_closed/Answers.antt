@@ -1,7 +1,6 @@
 use Rattle.std.proofs.lemmas.Result.{err_from_is_err_and}
 use Rattle.interpolator_syntax.specs.Arguments.{list_of}
-use Rattle.interpolator_eval.proofs.MeaningLemmas.LookUpLemmas.{value_asked}
-use Rattle.interpolator_eval.proofs.MeaningLemmas.ScanLemmas.{brace_fault}
+use Rattle.interpolator_eval.proofs.MeaningLemmas.{LookUpLemmas.value_asked, ScanLemmas.brace_fault}
 use Rattle.interpolator_eval.proofs.evaluate.scanned_argument.write_closed.Goals as goal
 
 pub returns-in_err-write_value-clause-outcome : goal.returns-in_err-write_value-clause-outcome

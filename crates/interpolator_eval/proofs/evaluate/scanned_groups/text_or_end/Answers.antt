@@ -1,7 +1,6 @@
 use Rattle.std.proofs.Common.{sym}
 use Rattle.interpolator_syntax.specs.At.{at}
-use Rattle.interpolator_eval.proofs.MeaningLemmas.PlainItemLemmas.{run_alone}
-use Rattle.interpolator_eval.proofs.MeaningLemmas.ScanLemmas.{text_none}
+use Rattle.interpolator_eval.proofs.MeaningLemmas.{PlainItemLemmas.run_alone, ScanLemmas.text_none}
 use Rattle.interpolator_eval.proofs.evaluate.scanned_groups.text_or_end.Goals as goal
 
 pub returns-in_default : goal.returns-in_default

@@ -1,7 +1,6 @@
 use Rattle.std.proofs.Common.{arith, rules, ◌≡◌, ◌<◌, length, get_or}
 use Rattle.interpolator_render.proofs.WrittenLemmas.{appended_within}
-use Rattle.interpolator_syntax.proofs.StripLemmas.{one_char}
-use Rattle.interpolator_syntax.proofs.CharacterLemmas.{size-chars}
+use Rattle.interpolator_syntax.proofs.{StripLemmas.one_char, CharacterLemmas.size-chars}
 use Rattle.interpolator_eval.proofs.MeaningLemmas.PlacedLemmas.{wrote_from, refused_from}
 use Rattle.interpolator_eval.proofs.MeaningLemmas.PlacedLemmas.{taken_fits}
 use Rattle.interpolator_eval.proofs.evaluate.sink.write_run.Goals as goal

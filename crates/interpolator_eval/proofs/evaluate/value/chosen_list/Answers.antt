@@ -1,6 +1,5 @@
 use Rattle.std.proofs.Common.{rules, chars}
-use Rattle.interpolator_eval.specs.Meaning.CodeEnvironments.{environment_of}
-use Rattle.interpolator_eval.specs.Slots.{slots_of}
+use Rattle.interpolator_eval.specs.{Meaning.CodeEnvironments.environment_of, Slots.slots_of}
 use Rattle.interpolator_eval.proofs.MeaningLemmas.LookUpLemmas.{list_chosen, chosen_under}
 use Rattle.interpolator_eval.proofs.evaluate.value.chosen_list.Goals as goal
 

@@ -1,7 +1,6 @@
 use Rattle.std.proofs.Common.{ap, sym, ◌∙◌}
-use Rattle.interpolator_eval.specs.Meaning.Meanings.{items_mean}
-use Rattle.interpolator_eval.specs.Meaning.Choices.{chosen_items}
 use Rattle.interpolator_eval.specs.Meaning.ListArguments.{join_of, item_of}
+use Rattle.interpolator_eval.specs.{Meaning.Meanings.items_mean, Meaning.Choices.chosen_items}
 use Rattle.interpolator_eval.proofs.MeaningLemmas.ListLawLemmas.{items_finish, items_fail}
 use Rattle.interpolator_eval.proofs.MeaningLemmas.ListLawLemmas.{join_finishes}
 use Rattle.interpolator_eval.proofs.laws.meanings.list_is_its_items_and_joins.Goals as goal

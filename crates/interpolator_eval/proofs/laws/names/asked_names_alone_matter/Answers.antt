@@ -1,5 +1,4 @@
-use Rattle.interpolator_eval.proofs.MeaningLemmas.AskedLemmas.{asked_alone}
-use Rattle.interpolator_eval.proofs.MeaningLemmas.EqualLemmas.{means_same}
+use Rattle.interpolator_eval.proofs.MeaningLemmas.{AskedLemmas.asked_alone, EqualLemmas.means_same}
 use Rattle.interpolator_eval.proofs.laws.names.asked_names_alone_matter.Goals as goal
 
 pub returns-clause-two : goal.returns-clause-two

@@ -1,6 +1,5 @@
 -- The pairs are searched for the bytes of the name, which are the bytes of its characters.
-use Rattle.std.proofs.Common.{arith}
-use Rattle.std.proofs.lemmas.Str.{encodes-chars}
+use Rattle.std.proofs.{Common.arith, lemmas.Str.encodes-chars}
 use Rattle.interpolator_eval.proofs.pairs.PairsContext.get.Goals as goal
 
 pub returns-in-Some : goal.returns-in-Some

@@ -1,8 +1,7 @@
 -- The names so far are those of the filled slots among the slots passed.
 use Rattle.std.proofs.Common.{◌≡◌, ◌++◌, take, codes}
 use Rattle.std.specs.Fmt.{HasWrittenStyled, IsFlush}
-use Rattle.interpolator_eval.specs.Slots.{slots_of}
-use Rattle.interpolator_eval.specs.SlotNames.{is_filled, slot_order}
+use Rattle.interpolator_eval.specs.{Slots.slots_of, SlotNames.is_filled, SlotNames.slot_order}
 use Rattle.interpolator_eval.proofs.SlotNameLemmas.{names_of, no_name, opened}
 use Rattle.interpolator_eval.proofs.slot_names.FormattableDebug.fmt.Given as goal
 

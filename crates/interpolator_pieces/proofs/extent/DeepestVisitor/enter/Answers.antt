@@ -1,6 +1,5 @@
 use Rattle.std.proofs.Common.{arith}
-use Rattle.interpolator_pieces.proofs.StoredLemmas.{node_of_out}
-use Rattle.interpolator_pieces.proofs.WalkLemmas.{piece_depth}
+use Rattle.interpolator_pieces.proofs.{StoredLemmas.node_of_out, WalkLemmas.piece_depth}
 use Rattle.interpolator_pieces.proofs.extent.DeepestVisitor.enter.Goals as goal
 
 pub inner_depth-item-requires : goal.inner_depth-item-requires

@@ -1,5 +1,4 @@
-use Rattle.std.proofs.Common.{arith, append-nil}
-use Rattle.std.proofs.lemmas.List.{map-append}
+use Rattle.std.proofs.{Common.arith, Common.append-nil, lemmas.List.map-append}
 use Rattle.interpolator_pieces.proofs.StoredLemmas.{node_of_out}
 use Rattle.interpolator_pieces.proofs.names.NamesVisitor.enter.Goals as goal
 

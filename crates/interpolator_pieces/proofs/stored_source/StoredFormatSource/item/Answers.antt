@@ -1,6 +1,5 @@
 use Rattle.std.proofs.Common.{arith}
-use Rattle.interpolator_pieces.proofs.RunLemmas.{first_piece}
-use Rattle.interpolator_pieces.proofs.WholePieceLemmas.{in_item}
+use Rattle.interpolator_pieces.proofs.{RunLemmas.first_piece, WholePieceLemmas.in_item}
 use Rattle.interpolator_pieces.proofs.stored_source.StoredFormatSource.item.Goals as goal
 
 pub invariant_of-result : goal.invariant_of-result

@@ -1,6 +1,5 @@
 use Rattle.std.proofs.Common.{arith}
-use Rattle.interpolator_pieces.proofs.RunLemmas.{first_piece}
-use Rattle.interpolator_pieces.proofs.WholePieceLemmas.{in_item}
+use Rattle.interpolator_pieces.proofs.{RunLemmas.first_piece, WholePieceLemmas.in_item}
 use Rattle.interpolator_pieces.proofs.stored_source.StoredFormatSource.plain_item.Goals as goal
 
 pub plain_pieces-requires : goal.plain_pieces-requires

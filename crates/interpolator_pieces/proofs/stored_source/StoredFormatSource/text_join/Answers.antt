@@ -1,6 +1,5 @@
 use Rattle.std.proofs.Common.{arith}
-use Rattle.interpolator_pieces.proofs.RunLemmas.{first_piece}
-use Rattle.interpolator_pieces.proofs.WholePieceLemmas.{in_join}
+use Rattle.interpolator_pieces.proofs.{RunLemmas.first_piece, WholePieceLemmas.in_join}
 use Rattle.interpolator_pieces.proofs.stored_source.StoredFormatSource.text_join.Goals as goal
 
 pub text_pieces-requires : goal.text_pieces-requires

@@ -1,5 +1,4 @@
-use Rattle.std.proofs.Common.{arith}
-use Rattle.std.proofs.lemmas.Str.{encodes-chars, IsUtf8-string_bytes}
+use Rattle.std.proofs.{Common.arith, lemmas.Str.encodes-chars, lemmas.Str.IsUtf8-string_bytes}
 use Rattle.interpolator_render.proofs.bounded.Bounded.left.Goals as goal
 
 pub returns-then-self-clause-within : goal.returns-then-self-clause-within

@@ -1,5 +1,4 @@
-use Rattle.std.proofs.Common.{arith}
-use Rattle.std.proofs.lemmas.List.{length-replicate}
+use Rattle.std.proofs.{Common.arith, lemmas.List.length-replicate}
 use Rattle.interpolator_render.proofs.DigitBufferLemmas.{row_grows, copies_in_front}
 use Rattle.interpolator_render.proofs.digit_buffer.DigitBuffer.pad_before.Goals as goal
 

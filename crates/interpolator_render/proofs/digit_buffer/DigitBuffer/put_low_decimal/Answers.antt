@@ -1,5 +1,4 @@
-use Rattle.std.proofs.Common.{false, arith}
-use Rattle.std.proofs.lemmas.Str.{IsAscii-drop}
+use Rattle.std.proofs.{Common.false, Common.arith, lemmas.Str.IsAscii-drop}
 use Rattle.interpolator_digits.proofs.DigitLemmas.{digits_ascii}
 use Rattle.interpolator_render.proofs.DigitBufferLemmas.{row_grows, IsBuffered-grows}
 use Rattle.interpolator_render.proofs.digit_buffer.DigitBuffer.put_low_decimal.Goals as goal

@@ -4,29 +4,18 @@ use Rattle.std.specs.Str.{chars}
 use seplogic.Ra.Ura.{Ura}
 use mir.Val.{Val, vptr}
 use base.Logic.{SProp, ent}
-use prog.Memory.{Memory}
-use prog.Routine.{Routine}
-use prog.Wp.{Calls, Loops, WpFn, Tables}
-use contract.Monad.{Fun}
-use contract.Running.{tables, tables_of}
+use prog.{Memory.Memory, Routine.Routine, Wp.Calls, Wp.Loops, Wp.WpFn, Wp.Tables}
+use contract.{Monad.Fun, Running.tables, Running.tables_of}
 use sound.WpLaws.{WpFn-mono}
-use types.Logic.{Logic}
-use types.Kit.{‵, raw, ◌⊛◌, prop, ◌$◌, ◌∵◌, !, qed, move, keep, drop, split, fsplit, fjoin, feq_l, regoal, suffices, done}
-use types.Part.{agg}
-use types.Run.{enter, returns, and_then, no_more}
+use types.Kit.{‵, raw, ◌⊛◌, prop, ◌$◌, ◌∵◌, !, qed, move, keep, drop, split, fsplit, fjoin, feq_l}
+use types.Kit.{regoal, suffices, done}
 use types.ByLocal.{alloc_all, pass_all, free_all, look_at, get, sets}
-use denote.Exit.{yes}
-use denote.RattleType.{RattleType, owns}
-use denote.Builtin.{RefOf, unit}
-use denote.Laws.{Is}
-use denote.Signature.{plain, types_at}
-use denote.Steps.{nothing, owned}
-use denote.Struct.Laws.{makes}
-use denote.Triple.Clauses.{Clauses, closing}
-use denote.Triple.Entry.{alive}
-use denote.Triple.Spec.{Meets, triple_of}
-use denote.Triple.Table.{entered}
+use types.{Logic.Logic, Part.agg, Run.enter, Run.returns, Run.and_then, Run.no_more}
 use denote.Triple.Walked.{says, Stays, stay_dropped, walk_of, ends_at, walk_Meets, Goes-dropped}
+use denote.{Exit.yes, RattleType.RattleType, RattleType.owns, Builtin.RefOf, Builtin.unit, Laws.Is}
+use denote.{Signature.plain, Signature.types_at, Steps.nothing, Steps.owned, Struct.Laws.makes}
+use denote.{Triple.Clauses.Clauses, Triple.Clauses.closing, Triple.Entry.alive, Triple.Spec.Meets}
+use denote.{Triple.Spec.triple_of, Triple.Table.entered}
 use Rattle.std.specs.contracts.marker.PhantomData as Mark
 use Rattle.std.specs.contracts.string.String as Text
 use Rattle.std.specs.contracts.alloc.Global as Memory'

@@ -2,33 +2,21 @@
 use Rattle.std.proofs.Common.{List, [], ◌∷◌, ◌++◌, refl}
 use seplogic.Ra.Ura.{Ura}
 use mir.Syntax.{Fn, Args, Dict, a_type, dcons, dnil}
-use mir.Val.{Val, vptr}
-use mir.MapTy.{inst_fn}
+use mir.{Val.Val, Val.vptr, MapTy.inst_fn}
 use base.Logic.{SProp, ent}
-use prog.Memory.{Memory}
-use prog.Routine.{Routine}
-use prog.Wp.{Calls, Loops, WpFn, Tables}
-use contract.Monad.{Fun}
-use contract.Running.{tables, tables_of}
+use prog.{Memory.Memory, Routine.Routine, Wp.Calls, Wp.Loops, Wp.WpFn, Wp.Tables}
+use contract.{Monad.Fun, Running.tables, Running.tables_of}
 use sound.WpLaws.{WpFn-mono}
-use types.Logic.{Logic}
-use types.Kit.{‵, raw, ◌⊛◌, prop, ◌$◌, ◌∵◌, !, qed, move, keep, drop, split, fsplit, fjoin, feq_l, regoal, suffices, done}
-use types.Part.{agg}
-use types.Run.{enter, returns, and_then, no_more}
+use types.Kit.{‵, raw, ◌⊛◌, prop, ◌$◌, ◌∵◌, !, qed, move, keep, drop, split, fsplit, fjoin, feq_l}
+use types.Kit.{regoal, suffices, done}
 use types.ByLocal.{alloc_all, pass_all, free_all, look_at, get, sets}
-use denote.Exit.{yes}
-use denote.RattleType.{RattleType, owns}
-use denote.Builtin.{RefOf, unit}
-use denote.Laws.{Is}
-use denote.Param.{param, bounded}
-use denote.Signature.{plain, types_at}
-use denote.Steps.{nothing, owned}
-use denote.Struct.Laws.{makes}
+use types.{Logic.Logic, Part.agg, Run.enter, Run.returns, Run.and_then, Run.no_more}
 use denote.Triple.Clauses.{Clauses, Ended, closing}
-use denote.Triple.Entry.{alive}
-use denote.Triple.Spec.{Meets, triple_of}
-use denote.Triple.Table.{entered}
 use denote.Triple.Walked.{says, Stays, stay_dropped, walk_of, ends_at, walk_Meets, Goes-dropped}
+use denote.{Exit.yes, RattleType.RattleType, RattleType.owns, Builtin.RefOf, Builtin.unit, Laws.Is}
+use denote.{Param.param, Param.bounded, Signature.plain, Signature.types_at, Steps.nothing}
+use denote.{Steps.owned, Struct.Laws.makes, Triple.Entry.alive, Triple.Spec.Meets}
+use denote.{Triple.Spec.triple_of, Triple.Table.entered}
 use Rattle.std.specs.contracts.marker.PhantomData as Mark
 use Rattle.std.specs.declared.io.traits.Write as writes
 use Rattle.interpolator_render.proofs.HandSteps.{none, one, one_made}

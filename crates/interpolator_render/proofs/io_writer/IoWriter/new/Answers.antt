@@ -1,5 +1,4 @@
-use Rattle.std.proofs.Common.{arith}
-use Rattle.std.proofs.lemmas.Str.{chars-nil}
+use Rattle.std.proofs.{Common.arith, lemmas.Str.chars-nil}
 use Rattle.interpolator_render.proofs.io_writer.IoWriter.new.Goals as goal
 
 pub returns-clause-written : goal.returns-clause-written

@@ -1,9 +1,7 @@
 use Rattle.std.proofs.Common.{arith, length-set}
-use Rattle.std.proofs.lemmas.Bool.Decides.{nat_tests}
-use Rattle.std.proofs.lemmas.List.{take_more_set}
 use Rattle.std.proofs.lemmas.Str.{chars-append, encode_ascii, IsUtf8-encode}
-use Rattle.interpolator_render.proofs.PlaceLemmas.{holds_more}
-use Rattle.interpolator_render.proofs.WrittenLemmas.{chars-encode}
+use Rattle.std.proofs.{lemmas.Bool.Decides.nat_tests, lemmas.List.take_more_set}
+use Rattle.interpolator_render.proofs.{PlaceLemmas.holds_more, WrittenLemmas.chars-encode}
 use Rattle.interpolator_render.proofs.text_buffer.TextBufferTextWrite.write_char.Goals as goal
 
 pub invariant_of-self : goal.invariant_of-self

@@ -1,7 +1,5 @@
 use Rattle.std.proofs.Common.{arith, length-append, length-drop, length-take-le}
-use Rattle.std.proofs.lemmas.Grind.{common_steps}
-use Rattle.std.proofs.lemmas.List.{take_at}
-use Rattle.std.proofs.lemmas.Str.{chars-append, chars-nil}
+use Rattle.std.proofs.lemmas.{Grind.common_steps, List.take_at, Str.chars-append, Str.chars-nil}
 use Rattle.interpolator_render.proofs.PlaceLemmas.{holds_more}
 use Rattle.interpolator_render.proofs.text_buffer.TextBufferTextWrite.write_str.Goals as goal
 

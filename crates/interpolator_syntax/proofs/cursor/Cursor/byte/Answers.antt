@@ -1,5 +1,4 @@
-use Rattle.std.proofs.Common.{arith}
-use Rattle.std.proofs.lemmas.Grind.{common_steps}
+use Rattle.std.proofs.{Common.arith, lemmas.Grind.common_steps}
 use Rattle.interpolator_syntax.proofs.FirstByteLemmas.{byte_told}
 use Rattle.interpolator_syntax.proofs.cursor.Cursor.byte.Goals as goal
 

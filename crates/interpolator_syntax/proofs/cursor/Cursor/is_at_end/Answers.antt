@@ -1,5 +1,4 @@
-use Rattle.std.proofs.Common.{arith}
-use Rattle.std.proofs.lemmas.Grind.{common_steps}
+use Rattle.std.proofs.{Common.arith, lemmas.Grind.common_steps}
 use Rattle.interpolator_syntax.proofs.FirstByteLemmas.{ends_told}
 use Rattle.interpolator_syntax.proofs.cursor.Cursor.is_at_end.Goals as goal
 

@@ -1,5 +1,4 @@
-use Rattle.std.proofs.Common.{arith}
-use Rattle.std.proofs.lemmas.Grind.{common_steps}
+use Rattle.std.proofs.{Common.arith, lemmas.Grind.common_steps}
 use Rattle.interpolator_syntax.proofs.EqualityLemmas.{kinds_decide}
 use Rattle.interpolator_syntax.proofs.laws.equality.is_same_kind.Goals as goal
 

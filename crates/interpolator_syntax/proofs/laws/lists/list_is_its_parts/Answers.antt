@@ -1,5 +1,4 @@
-use Rattle.interpolator_syntax.proofs.GrammarListLemmas.{law_list}
-use Rattle.interpolator_syntax.proofs.GrammarPartLemmas.{agrees_is}
+use Rattle.interpolator_syntax.proofs.{GrammarListLemmas.law_list, GrammarPartLemmas.agrees_is}
 use Rattle.interpolator_syntax.proofs.LocalLemmas.{still}
 use Rattle.interpolator_syntax.proofs.laws.lists.list_is_its_parts.Goals as goal
 

@@ -1,6 +1,5 @@
 use Rattle.interpolator_syntax.specs.Pieces.{pieces}
-use Rattle.interpolator_syntax.proofs.GrammarLemmas.{one_list}
-use Rattle.interpolator_syntax.proofs.GrammarPieceLemmas.{pieces_are}
+use Rattle.interpolator_syntax.proofs.{GrammarLemmas.one_list, GrammarPieceLemmas.pieces_are}
 use Rattle.interpolator_syntax.proofs.laws.pieces.pieces_are_the_one_list.Goals as goal
 
 pub returns-clause-is : goal.returns-clause-is

@@ -1,6 +1,5 @@
 use Rattle.interpolator_syntax.specs.Pieces.{pieces}
-use Rattle.interpolator_syntax.proofs.GrammarLemmas.{pieces_joined}
-use Rattle.interpolator_syntax.proofs.GrammarPieceLemmas.{pieces_are}
+use Rattle.interpolator_syntax.proofs.{GrammarLemmas.pieces_joined, GrammarPieceLemmas.pieces_are}
 use Rattle.interpolator_syntax.proofs.laws.pieces.pieces_join.Goals as goal
 
 pub returns : goal.returns

@@ -1,6 +1,5 @@
 -- A spec is its parts: a lemma a clause.
-use Rattle.interpolator_syntax.proofs.GrammarPartLemmas.{agrees_is}
-use Rattle.interpolator_syntax.proofs.GrammarSpecLemmas.{law_spec}
+use Rattle.interpolator_syntax.proofs.{GrammarPartLemmas.agrees_is, GrammarSpecLemmas.law_spec}
 use Rattle.interpolator_syntax.proofs.LocalLemmas.{still}
 use Rattle.interpolator_syntax.proofs.laws.specs.spec_is_its_parts.Goals as goal
 

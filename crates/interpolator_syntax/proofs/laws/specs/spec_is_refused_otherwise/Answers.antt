@@ -1,6 +1,5 @@
 -- A text is no spec if no parts make it one: a lemma a clause.
-use Rattle.interpolator_syntax.proofs.GrammarPartLemmas.{agrees_is_not}
-use Rattle.interpolator_syntax.proofs.GrammarSpecLemmas.{law_spec}
+use Rattle.interpolator_syntax.proofs.{GrammarPartLemmas.agrees_is_not, GrammarSpecLemmas.law_spec}
 use Rattle.interpolator_syntax.proofs.LocalLemmas.{still}
 use Rattle.interpolator_syntax.proofs.laws.specs.spec_is_refused_otherwise.Goals as goal
 

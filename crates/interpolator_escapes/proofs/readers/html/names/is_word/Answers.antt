@@ -1,6 +1,5 @@
 use Rattle.std.proofs.Common.{arith, ◌≡◌}
-use Rattle.std.proofs.lemmas.List.{take_all}
-use Rattle.std.proofs.lemmas.Slice.Eq.{bytes_eq-Decides}
+use Rattle.std.proofs.{lemmas.List.take_all, lemmas.Slice.Eq.bytes_eq-Decides}
 use Rattle.interpolator_escapes.proofs.readers.html.names.is_word.Goals as goal
 
 pub returns : goal.returns

@@ -1,6 +1,5 @@
-use Rattle.std.proofs.Common.{arith}
-use Rattle.std.proofs.lemmas.Grind.{common_steps}
 use Rattle.std.proofs.lemmas.Str.{chars-nil, encodes-chars}
+use Rattle.std.proofs.{Common.arith, lemmas.Grind.common_steps}
 use Rattle.interpolator_eval.proofs.evaluate.environment.Environment+C+C+Object.inner.Goals as goal
 
 pub returns-then-is_empty : goal.returns-then-is_empty

@@ -1,7 +1,7 @@
 use Rattle.std.proofs.Common.{◌≡◌, true, rules, ◌∙◌}
 use Rattle.plurals.specs.Tokens.{is_numeral}
 use Rattle.plurals.proofs.TokenLemmas.{number_parsed}
-use Rattle.plurals.proofs.token.number_in.Goals as goal
+use Rattle.plurals.proofs.numeral.number_in.Goals as goal
 
 pub returns : goal.returns
 returns c =
