@@ -4,19 +4,15 @@ use Rattle.std.proofs.Common.{length-drop, slice_get, unwrap_or, replicate, posi
 use Rattle.std.proofs.Common.{IsUtf8, ne_eqb, length, get_or, Option, bit_or, chars, arith, zero, ℕ}
 use Rattle.std.proofs.Common.{Bool, true, cond, List, ◌++◌, take, drop, refl, ◌||◌, Some, None, suc}
 use Rattle.std.proofs.Common.{◌+◌, ◌<◌, ◌≤◌, eqb, min, ◌∷◌, sym, ◌⊎◌, inl, ◌%◌, ◌^◌, map, []}
-use Rattle.std.specs.List.{position_or_len}
-use Rattle.std.specs.Prelude.{⊤}
-use Rattle.std.specs.Char.{encode_utf8}
 use Rattle.std.proofs.lemmas.Str.{encodes-chars, encode_ascii, chars_from_encodes, IsUtf8-take}
 use Rattle.std.proofs.lemmas.Str.{length-encode, len_utf8_bounds, IsUtf8-drop}
 use Rattle.std.proofs.lemmas.List.Sums.{position_or_len_is, fails_before_first, passes_at_first}
 use Rattle.std.proofs.lemmas.List.Sums.{prefix_len-le-length}
-use Rattle.std.proofs.lemmas.List.{length-map}
 use Rattle.std.proofs.lemmas.Simd.{zip2_splat, zip2_of_maps, mask_l-mod, leading_from_mask_l}
 use Rattle.std.proofs.lemmas.Simd.{trailing_mask_l}
-use Rattle.std.specs.Simd.Lanes.{mask_l, zip2, top}
-use Rattle.std.specs.Int.Count.{count_trailing_zeros}
-use Rattle.std.proofs.lemmas.Bool.{cond_both, cases_lt}
+use Rattle.std.proofs.{lemmas.List.length-map, lemmas.Bool.cond_both, lemmas.Bool.cases_lt}
+use Rattle.std.specs.{List.position_or_len, Prelude.⊤, Char.encode_utf8, Simd.Lanes.mask_l}
+use Rattle.std.specs.{Simd.Lanes.zip2, Simd.Lanes.top, Int.Count.count_trailing_zeros}
 use Rattle.interpolator_syntax.specs.Classes.{avoids, front_of, after_of}
 
 -- ---- a block's mask
@@ -71,6 +67,13 @@ take_before test zero xs = omega arith
 take_before test (suc n) [] = omega arith
 take_before test (suc n) (x ∷ xs) = grind (arith, take_before test n xs)
 
+-- the first among n of them is in the text
+pub first_within :
+    (test : ℕ → Bool) (n k : ℕ) (xs : List ℕ) → n ≤ length xs
+    → k ≡ position_or_len test (take n xs) → k ≤ length xs
+first_within test n k xs room is =
+    grind (arith, take_before test n xs, prefix_len-le-length)
+
 less_after :
     (test : ℕ → Bool) (all rest left : List ℕ) (k : ℕ) → SameFirst test all rest
     → k ≤ position_or_len test rest → left ≡ drop k rest → SameFirst test all left
@@ -81,6 +84,14 @@ pub one_block_less :
     (test : ℕ → Bool) (all rest left : List ℕ) (n k : ℕ) → SameFirst test all rest
     → k ≡ position_or_len test (take n rest) → left ≡ drop k rest → SameFirst test all left
 one_block_less test all rest left n k same is e = grind (arith, less_after, take_before)
+
+-- past what was skipped behind a block without one that passes
+pub past_block :
+    (test : ℕ → Bool) (all behind rest : List ℕ) (n : ℕ) → n ≡ position_or_len test (take n all)
+    → behind ≡ drop n all → SameFirst test behind rest → SameFirst test all rest
+past_block test all behind rest n is e same =
+    let past = one_block_less test all all behind n n (omega arith, refl) is e in
+    omega (arith, past, same)
 
 pub first_or_all : (test : ℕ → Bool) (bs : List ℕ)
     → unwrap_or (position test bs) (length bs) ≡ position_or_len test bs

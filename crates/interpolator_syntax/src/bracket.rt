@@ -36,6 +36,7 @@ fn skip_hashes(start: Cursor<'_>, count: usize) -> Option<Cursor<'_>>
 }
 
 /// Returns the next `)`, and the text after it.
+#[inline(always)]
 fn find_bracket(here: Cursor<'_>) -> Option<(Cursor<'_>, Cursor<'_>)>
     ensures { option_map (λ r. (at r.0, at r.1)) result ≡ next_close (at here.entry) }
 {
@@ -56,9 +57,6 @@ fn next_candidate(here: Cursor<'_>, count: usize) -> Option<(Cursor<'_>, Cursor<
     let Some((mut bracket, mut rest)) = find_bracket(here) else {
         return None;
     };
-    if count < MANY_HASHES {
-        return Some((bracket, rest));
-    }
     while let Some((next, behind)) = find_bracket(rest) {
         if next.place - rest.place >= count {
             break;
@@ -79,14 +77,35 @@ fn text_before<'a>(text: &'a str, rest: &str) -> &'a str
     front
 }
 
-/// Returns the text up to the first `)` that has `count` signs after it, and the text after those.
-fn find_close(start: Cursor<'_>, count: usize) -> Option<(&str, Cursor<'_>)>
+/// As [`find_close`], for many signs.
+#[cold]
+#[inline(never)]
+fn find_guarded_close(start: Cursor<'_>, count: usize) -> Option<(&str, Cursor<'_>)>
     ensures found { option_map text_read result
         ≡ close_from count start.entry.place (chars start.entry.rest.now) }
     ensures len { IfSome result (λ r. length r.0.now ≤ length start.entry.rest.now) }
 {
     let mut here = start;
     while let Some((close, after)) = next_candidate(here, count) {
+        if let Some(end) = skip_hashes(after, count) {
+            return Some((text_before(start.rest, close.rest), end));
+        }
+        here = after;
+    }
+    None
+}
+
+/// Returns the text up to the first `)` that has `count` signs after it, and the text after those.
+fn find_close(start: Cursor<'_>, count: usize) -> Option<(&str, Cursor<'_>)>
+    ensures found { option_map text_read result
+        ≡ close_from count start.entry.place (chars start.entry.rest.now) }
+    ensures len { IfSome result (λ r. length r.0.now ≤ length start.entry.rest.now) }
+{
+    if count >= MANY_HASHES {
+        return find_guarded_close(start, count);
+    }
+    let mut here = start;
+    while let Some((close, after)) = find_bracket(here) {
         if let Some(end) = skip_hashes(after, count) {
             return Some((text_before(start.rest, close.rest), end));
         }
@@ -119,6 +138,7 @@ fn take_group<'a>(here: &mut Cursor<'a>, start: usize) -> Result<Group<'a>, Argu
 }
 
 /// Reads the group here, if there is one, in the argument that begins at `start`.
+#[inline(always)]
 pub(crate) fn take_group_if<'a>(
     here: &mut Cursor<'a>,
     start: usize,

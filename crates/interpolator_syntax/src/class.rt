@@ -1,9 +1,8 @@
 //! Classes of characters, and the longest front of a text whose characters are of one class.
 ghost use Rattle.std.specs.Prelude.{◌≡◌, ◌+◌, ◌++◌, ◌<◌, ◌≤◌, length, take, [], ◌∷◌, ◌==◌, ◌||◌};
 ghost use Rattle.std.specs.Prelude.{MatchOption, IfSome, ℕ};
-ghost use Rattle.std.specs.Str.{chars};
-ghost use Rattle.std.specs.Char.{len_utf8, encode_utf8};
-ghost use Rattle.std.specs.List.{position, position_or_len};
+ghost use Rattle.std.specs.{Str.chars, Char.len_utf8, Char.encode_utf8, List.position};
+ghost use Rattle.std.specs.List.{position_or_len};
 ghost use Rattle.interpolator_syntax.specs.Classes.{in_class, avoids, front_of, after_of};
 ghost use Rattle.interpolator_syntax.specs.Grammar.{NotFirst};
 ghost use Rattle.interpolator_syntax.specs.declared.class.Class.TheVariants.{WhiteSpace};
@@ -123,6 +122,9 @@ const BLOCK: usize = 16;
 /// How many of less than a block are tested at once.
 const HALF: usize = 8;
 
+/// How many are tested at once after the first block.
+const WIDE: usize = 32;
+
 /// Returns the index of the first byte of the first block that is one of these two.
 #[inline(always)]
 fn block_position(bytes: &[u8], first: u8, second: u8) -> Option<usize>
@@ -142,8 +144,8 @@ fn block_position(bytes: &[u8], first: u8, second: u8) -> Option<usize>
 }
 
 /// Skips bytes that are neither of these two. What is left begins with one of them, or is shorter
-/// than a block.
-#[inline(always)]
+/// than a block. This is called, since it is for the end of a text.
+#[inline(never)]
 fn skip_blocks(bytes: &[u8], first: u8, second: u8) -> &[u8]
     ensures shorter { length result.now ≤ length bytes.now }
     ensures first { position_or_len (λ b. b == first || b == second) bytes.now + length result.now
@@ -159,6 +161,43 @@ fn skip_blocks(bytes: &[u8], first: u8, second: u8) -> &[u8]
         rest = after;
     }
     rest
+}
+
+/// As [`block_position`], for two blocks.
+#[inline(always)]
+fn wide_position(bytes: &[u8], first: u8, second: u8) -> Option<usize>
+    requires { 32 ≤ length bytes.now }
+    ensures { MatchOption result
+        (32 ≡ position_or_len (λ b. b == first || b == second) (take 32 bytes.now))
+        (λ n. n ≡ position_or_len (λ b. b == first || b == second) (take 32 bytes.now)) }
+{
+    let wide = u8x32::from_slice(bytes);
+    let is_first = wide.simd_eq(u8x32::splat(first));
+    let is_second = wide.simd_eq(u8x32::splat(second));
+    let hits = (is_first | is_second).to_bitmask();
+    if hits == 0 {
+        return None;
+    }
+    Some(hits.trailing_zeros() as usize)
+}
+
+/// As [`skip_blocks`], by two blocks at once while there are two.
+#[inline(always)]
+fn skip_wide(bytes: &[u8], first: u8, second: u8) -> &[u8]
+    ensures shorter { length result.now ≤ length bytes.now }
+    ensures first { position_or_len (λ b. b == first || b == second) bytes.now + length result.now
+        ≡ position_or_len (λ b. b == first || b == second) result.now + length bytes.now }
+{
+    let mut rest = bytes;
+    while rest.len() >= WIDE {
+        if let Some(index) = wide_position(rest, first, second) {
+            let (_, hit) = rest.split_at(index);
+            return hit;
+        }
+        let (_, after) = rest.split_at(WIDE);
+        rest = after;
+    }
+    skip_blocks(rest, first, second)
 }
 
 /// Returns the index of the first byte that is one of these two.
@@ -182,7 +221,9 @@ fn near_position(bytes: &[u8], near: usize, first: u8, second: u8) -> Option<usi
 #[inline(always)]
 fn block_index(bytes: &[u8], first: u8, second: u8) -> Option<usize>
     requires { 16 ≤ length bytes.now }
-    ensures { IfSome result (λ r. r ≡ position_or_len (λ b. b == first || b == second) bytes.now) }
+    ensures { MatchOption result
+        (16 ≡ position_or_len (λ b. b == first || b == second) (take 16 bytes.now))
+        (λ r. r ≡ position_or_len (λ b. b == first || b == second) bytes.now) }
 {
     let index = block_position(bytes, first, second)?;
     if index < BLOCK { Some(index) } else { None }
@@ -248,7 +289,8 @@ fn bytes_before(bytes: &[u8], near: Option<usize>, first: u8, second: u8) -> usi
     if let Some(index) = block_index(bytes, first, second) {
         return index;
     }
-    let rest = skip_blocks(bytes, first, second);
+    let (_, behind) = bytes.split_at(BLOCK);
+    let rest = skip_wide(behind, first, second);
     let skipped = bytes.len() - rest.len();
     match byte_position(rest, first, second) {
         Some(index) => skipped + index,

@@ -6,9 +6,6 @@ use Rattle.interpolator_syntax.proofs.bracket.next_candidate.Goals as goal
 pub returns-in_default : goal.returns-in_default
 returns-in_default c = (at c.args.here, at_first _ _, sym c.in_default.ensures)
 
-pub returns-then-count-lt-MANY_HASHES : goal.returns-then-count-lt-MANY_HASHES
-returns-then-count-lt-MANY_HASHES c = (at c.args.here, at_first _ _, sym c.in-Some.ensures)
-
 pub loop-next-init : goal.loop-next-init
 loop-next-init c = (at c.args.here, at_first _ _, sym c.in-Some.ensures)
 

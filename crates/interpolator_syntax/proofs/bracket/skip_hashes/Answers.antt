@@ -1,5 +1,4 @@
-use Rattle.std.proofs.lemmas.Grind.{common_steps}
-use Rattle.std.proofs.Common.{arith}
+use Rattle.std.proofs.{lemmas.Grind.common_steps, Common.arith}
 use Rattle.interpolator_syntax.proofs.GroupLemmas.{signs_next, one_less}
 use Rattle.interpolator_syntax.proofs.bracket.skip_hashes.Goals as goal
 

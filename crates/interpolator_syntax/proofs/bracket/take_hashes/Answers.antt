@@ -1,5 +1,4 @@
-use Rattle.std.proofs.Common.{arith}
-use Rattle.std.proofs.lemmas.Grind.{common_steps}
+use Rattle.std.proofs.{Common.arith, lemmas.Grind.common_steps}
 use Rattle.interpolator_syntax.proofs.GroupLemmas.{signs_bytes}
 use Rattle.interpolator_syntax.proofs.bracket.take_hashes.Goals as goal
 

@@ -1,5 +1,4 @@
-use Rattle.std.proofs.Common.{arith}
-use Rattle.std.proofs.lemmas.Grind.{common_steps}
+use Rattle.std.proofs.{Common.arith, lemmas.Grind.common_steps}
 use Rattle.interpolator_syntax.proofs.FrontLemmas.{rest_boundary}
 use Rattle.interpolator_syntax.proofs.GroupLemmas.{rest_of_chars, rest_short, chars_of_cut}
 use Rattle.interpolator_syntax.proofs.bracket.text_before.Goals as goal

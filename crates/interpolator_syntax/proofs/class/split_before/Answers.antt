@@ -1,5 +1,4 @@
-use Rattle.std.proofs.Common.{arith}
-use Rattle.std.proofs.lemmas.Grind.{common_steps}
+use Rattle.std.proofs.{Common.arith, lemmas.Grind.common_steps}
 use Rattle.interpolator_syntax.proofs.ByteLemmas.{cut_boundary, chars_front, chars_after}
 use Rattle.interpolator_syntax.proofs.class.split_before.Goals as goal
 

@@ -1,5 +1,4 @@
-use Rattle.std.proofs.Common.{arith}
-use Rattle.std.proofs.lemmas.Str.{chars-nil}
+use Rattle.std.proofs.{Common.arith, lemmas.Str.chars-nil}
 use Rattle.interpolator_syntax.proofs.FirstByteLemmas.{no_space}
 use Rattle.interpolator_syntax.proofs.class.split_space.Goals as goal
 

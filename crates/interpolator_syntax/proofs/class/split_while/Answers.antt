@@ -1,6 +1,4 @@
-use Rattle.std.proofs.Common.{arith}
-use Rattle.std.proofs.lemmas.Grind.{common_steps}
-use Rattle.std.proofs.lemmas.Str.{IsUtf8-past_char}
+use Rattle.std.proofs.{Common.arith, lemmas.Grind.common_steps, lemmas.Str.IsUtf8-past_char}
 use Rattle.interpolator_syntax.proofs.FrontLemmas.{rest_more, rest_boundary, front_at_rest}
 use Rattle.interpolator_syntax.proofs.class.split_while.Goals as goal
 

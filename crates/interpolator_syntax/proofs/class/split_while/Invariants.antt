@@ -1,6 +1,5 @@
 use Rattle.std.proofs.Common.{◌≡◌, ◌++◌, length, ℕ, List, chars}
-use denote.Text.{Utf8}
-use denote.Shadow.{shadow}
+use denote.{Text.Utf8, Shadow.shadow}
 use Rattle.interpolator_syntax.specs.Classes.{in_class, after_of}
 use Rattle.interpolator_syntax.proofs.class.split_while.Given as goal
 

@@ -1,5 +1,4 @@
-use Rattle.std.proofs.lemmas.Grind.{common_steps}
-use Rattle.std.proofs.Common.{arith}
+use Rattle.std.proofs.{lemmas.Grind.common_steps, Common.arith}
 use Rattle.interpolator_syntax.proofs.StripLemmas.{boundary_after}
 use Rattle.interpolator_syntax.proofs.class.strip_ascii.Goals as goal
 
