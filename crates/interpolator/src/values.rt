@@ -1,8 +1,6 @@
 //! A row of named values, which owns the names and what they stand for.
 ghost use Rattle.std.specs.Prelude.{◌≡◌, None, map, reverse, option_map};
-ghost use Rattle.std.specs.List.{find};
-ghost use Rattle.std.specs.Option.{option_copied};
-ghost use Rattle.std.specs.Str.{bytes_eq, encode_utf8_all};
+ghost use Rattle.std.specs.{List.find, Option.option_copied, Str.bytes_eq, Str.encode_utf8_all};
 ghost use Rattle.interpolator_eval.specs.Contexts.{last_under};
 ghost use Rattle.interpolator_eval.specs.Slots.{slots_of, empty_slots, with_iter};
 ghost use Rattle.interpolator.specs.NamedValues.{with_traits, named_slots, pair_of, pair_with};
@@ -162,6 +160,37 @@ pub struct Values<'a> {
     pub(crate) entries: [NamedValue<'a>; MOST],
     pub(crate) len: usize,
 }
+
+/// The first sixteen of some values.
+macro_rules! first_sixteen {
+    (
+        $a:expr, $b:expr, $c:expr, $d:expr, $e:expr, $f:expr, $g:expr, $h:expr,
+        $i:expr, $j:expr, $k:expr, $l:expr, $m:expr, $n:expr, $o:expr, $p:expr
+        $(, $more:expr)*
+    ) => {
+        [$a, $b, $c, $d, $e, $f, $g, $h, $i, $j, $k, $l, $m, $n, $o, $p]
+    };
+}
+
+/// A row of so many names, each with its list.
+macro_rules! row {
+    ($len:literal; $($name:ident $list:ident),*) => {
+        $crate::values::Values {
+            entries: $crate::values::first_sixteen!(
+                $($crate::values::named($name, $list),)*
+                $crate::values::GAP, $crate::values::GAP, $crate::values::GAP,
+                $crate::values::GAP, $crate::values::GAP, $crate::values::GAP,
+                $crate::values::GAP, $crate::values::GAP, $crate::values::GAP,
+                $crate::values::GAP, $crate::values::GAP, $crate::values::GAP,
+                $crate::values::GAP, $crate::values::GAP, $crate::values::GAP
+            ),
+            len: $len,
+        }
+    };
+}
+
+pub(crate) use first_sixteen;
+pub(crate) use row;
 
 impl<'a> Values<'a> {
     /// The named values, in order.

@@ -2,7 +2,7 @@
 ghost use Rattle.std.specs.Prelude.{◌≡◌, [], ◌∷◌};
 ghost use Rattle.interpolator.specs.NamedValues.{pair_with, pairs_of};
 
-use crate::values::{GAP, LentList, MOST, NamedView, Values, named};
+use crate::values::{GAP, LentList, MOST, NamedView, Values, row};
 
 /// A row without names.
 #[inline(always)]
@@ -20,27 +20,7 @@ pub fn values_0<'a>() -> Values<'a>
 pub fn values_1<'a>(a: NamedView<'a>, a_list: LentList<'a>) -> Values<'a>
     ensures { pairs_of result ≡ pair_with a.entry a_list.entry ∷ [] }
 {
-    Values {
-        entries: [
-            named(a, a_list),
-            GAP,
-            GAP,
-            GAP,
-            GAP,
-            GAP,
-            GAP,
-            GAP,
-            GAP,
-            GAP,
-            GAP,
-            GAP,
-            GAP,
-            GAP,
-            GAP,
-            GAP,
-        ],
-        len: 1,
-    }
+    row!(1; a a_list)
 }
 
 /// A row of two names.
@@ -54,27 +34,7 @@ pub fn values_2<'a>(
     ensures { pairs_of result
         ≡ pair_with a.entry a_list.entry ∷ pair_with b.entry b_list.entry ∷ [] }
 {
-    Values {
-        entries: [
-            named(a, a_list),
-            named(b, b_list),
-            GAP,
-            GAP,
-            GAP,
-            GAP,
-            GAP,
-            GAP,
-            GAP,
-            GAP,
-            GAP,
-            GAP,
-            GAP,
-            GAP,
-            GAP,
-            GAP,
-        ],
-        len: 2,
-    }
+    row!(2; a a_list, b b_list)
 }
 
 /// A row of three names.
@@ -91,27 +51,7 @@ pub fn values_3<'a>(
         ≡ pair_with a.entry a_list.entry ∷ pair_with b.entry b_list.entry
         ∷ pair_with c.entry c_list.entry ∷ [] }
 {
-    Values {
-        entries: [
-            named(a, a_list),
-            named(b, b_list),
-            named(c, c_list),
-            GAP,
-            GAP,
-            GAP,
-            GAP,
-            GAP,
-            GAP,
-            GAP,
-            GAP,
-            GAP,
-            GAP,
-            GAP,
-            GAP,
-            GAP,
-        ],
-        len: 3,
-    }
+    row!(3; a a_list, b b_list, c c_list)
 }
 
 /// A row of four names.
@@ -130,27 +70,7 @@ pub fn values_4<'a>(
         ≡ pair_with a.entry a_list.entry ∷ pair_with b.entry b_list.entry
         ∷ pair_with c.entry c_list.entry ∷ pair_with d.entry d_list.entry ∷ [] }
 {
-    Values {
-        entries: [
-            named(a, a_list),
-            named(b, b_list),
-            named(c, c_list),
-            named(d, d_list),
-            GAP,
-            GAP,
-            GAP,
-            GAP,
-            GAP,
-            GAP,
-            GAP,
-            GAP,
-            GAP,
-            GAP,
-            GAP,
-            GAP,
-        ],
-        len: 4,
-    }
+    row!(4; a a_list, b b_list, c c_list, d d_list)
 }
 
 /// A row of five names.
@@ -172,27 +92,7 @@ pub fn values_5<'a>(
         ∷ pair_with c.entry c_list.entry ∷ pair_with d.entry d_list.entry
         ∷ pair_with e.entry e_list.entry ∷ [] }
 {
-    Values {
-        entries: [
-            named(a, a_list),
-            named(b, b_list),
-            named(c, c_list),
-            named(d, d_list),
-            named(e, e_list),
-            GAP,
-            GAP,
-            GAP,
-            GAP,
-            GAP,
-            GAP,
-            GAP,
-            GAP,
-            GAP,
-            GAP,
-            GAP,
-        ],
-        len: 5,
-    }
+    row!(5; a a_list, b b_list, c c_list, d d_list, e e_list)
 }
 
 /// A row of six names.
@@ -216,27 +116,7 @@ pub fn values_6<'a>(
         ∷ pair_with c.entry c_list.entry ∷ pair_with d.entry d_list.entry
         ∷ pair_with e.entry e_list.entry ∷ pair_with f.entry f_list.entry ∷ [] }
 {
-    Values {
-        entries: [
-            named(a, a_list),
-            named(b, b_list),
-            named(c, c_list),
-            named(d, d_list),
-            named(e, e_list),
-            named(f, f_list),
-            GAP,
-            GAP,
-            GAP,
-            GAP,
-            GAP,
-            GAP,
-            GAP,
-            GAP,
-            GAP,
-            GAP,
-        ],
-        len: 6,
-    }
+    row!(6; a a_list, b b_list, c c_list, d d_list, e e_list, f f_list)
 }
 
 /// A row of seven names.
@@ -263,27 +143,7 @@ pub fn values_7<'a>(
         ∷ pair_with e.entry e_list.entry ∷ pair_with f.entry f_list.entry
         ∷ pair_with g.entry g_list.entry ∷ [] }
 {
-    Values {
-        entries: [
-            named(a, a_list),
-            named(b, b_list),
-            named(c, c_list),
-            named(d, d_list),
-            named(e, e_list),
-            named(f, f_list),
-            named(g, g_list),
-            GAP,
-            GAP,
-            GAP,
-            GAP,
-            GAP,
-            GAP,
-            GAP,
-            GAP,
-            GAP,
-        ],
-        len: 7,
-    }
+    row!(7; a a_list, b b_list, c c_list, d d_list, e e_list, f f_list, g g_list)
 }
 
 /// A row of eight names.
@@ -312,27 +172,7 @@ pub fn values_8<'a>(
         ∷ pair_with e.entry e_list.entry ∷ pair_with f.entry f_list.entry
         ∷ pair_with g.entry g_list.entry ∷ pair_with h.entry h_list.entry ∷ [] }
 {
-    Values {
-        entries: [
-            named(a, a_list),
-            named(b, b_list),
-            named(c, c_list),
-            named(d, d_list),
-            named(e, e_list),
-            named(f, f_list),
-            named(g, g_list),
-            named(h, h_list),
-            GAP,
-            GAP,
-            GAP,
-            GAP,
-            GAP,
-            GAP,
-            GAP,
-            GAP,
-        ],
-        len: 8,
-    }
+    row!(8; a a_list, b b_list, c c_list, d d_list, e e_list, f f_list, g g_list, h h_list)
 }
 
 /// A row of nine names.
@@ -364,25 +204,7 @@ pub fn values_9<'a>(
         ∷ pair_with g.entry g_list.entry ∷ pair_with h.entry h_list.entry
         ∷ pair_with i.entry i_list.entry ∷ [] }
 {
-    Values {
-        entries: [
-            named(a, a_list),
-            named(b, b_list),
-            named(c, c_list),
-            named(d, d_list),
-            named(e, e_list),
-            named(f, f_list),
-            named(g, g_list),
-            named(h, h_list),
-            named(i, i_list),
-            GAP,
-            GAP,
-            GAP,
-            GAP,
-            GAP,
-            GAP,
-            GAP,
-        ],
-        len: 9,
-    }
+    row!(
+        9; a a_list, b b_list, c c_list, d d_list, e e_list, f f_list, g g_list, h h_list, i i_list
+    )
 }

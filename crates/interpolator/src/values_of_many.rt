@@ -2,7 +2,7 @@
 ghost use Rattle.std.specs.Prelude.{◌≡◌, [], ◌∷◌};
 ghost use Rattle.interpolator.specs.NamedValues.{pair_with, pairs_of};
 
-use crate::values::{GAP, LentList, NamedView, Values, named};
+use crate::values::{LentList, NamedView, Values, row};
 
 /// A row of ten names.
 #[inline(always)]
@@ -35,27 +35,10 @@ pub fn values_10<'a>(
         ∷ pair_with g.entry g_list.entry ∷ pair_with h.entry h_list.entry
         ∷ pair_with i.entry i_list.entry ∷ pair_with j.entry j_list.entry ∷ [] }
 {
-    Values {
-        entries: [
-            named(a, a_list),
-            named(b, b_list),
-            named(c, c_list),
-            named(d, d_list),
-            named(e, e_list),
-            named(f, f_list),
-            named(g, g_list),
-            named(h, h_list),
-            named(i, i_list),
-            named(j, j_list),
-            GAP,
-            GAP,
-            GAP,
-            GAP,
-            GAP,
-            GAP,
-        ],
-        len: 10,
-    }
+    row!(
+        10; a a_list, b b_list, c c_list, d d_list, e e_list, f f_list, g g_list, h h_list,
+        i i_list, j j_list
+    )
 }
 
 /// A row of eleven names.
@@ -92,27 +75,10 @@ pub fn values_11<'a>(
         ∷ pair_with i.entry i_list.entry ∷ pair_with j.entry j_list.entry
         ∷ pair_with k.entry k_list.entry ∷ [] }
 {
-    Values {
-        entries: [
-            named(a, a_list),
-            named(b, b_list),
-            named(c, c_list),
-            named(d, d_list),
-            named(e, e_list),
-            named(f, f_list),
-            named(g, g_list),
-            named(h, h_list),
-            named(i, i_list),
-            named(j, j_list),
-            named(k, k_list),
-            GAP,
-            GAP,
-            GAP,
-            GAP,
-            GAP,
-        ],
-        len: 11,
-    }
+    row!(
+        11; a a_list, b b_list, c c_list, d d_list, e e_list, f f_list, g g_list, h h_list,
+        i i_list, j j_list, k k_list
+    )
 }
 
 /// A row of twelve names.
@@ -151,27 +117,10 @@ pub fn values_12<'a>(
         ∷ pair_with i.entry i_list.entry ∷ pair_with j.entry j_list.entry
         ∷ pair_with k.entry k_list.entry ∷ pair_with l.entry l_list.entry ∷ [] }
 {
-    Values {
-        entries: [
-            named(a, a_list),
-            named(b, b_list),
-            named(c, c_list),
-            named(d, d_list),
-            named(e, e_list),
-            named(f, f_list),
-            named(g, g_list),
-            named(h, h_list),
-            named(i, i_list),
-            named(j, j_list),
-            named(k, k_list),
-            named(l, l_list),
-            GAP,
-            GAP,
-            GAP,
-            GAP,
-        ],
-        len: 12,
-    }
+    row!(
+        12; a a_list, b b_list, c c_list, d d_list, e e_list, f f_list, g g_list, h h_list,
+        i i_list, j j_list, k k_list, l l_list
+    )
 }
 
 /// A row of thirteen names.
@@ -213,25 +162,8 @@ pub fn values_13<'a>(
         ∷ pair_with k.entry k_list.entry ∷ pair_with l.entry l_list.entry
         ∷ pair_with m.entry m_list.entry ∷ [] }
 {
-    Values {
-        entries: [
-            named(a, a_list),
-            named(b, b_list),
-            named(c, c_list),
-            named(d, d_list),
-            named(e, e_list),
-            named(f, f_list),
-            named(g, g_list),
-            named(h, h_list),
-            named(i, i_list),
-            named(j, j_list),
-            named(k, k_list),
-            named(l, l_list),
-            named(m, m_list),
-            GAP,
-            GAP,
-            GAP,
-        ],
-        len: 13,
-    }
+    row!(
+        13; a a_list, b b_list, c c_list, d d_list, e e_list, f f_list, g g_list, h h_list,
+        i i_list, j j_list, k k_list, l l_list, m m_list
+    )
 }

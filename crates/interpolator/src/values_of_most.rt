@@ -2,7 +2,7 @@
 ghost use Rattle.std.specs.Prelude.{◌≡◌, [], ◌∷◌};
 ghost use Rattle.interpolator.specs.NamedValues.{pair_with, pairs_of};
 
-use crate::values::{GAP, LentList, NamedView, Values, named};
+use crate::values::{LentList, NamedView, Values, row};
 
 /// A row of fourteen names.
 #[inline(always)]
@@ -45,27 +45,10 @@ pub fn values_14<'a>(
         ∷ pair_with k.entry k_list.entry ∷ pair_with l.entry l_list.entry
         ∷ pair_with m.entry m_list.entry ∷ pair_with n.entry n_list.entry ∷ [] }
 {
-    Values {
-        entries: [
-            named(a, a_list),
-            named(b, b_list),
-            named(c, c_list),
-            named(d, d_list),
-            named(e, e_list),
-            named(f, f_list),
-            named(g, g_list),
-            named(h, h_list),
-            named(i, i_list),
-            named(j, j_list),
-            named(k, k_list),
-            named(l, l_list),
-            named(m, m_list),
-            named(n, n_list),
-            GAP,
-            GAP,
-        ],
-        len: 14,
-    }
+    row!(
+        14; a a_list, b b_list, c c_list, d d_list, e e_list, f f_list, g g_list, h h_list,
+        i i_list, j j_list, k k_list, l l_list, m m_list, n n_list
+    )
 }
 
 /// A row of fifteen names.
@@ -112,27 +95,10 @@ pub fn values_15<'a>(
         ∷ pair_with m.entry m_list.entry ∷ pair_with n.entry n_list.entry
         ∷ pair_with o.entry o_list.entry ∷ [] }
 {
-    Values {
-        entries: [
-            named(a, a_list),
-            named(b, b_list),
-            named(c, c_list),
-            named(d, d_list),
-            named(e, e_list),
-            named(f, f_list),
-            named(g, g_list),
-            named(h, h_list),
-            named(i, i_list),
-            named(j, j_list),
-            named(k, k_list),
-            named(l, l_list),
-            named(m, m_list),
-            named(n, n_list),
-            named(o, o_list),
-            GAP,
-        ],
-        len: 15,
-    }
+    row!(
+        15; a a_list, b b_list, c c_list, d d_list, e e_list, f f_list, g g_list, h h_list,
+        i i_list, j j_list, k k_list, l l_list, m m_list, n n_list, o o_list
+    )
 }
 
 /// A row of sixteen names.
@@ -181,25 +147,8 @@ pub fn values_16<'a>(
         ∷ pair_with m.entry m_list.entry ∷ pair_with n.entry n_list.entry
         ∷ pair_with o.entry o_list.entry ∷ pair_with p.entry p_list.entry ∷ [] }
 {
-    Values {
-        entries: [
-            named(a, a_list),
-            named(b, b_list),
-            named(c, c_list),
-            named(d, d_list),
-            named(e, e_list),
-            named(f, f_list),
-            named(g, g_list),
-            named(h, h_list),
-            named(i, i_list),
-            named(j, j_list),
-            named(k, k_list),
-            named(l, l_list),
-            named(m, m_list),
-            named(n, n_list),
-            named(o, o_list),
-            named(p, p_list),
-        ],
-        len: 16,
-    }
+    row!(
+        16; a a_list, b b_list, c c_list, d d_list, e e_list, f f_list, g g_list, h h_list,
+        i i_list, j j_list, k k_list, l l_list, m m_list, n n_list, o o_list, p p_list
+    )
 }
