@@ -17,10 +17,11 @@ use Rattle.interpolator.specs.Meaning.{AskedNames.asked_names, Meanings.means}
 use Rattle.interpolator.specs.declared.{Bits.TheVariants.B128, Spec.Spec, Trait.Trait, View.View}
 use Rattle.interpolator.specs.{Template.NodeSamples.faults_over, Texts.view_text}
 use Rattle.interpolator_escapes.specs.{Formats.escaped_shows, declared.escape.Escape.Escape}
-use Rattle.catalogue.specs.Entries.{Held, found_by, item_slots, slots_by}
+use Rattle.catalogue.specs.Entries.{Held, found_by, slots_by}
 use Rattle.catalogue.specs.Examples.{example, example_of, example_slots, faults_of, text_example}
 use Rattle.catalogue.specs.Examples.{view_shows}
-use Rattle.catalogue.specs.Objects.{Gives, IsGiven, Showing, shown_by, shown_of, texts_show}
+use Rattle.catalogue.specs.Objects.{Gives, IsGiven, Showing, shown_by, shown_of}
+use Rattle.words.specs.Lists.{item_slots, texts_show}
 use Rattle.catalogue.specs.{Declarations.these, Messages.message_means, Picks.HoldsPick}
 use Rattle.words.specs.Words.{Assignment, text, number, decimal, float, list}
 use Rattle.words.specs.{Items.items_of, declared.Kind.Kind}

@@ -4,7 +4,7 @@ use Rattle.std.specs.{Borrow.Bor, List.find, Option.option_map, Str.bytes_eq, St
 use Rattle.interpolator.specs.Slots.{Slots, empty_slots, slots_of, with_debug_display, with_float}
 use Rattle.interpolator.specs.Slots.{with_integer, with_iter}
 use Rattle.interpolator.specs.{declared.Formattable.Formattable, declared.View.View}
-use Rattle.words.specs.declared.Kind.{Kind}
+use Rattle.words.specs.{Lists.item_slots, declared.Kind.Kind}
 use Rattle.words.specs.declared.Kind.TheVariants as kinds
 use Rattle.catalogue.specs.{declared.entries.Entry.Entry, declared.entries.Object.Object}
 
@@ -16,10 +16,6 @@ Held = List ℕ × Slots View
 abbrev pub found_by : List Held → List ℕ → Option (Slots View)
 found_by held name =
     option_map (λ one. one.1) (find (λ one. bytes_eq (encode_utf8_all name) one.0) (reverse held))
-
--- items of a list, each with its slots of debug and display filled
-abbrev pub item_slots : List View → List (Slots View)
-item_slots views = map (λ view. with_debug_display empty_slots view) views
 
 -- the slots that a value of a kind fills: a text those of debug and display, a whole number those
 -- of an integer, a decimal or a float those of debug, display and exponents, a list that of its

@@ -7,8 +7,8 @@ use Rattle.interpolator.specs.Template.{NodeChecks.text_faults, NodeSamples.faul
 use Rattle.interpolator.specs.declared.{Bits.TheVariants.B128, Spec.Spec, Trait.Trait, View.View}
 use Rattle.interpolator.specs.{At.outermost, Slots.Slots, Views.Shown, Views.shown_as_value}
 use Rattle.catalogue.specs.Declarations.{Declared, nothing, these, broken}
-use Rattle.catalogue.specs.Entries.{Held, found_by, item_slots, slots_by}
-use Rattle.words.specs.declared.Kind.{Kind}
+use Rattle.catalogue.specs.Entries.{Held, found_by, slots_by}
+use Rattle.words.specs.{Lists.item_slots, declared.Kind.Kind}
 use Rattle.words.specs.declared.Kind.TheVariants as kinds
 
 -- what a view shows as a value, whatever the trait and the spec

@@ -5,13 +5,9 @@ use Rattle.interpolator.specs.Views.{Shown, decimal_number, nothing_implemented,
 use Rattle.interpolator.specs.Views.{float_number, signed_number, some_text}
 use Rattle.interpolator.specs.declared.Bits.TheVariants.{B128}
 use Rattle.words.specs.Words.{Assignment, text, number, decimal, float, list, IsGood, Means}
-use Rattle.words.specs.{Items.items_of, declared.Kind.Kind}
+use Rattle.words.specs.{Items.items_of, Lists.texts_show, declared.Kind.Kind}
 use Rattle.words.specs.declared.Kind.TheVariants as kinds
 use Rattle.catalogue.specs.{Firsts.IsFirstWithout, declared.entries.Object.Object}
-
--- what texts show
-abbrev pub texts_show : List (List ℕ) → List Shown
-texts_show texts = map (λ one. some_text (chars one)) texts
 
 -- a name with a kind, what its value shows, and what its items show
 abbrev pub Showing : Type 0

@@ -55,6 +55,12 @@ pub(crate) fn status_after(rt: &HostRuntime, written: io::Result<()>) -> io::Res
     }
 }
 
+/// Writes an error.
+fn tell_error(rt: &HostRuntime, error: &Error) -> io::Result<u8> {
+    eprintln!(rt; "{error}")?;
+    Ok(FAULT)
+}
+
 /// Writes a message, and which words no message uses.
 fn tell_message(
     rt: &HostRuntime,
@@ -70,10 +76,7 @@ fn tell_message(
             }
             Ok(status)
         }
-        Err(error) => {
-            eprintln!(rt; "{error}")?;
-            Ok(FAULT)
-        }
+        Err(error) => tell_error(rt, &error),
     }
 }
 
@@ -159,10 +162,7 @@ pub(crate) fn answer(rt: &HostRuntime, wanted: &Wanted<'_>) -> io::Result<u8> {
     }
     match answer_in(rt.alloc(), wanted, files.as_slice()) {
         Ok(answer) => tell(rt, &answer, files.as_slice(), wanted),
-        Err(error) => {
-            eprintln!(rt; "{error}")?;
-            Ok(FAULT)
-        }
+        Err(error) => tell_error(rt, &error),
     }
 }
 
@@ -183,10 +183,7 @@ pub(crate) fn answer_po(
     match in_po(rt.alloc(), &file, wanted.escape, Some(sought)) {
         Ok(Answer::Message(message)) => status_after(rt, println!(rt; "{message}")),
         Ok(answer) => tell(rt, &answer, &[], wanted),
-        Err(error) => {
-            eprintln!(rt; "{error}")?;
-            Ok(FAULT)
-        }
+        Err(error) => tell_error(rt, &error),
     }
 }
 

@@ -1,8 +1,7 @@
 //! What a command line asks for.
 
-ghost use Rattle.std.specs.Prelude.{◌<◌, IfSome, length};
-
 use interpolator::Escape;
+use words::flags::{Flags, after_flags};
 
 /// What a command line asks for.
 #[derive(Clone, Copy)]
@@ -31,36 +30,25 @@ pub(crate) struct Wanted<'a> {
     pub(crate) escape: Option<Escape>,
 }
 
-/// Takes a flag of one word, if it is one that may stand here.
-fn take_word(asked: &mut Asked<'_>, flag: &str) -> Option<()> {
-    match flag {
-        "--check" if !asked.is_check => asked.is_check = true,
-        "--po" if !asked.is_po => asked.is_po = true,
-        "--line" if asked.escape.is_none() => asked.escape = Some(Escape::Line),
-        "--html" if asked.escape.is_none() => asked.escape = Some(Escape::Html),
-        _ => return None,
+impl<'a> Flags<'a> for Asked<'a> {
+    fn take_word(&mut self, flag: &str) -> Option<()> {
+        match flag {
+            "--check" if !self.is_check => self.is_check = true,
+            "--po" if !self.is_po => self.is_po = true,
+            "--line" if self.escape.is_none() => self.escape = Some(Escape::Line),
+            "--html" if self.escape.is_none() => self.escape = Some(Escape::Html),
+            _ => return None,
+        }
+        Some(())
     }
-    Some(())
-}
 
-/// Takes a flag at the beginning of words, and returns the words after it; none if there is none.
-fn after_flag<'a>(asked: &mut Asked<'a>, words: &'a [String]) -> Option<&'a [String]>
-    ensures { IfSome result (λ rest. length rest.now < length words.now) }
-{
-    match words {
-        [flag, file, more @ ..] if flag.as_str() == "--fallback" => {
-            asked.second = Some(file.as_str());
-            Some(more)
+    fn take_value(&mut self, flag: &str, value: &'a str) -> Option<()> {
+        match flag {
+            "--fallback" => self.second = Some(value),
+            "--context" => self.context = Some(value),
+            _ => return None,
         }
-        [flag, context, more @ ..] if flag.as_str() == "--context" => {
-            asked.context = Some(context.as_str());
-            Some(more)
-        }
-        [flag, more @ ..] => {
-            take_word(asked, flag.as_str())?;
-            Some(more)
-        }
-        _ => None,
+        Some(())
     }
 }
 
@@ -74,14 +62,10 @@ pub(crate) fn asked_by(line: &[String]) -> Option<Asked<'_>> {
         context: None,
         words: line,
     };
-    let mut rest = line;
-    while let Some(next) = after_flag(&mut asked, rest) {
-        rest = next;
-    }
-    asked.words = match rest {
+    asked.words = match after_flags(&mut asked, line) {
         [end, words @ ..] if end.as_str() == "--" => words,
         [flag, ..] if flag.starts_with("--") => return None,
-        _ => rest,
+        words => words,
     };
     Some(asked)
 }

@@ -3,11 +3,10 @@
 ghost use Rattle.std.specs.Prelude.{◌≡◌, IfOk, IfErr, map};
 ghost use Rattle.interpolator.specs.{Faults.answer_of, Faults.no_memory, Slots.slots_of};
 ghost use Rattle.catalogue.specs.Entries.{entry_slots, held_by, held_by_entry, held_by_pair};
-ghost use Rattle.catalogue.specs.Entries.{item_slots};
 
 use interpolator::{Error, Formattable, View};
 use std::alloc::Global;
-use words::Kind;
+use words::{Kind, as_items};
 
 /// A name, and the views of the value under it.
 #[derive(Drop)]
@@ -27,21 +26,6 @@ pub struct Entry<'a> {
     pub kind: Kind,
     pub value: &'a View<'a>,
     pub items: Vec<Formattable<'a, View<'a>>>,
-}
-
-/// Each view as an item of a list, which fills the slots of debug and display.
-fn as_items<'a>(
-    alloc: Global,
-    views: &'a [View<'a>],
-) -> Result<Vec<Formattable<'a, View<'a>>>, Error>
-    ensures items { IfOk result (λ items. map slots_of items.items ≡ item_slots views.now) }
-    ensures refused { IfErr result (λ error. answer_of error ≡ no_memory) }
-{
-    let mut items = Vec::with_capacity(alloc, views.len())?;
-    for view in views {
-        items.push(Formattable::debug_display(view))?;
-    }
-    Ok(items)
 }
 
 /// An object, borrowed.

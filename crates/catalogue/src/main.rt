@@ -104,10 +104,9 @@ mod unused;
 
 use answers::{answer, answer_po, check_files, status_after};
 use asked::{asked_by, is_po_free, wanted_by};
-use interpolator::Error;
 use std::io;
 use std::process::ExitCode;
-use words::program::{BAD_USE, FAULT, REFUSED, arguments};
+use words::program::{BAD_USE, REFUSED, about, out_of_memory, words_in};
 
 const USAGE: &str = "usage: catalogue [--line | --html] [--fallback FILE] [--] FILE KEY \
     [NAME=TEXT | NAME:=NUMBER | NAME:.=DECIMAL | NAME:~=FLOAT | NAME[]=ITEM,ITEM..] | \
@@ -152,31 +151,12 @@ fn tell_usage(rt: &HostRuntime) -> io::Result<u8> {
     Ok(BAD_USE)
 }
 
-/// Writes that memory ran out, and returns the status.
-fn tell_memory(rt: &HostRuntime) -> u8 {
-    match eprintln!(rt; "{}", Error::NoMemory) {
-        Ok(()) => FAULT,
-        Err(_) => REFUSED,
-    }
-}
-
 /// Runs a command line, and returns the status.
-fn run(rt: &HostRuntime) -> io::Result<u8> {
-    let line = match arguments(rt) {
-        Ok(line) => line,
-        Err(error) if error.kind() == io::ErrorKind::OutOfMemory => return Err(error),
-        // A word that is not UTF-8 is a wrong use.
-        Err(_) => return tell_usage(rt),
-    };
-    if let [word, ..] = line.as_slice() {
-        if word.as_str() == "--help" {
-            return status_after(rt, rt.print(HELP));
-        }
-        if word.as_str() == "--version" {
-            return status_after(rt, rt.print(VERSION));
-        }
+fn run(rt: &HostRuntime, line: &[String]) -> io::Result<u8> {
+    if let Some(text) = about(line.get(..1).unwrap_or(&[]), HELP, VERSION) {
+        return status_after(rt, rt.print(text));
     }
-    let Some(asked) = asked_by(line.as_slice()) else {
+    let Some(asked) = asked_by(line) else {
         return tell_usage(rt);
     };
     let is_plain = asked.second.is_none() && asked.context.is_none();
@@ -193,10 +173,13 @@ fn run(rt: &HostRuntime) -> io::Result<u8> {
 }
 
 fn main(rt: HostRuntime) -> ExitCode {
-    let status = match run(&rt) {
-        Ok(status) => status,
-        Err(error) if error.kind() == io::ErrorKind::OutOfMemory => tell_memory(&rt),
-        Err(_) => REFUSED,
+    let line = match words_in(&rt, USAGE) {
+        Ok(line) => line,
+        Err(status) => return status,
     };
-    ExitCode::from(status)
+    match run(&rt, &line) {
+        Ok(status) => ExitCode::from(status),
+        Err(error) if error.kind() == io::ErrorKind::OutOfMemory => out_of_memory(&rt),
+        Err(_) => ExitCode::from(REFUSED),
+    }
 }

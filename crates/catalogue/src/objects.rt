@@ -1,31 +1,18 @@
 //! The objects that words give.
 
-ghost use Rattle.std.specs.Prelude.{◌≡◌, IfOk, IfErr, MatchOption, MatchResult, [], map};
+ghost use Rattle.std.specs.Prelude.{◌≡◌, IfOk, IfErr, MatchOption, MatchResult, []};
 ghost use Rattle.std.specs.Prelude.{string_bytes};
 ghost use Rattle.std.specs.List.{AllZip};
 ghost use Rattle.interpolator.specs.Faults.{answer_of, no_memory};
 ghost use Rattle.interpolator.specs.Views.{nothing_implemented, shown_as_value};
-ghost use Rattle.words.specs.{Items.items_of, Items.texts_of, Words.IsGood};
+ghost use Rattle.words.specs.{Items.items_of, Lists.texts_show, Words.IsGood};
 ghost use Rattle.words.specs.declared.Kind.TheVariants as kinds;
-ghost use Rattle.catalogue.specs.Objects.{Gives, IsFirstBad, shown_of, texts_show};
+ghost use Rattle.catalogue.specs.Objects.{Gives, IsFirstBad, shown_of};
 
 use crate::entries::Object;
 use interpolator::{Bits, Error, View};
 use std::alloc::Global;
-use words::{Kind, Word, classify, items};
-
-/// Each text, as a view.
-fn views_of<'a>(alloc: Global, texts: &[&'a str]) -> Result<Vec<View<'a>>, Error>
-    ensures views { IfOk result (λ views.
-        map shown_as_value views.items ≡ texts_show (texts_of texts.now)) }
-    ensures refused { IfErr result (λ error. answer_of error ≡ no_memory) }
-{
-    let mut views = Vec::with_capacity(alloc, texts.len())?;
-    for text in texts {
-        views.push(View::Text(text))?;
-    }
-    Ok(views)
-}
+use words::{Kind, Word, classify, item_views};
 
 /// The object of a value without items.
 fn single<'a>(alloc: Global, name: &'a str, kind: Kind, value: View<'a>) -> Object<'a>
@@ -45,13 +32,11 @@ fn listed<'a>(alloc: Global, name: &'a str, text: &'a str) -> Result<Object<'a>,
         ≡ ((name.now, kinds.List), (nothing_implemented, texts_show (items_of text.now)))) }
     ensures refused { IfErr result (λ error. answer_of error ≡ no_memory) }
 {
-    let texts = items(alloc, text)?;
-    let items = views_of(alloc, texts.as_slice())?;
     Ok(Object {
         name,
         kind: Kind::List,
         value: View::NotImplemented,
-        items,
+        items: item_views(alloc, text)?,
     })
 }
 

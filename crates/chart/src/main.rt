@@ -19,24 +19,21 @@
 //! records; else the first value of the format that is out of place, or its first fault.
 #![tactic(auto)]
 
-ghost use Rattle.std.specs.Prelude.{◌<◌, IfSome, length};
-
-mod faults;
 mod rows;
 
-use faults::Faults;
 use interpolator::{
     Argument, ContextMap, Error, Escape, EscapedTemplate, Formattable, Interpolate, Kind,
-    PlaceError, Range, Source, Template, View, explain, explain_place, items_of, places_of,
-    rows_of,
+    PlaceError, Range, Template, View, explain, items_of, places_of, rows_of,
 };
-use records::{BadByte, Place, Separator, Table, advice_on, latin1, text_in};
+use records::{Faults, Separator, Table, advice_on, latin1, text_in};
 use rows::{Rows, place_of, rows_of_records};
 use std::alloc::Global;
-use std::fs;
 use std::process::ExitCode;
+use words::flags::{Flags, files_after};
+use words::formats::{source_of, told_at};
 use words::program::{
-    FAULT, REFUSED, WRITTEN, arguments, ended, is_flag, usage, without_mark, without_words,
+    Answer, REFUSED, about, bytes_in, ended, print_answer, print_text, status_of, usage,
+    without_mark, words_in,
 };
 
 const USAGE: &str = "usage: chart [--separator , | ; | tab] [--latin1] [--] FORMAT FILE";
@@ -59,17 +56,8 @@ chart chart.svg.txt speed.txt >speed.svg
 
 const VERSION: &str = "chart 0.5.0\n";
 
-/// What a table is drawn as.
-#[derive(Drop)]
-enum Chart {
-    /// Its picture.
-    Picture(String),
-    /// A line for each fault that it has, or the fault of the format.
-    Faults(String),
-}
-
 /// What the command line asks for.
-#[derive(Clone, Copy)]
+#[derive(Clone, Copy, Default)]
 struct Asked<'a> {
     format: &'a str,
     table: &'a str,
@@ -136,14 +124,14 @@ fn picture_of(
     format: &str,
     page: &EscapedTemplate,
     rows: Rows<'_>,
-) -> Result<Chart, Error> {
+) -> Result<Answer, Error> {
     match drawn(alloc, page, rows) {
-        Ok(picture) => Ok(Chart::Picture(picture)),
+        Ok(picture) => Ok(Answer::Text(picture)),
         Err(Error::NoMemory) => Err(Error::NoMemory),
         Err(error) => {
             let mut told = explain(alloc, asked.format, format, &error)?;
             told.push('\n')?;
-            Ok(Chart::Faults(told))
+            Ok(Answer::Faults(told))
         }
     }
 }
@@ -154,66 +142,39 @@ fn misplaced(
     asked: Asked<'_>,
     format: &str,
     error: &PlaceError,
-) -> Result<Chart, Error> {
+) -> Result<Answer, Error> {
     let PlaceError::Misplaced(misplaced) = error else {
         return Err(Error::NoMemory);
     };
-    let source = Source {
-        name: asked.format,
-        first_line: 1,
-        text: format,
-        start: 0,
-        format,
-    };
     let places = places_of(Escape::Html);
     let why = format!(in alloc; "{}; a value may stand {places}", misplaced.why)?;
-    let mut told = explain_place(alloc, &source, misplaced.place, why.as_str())?;
-    told.push('\n')?;
-    Ok(Chart::Faults(told))
-}
-
-/// The places where a table goes on with no record, as lines of text.
-fn told_broken(alloc: Global, asked: Asked<'_>, table: &Table<'_>) -> Result<String, Error> {
-    let mut faults = Faults::new(alloc, asked.table);
-    for fault in &table.faults {
-        faults.tell_at(fault.place, fault.problem.as_str())?;
-    }
-    Ok(faults.into_text())
+    let source = source_of(asked.format, format);
+    let told = told_at(alloc, &source, misplaced.place, why.as_str())?;
+    Ok(Answer::Faults(told))
 }
 
 /// The chart of a table's text.
-fn chart_of(alloc: Global, asked: Asked<'_>, format: &str, text: &str) -> Result<Chart, Error> {
+fn chart_of(alloc: Global, asked: Asked<'_>, format: &str, text: &str) -> Result<Answer, Error> {
     let template = Template::parse(alloc, format)?;
     let wanted = numbers_drawn(alloc, &template)?;
-    let separator = match asked.separator {
-        Some(separator) => separator,
-        None => Separator::told_by(text).unwrap_or(Separator::Comma),
-    };
+    let told = Separator::told_by(text);
+    let separator = asked.separator.or(told).unwrap_or(Separator::Comma);
     let table = Table::read(alloc, text, separator)?;
-    let told = told_broken(alloc, asked, &table)?;
-    if !told.is_empty() {
-        return Ok(Chart::Faults(told));
-    }
     let mut faults = Faults::new(alloc, asked.table);
+    for fault in &table.faults {
+        faults.add(*fault)?;
+    }
+    if !faults.is_empty() {
+        return Ok(Answer::Faults(faults.into_text()));
+    }
     let rows = rows_of_records(&mut faults, &table.records, wanted)?;
-    let told = faults.into_text();
-    if !told.is_empty() {
-        return Ok(Chart::Faults(told));
+    if !faults.is_empty() {
+        return Ok(Answer::Faults(faults.into_text()));
     }
     match template.escaped(alloc, Escape::Html) {
         Ok(page) => picture_of(alloc, asked, format, &page, rows),
         Err(error) => misplaced(alloc, asked, format, &error),
     }
-}
-
-/// The chart of a table with a byte that is no UTF-8.
-fn chart_bad(alloc: Global, asked: Asked<'_>, bytes: &[u8], bad: BadByte) -> Result<Chart, Error> {
-    let mut faults = Faults::new(alloc, asked.table);
-    let byte = bad.byte;
-    let advice = advice_on(bytes);
-    let why = format!(in alloc; "byte 0x{byte:02X} is no UTF-8; {advice}")?;
-    faults.tell_at(bad.place, why.as_str())?;
-    Ok(Chart::Faults(faults.into_text()))
 }
 
 /// The chart of a table's bytes.
@@ -222,22 +183,17 @@ fn chart_bytes(
     asked: Asked<'_>,
     format: &str,
     bytes: &[u8],
-) -> Result<Chart, Error> {
+) -> Result<Answer, Error> {
     if asked.is_latin1 {
         let text = latin1(alloc, bytes)?;
         return chart_of(alloc, asked, format, text.as_str());
     }
     match text_in(bytes) {
         Ok(text) => chart_of(alloc, asked, format, text),
-        Err(bad) => chart_bad(alloc, asked, bytes, bad),
-    }
-}
-
-/// The bytes of a file, or how the run ends without them.
-fn bytes_in(rt: &HostRuntime, name: &str) -> Result<Vec<u8>, ExitCode> {
-    match fs::read(rt, name) {
-        Ok(bytes) => Ok(bytes),
-        Err(error) => Err(ended(eprintln!(rt; "{name}: {error}"), REFUSED)),
+        Err(bad) => {
+            let told = format!(in alloc; "{}:{bad}; {}\n", asked.table, advice_on(bytes))?;
+            Ok(Answer::Faults(told))
+        }
     }
 }
 
@@ -245,20 +201,7 @@ fn bytes_in(rt: &HostRuntime, name: &str) -> Result<Vec<u8>, ExitCode> {
 fn format_in<'a>(rt: &HostRuntime, name: &str, bytes: &'a [u8]) -> Result<&'a str, ExitCode> {
     match text_in(bytes) {
         Ok(text) => Ok(without_mark(text)),
-        Err(bad) => {
-            let Place { line, column } = bad.place;
-            let byte = bad.byte;
-            let told = eprintln!(rt; "{name}:{line}:{column}: byte 0x{byte:02X} is no UTF-8");
-            Err(ended(told, REFUSED))
-        }
-    }
-}
-
-/// Prints a text, and ends the run; if that fails, says why.
-fn print_text(rt: &HostRuntime, text: &str) -> ExitCode {
-    match rt.print(text) {
-        Ok(()) => ExitCode::from(WRITTEN),
-        Err(error) => ended(eprintln!(rt; "cannot write: {error}"), REFUSED),
+        Err(bad) => Err(ended(eprintln!(rt; "{name}:{bad}"), REFUSED)),
     }
 }
 
@@ -267,75 +210,51 @@ fn draw(rt: &HostRuntime, asked: Asked<'_>) -> Result<ExitCode, ExitCode> {
     let bytes = bytes_in(rt, asked.format)?;
     let format = format_in(rt, asked.format, &bytes)?;
     let table = bytes_in(rt, asked.table)?;
-    match chart_bytes(rt.alloc(), asked, format, &table) {
-        Ok(Chart::Picture(picture)) => Ok(print_text(rt, picture.as_str())),
-        Ok(Chart::Faults(told)) => Ok(ended(eprint!(rt; "{told}"), FAULT)),
-        Err(error) => Err(ended(eprintln!(rt; "{error}"), FAULT)),
-    }
+    let answer = chart_bytes(rt.alloc(), asked, format, &table);
+    Ok(print_answer(rt, answer))
 }
 
-/// Takes a flag at the beginning of words, and returns the words after it; none if there is none.
-fn after_flag<'a>(asked: &mut Asked<'a>, words: &'a [String]) -> Option<&'a [String]>
-    ensures { IfSome result (λ rest. length rest.now < length words.now) }
-{
-    match words {
-        [flag, more @ ..] if flag.as_str() == "--latin1" => {
-            asked.is_latin1 = true;
-            Some(more)
+impl<'a> Flags<'a> for Asked<'a> {
+    fn take_word(&mut self, flag: &str) -> Option<()> {
+        match flag {
+            "--latin1" => self.is_latin1 = true,
+            _ => return None,
         }
-        [flag, value, more @ ..] if flag.as_str() == "--separator" => {
-            asked.separator = Some(Separator::named(value.as_str())?);
-            Some(more)
+        Some(())
+    }
+
+    fn take_value(&mut self, flag: &str, value: &'a str) -> Option<()> {
+        match flag {
+            "--separator" => self.separator = Some(Separator::named(value)?),
+            _ => return None,
         }
-        _ => None,
+        Some(())
     }
 }
 
 /// What the words ask for: flags, and then two files.
-fn asked_by<'a>(words: &'a [String]) -> Option<Asked<'a>> {
-    let mut asked = Asked {
-        format: "",
-        table: "",
-        separator: None,
-        is_latin1: false,
+fn asked_by(words: &[String]) -> Option<Asked<'_>> {
+    let mut asked = Asked::default();
+    let [format, table] = files_after(&mut asked, words)? else {
+        return None;
     };
-    let mut rest = words;
-    while let Some(next) = after_flag(&mut asked, rest) {
-        rest = next;
+    asked.format = format.as_str();
+    asked.table = table.as_str();
+    Some(asked)
+}
+
+/// Runs a command line.
+fn run(rt: &HostRuntime) -> Result<ExitCode, ExitCode> {
+    let words = words_in(rt, USAGE)?;
+    if let Some(text) = about(&words, HELP, VERSION) {
+        return Ok(print_text(rt, text));
     }
-    match rest {
-        [format, table] if !is_flag(format.as_str()) && !is_flag(table.as_str()) => Some(Asked {
-            format: format.as_str(),
-            table: table.as_str(),
-            ..asked
-        }),
-        [end, format, table] if end.as_str() == "--" => Some(Asked {
-            format: format.as_str(),
-            table: table.as_str(),
-            ..asked
-        }),
-        _ => None,
+    match asked_by(&words) {
+        Some(asked) => draw(rt, asked),
+        None => Err(usage(rt, USAGE)),
     }
 }
 
 fn main(rt: HostRuntime) -> ExitCode {
-    let words = match arguments(&rt) {
-        Ok(words) => words,
-        Err(error) => return without_words(&rt, &error, USAGE),
-    };
-    if let [word] = words.as_slice() {
-        if word.as_str() == "--help" {
-            return print_text(&rt, HELP);
-        }
-        if word.as_str() == "--version" {
-            return print_text(&rt, VERSION);
-        }
-    }
-    let Some(asked) = asked_by(words.as_slice()) else {
-        return usage(&rt, USAGE);
-    };
-    match draw(&rt, asked) {
-        Ok(status) => status,
-        Err(status) => status,
-    }
+    status_of(run(&rt))
 }

@@ -1,8 +1,7 @@
 //! The records of a table as rows of cells.
 
-use crate::faults::Faults;
 use interpolator::{Error, View};
-use records::Record;
+use records::{Faults, Record};
 
 /// The length of the bar of the number that measures its record.
 const UNIT: u128 = 100;
@@ -51,15 +50,19 @@ fn number_at(faults: &mut Faults<'_>, record: &Record<'_>, index: usize) -> Resu
     let column = index.saturating_add(1);
     match text.parse::<u64>() {
         Ok(number) if index == MEASURE && number == 0 => {
-            let why = "the second number, which measures its line, is 0";
-            faults.tell(record.line, column, why)?;
+            let why = format!(in faults.alloc;
+                "column {column}: the second number, which measures its line, is 0"
+            )?;
+            faults.tell(record.line, why.as_str())?;
             Ok(number)
         }
         Ok(number) => Ok(number),
         Err(_) => {
             let most = u64::MAX;
-            let why = format!(in faults.alloc; "`{text}` is no whole number from 0 to {most}")?;
-            faults.tell(record.line, column, why.as_str())?;
+            let why = format!(in faults.alloc;
+                "column {column}: `{text}` is no whole number from 0 to {most}"
+            )?;
+            faults.tell(record.line, why.as_str())?;
             Ok(0)
         }
     }
@@ -94,12 +97,16 @@ fn check_count(
     let noun = if count == 1 { "number" } else { "numbers" };
     let column = count.min(first).saturating_add(2);
     if record.line > line && count != first {
-        let why = format!(in faults.alloc; "{count} {noun}, but line {line} has {first}")?;
-        faults.tell(record.line, column, why.as_str())?;
+        let why = format!(in faults.alloc;
+            "column {column}: {count} {noun}, but line {line} has {first}"
+        )?;
+        faults.tell(record.line, why.as_str())?;
     }
     if record.line <= line && count < fewest {
-        let why = format!(in faults.alloc; "{count} {noun}, but at least {fewest} are wanted")?;
-        faults.tell(record.line, column, why.as_str())?;
+        let why = format!(in faults.alloc;
+            "column {column}: {count} {noun}, but at least {fewest} are wanted"
+        )?;
+        faults.tell(record.line, why.as_str())?;
     }
     Ok(())
 }

@@ -11,7 +11,8 @@ use Rattle.interpolator.specs.{Slots.Slots, Slots.slots_of, Slots.empty_slots, V
 use Rattle.words.specs.declared.Word.TheVariants.{Text, Number, Decimal as DecimalWord}
 use Rattle.words.specs.declared.Word.TheVariants.{Float as FloatWord, List as ListWord, Bad}
 use Rattle.words.specs.{declared.Word.Word, Words.IsGood, Words.Classifies}
-use Rattle.ifmt.specs.Binding.{Binds, Changes, Fills, HasObject, Lends, items_show, item_slots}
+use Rattle.ifmt.specs.Binding.{Binds, Changes, Fills, HasObject, Lends, items_show}
+use Rattle.words.specs.Lists.{item_slots}
 use Rattle.ifmt.specs.Binding.{object_shows}
 use Rattle.ifmt.specs.{declared.binding.Object.Object, declared.binding.Entry.Entry}
 use Rattle.ifmt.specs.Command.{AllGood}

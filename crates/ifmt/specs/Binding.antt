@@ -10,7 +10,7 @@ use Rattle.interpolator.specs.{declared.View.View, declared.Bits.TheVariants.B12
 use Rattle.words.specs.declared.Word.TheVariants.{Text, Number, Decimal as DecimalWord}
 use Rattle.words.specs.declared.Word.TheVariants.{Float as FloatWord, List as ListWord, Bad}
 use Rattle.words.specs.Words.{Assignment, text, number, decimal, float, list, Means, Classifies}
-use Rattle.words.specs.{declared.Word.Word, Items.items_of}
+use Rattle.words.specs.{declared.Word.Word, Items.items_of, Lists.item_slots, Lists.texts_show}
 use Rattle.ifmt.specs.{declared.binding.Object.Object, declared.binding.Entry.Entry}
 
 -- the name of an assignment, by its characters
@@ -31,10 +31,6 @@ object_shows (FloatWord name value) = float_number binary64 value
 object_shows (ListWord name items) = nothing_implemented
 object_shows Bad = nothing_implemented
 
--- what objects that hold texts show
-abbrev pub texts_show : List (List ℕ) → List Shown
-texts_show texts = map (λ value. some_text (chars value)) texts
-
 -- what the objects of a list's items show: their texts; another `Word` has no items
 abbrev pub items_show : Word → List Shown
 items_show (Text name value) = []
@@ -51,10 +47,6 @@ pub record HasObject (word : List ℕ) (object : Object) : Type 0 where
   pub items : map shown_as_value object.items.items ≡ items_show object.word
 
 module _ {X : Type 0} where
-  -- items of a list, each with its slots of debug and display filled, and no other
-  abbrev pub item_slots : List X → List (Slots X)
-  item_slots objects = map (λ object. with_debug_display empty_slots object) objects
-
   -- the slots under one name were changed, from empty ones if it had none, and the other names
   -- stayed
   pub record Changes (old : List ℕ → Option (Slots X)) (name : List ℕ) (change : Slots X → Slots X)

@@ -1,11 +1,6 @@
 //! What a command line asks for.
 
-use std::io;
-use std::io::Write;
-
-const HELP_FLAG: &str = "--help";
-
-const VERSION_FLAG: &str = "--version";
+use words::program::about;
 
 const EXPLAIN_FLAG: &str = "--explain";
 
@@ -35,10 +30,8 @@ const VERSION: &str = "ifmt 0.5.0";
 /// What a command line asks for.
 #[derive(Clone, Copy)]
 pub enum Asked<'a> {
-    /// The help.
-    Help,
-    /// The version.
-    Version,
+    /// The help, or the version.
+    Told(&'static str),
     /// A text, by a format and the words after it; a fault is shown in the format.
     Explained(&'a [String]),
     /// A text, by a format and the words after it.
@@ -48,28 +41,15 @@ pub enum Asked<'a> {
 /// What a command line asks for: `--help` and `--version` alone, `--explain` before a format and
 /// its words, and `--` before a format that begins with `--`. Any other first word is the format.
 pub fn asked_by(line: &[String]) -> Asked<'_> {
-    let Some((first, rest)) = line.split_first() else {
-        return Asked::Text(line);
-    };
-    let first = first.as_str();
-    if rest.is_empty() {
-        return alone(first, line);
+    if let Some(text) = about(line, HELP, VERSION) {
+        return Asked::Told(text);
     }
-    if first == EXPLAIN_FLAG {
-        return Asked::Explained(without_end(rest));
+    match line {
+        [first, rest @ ..] if first.as_str() == EXPLAIN_FLAG && !rest.is_empty() => {
+            Asked::Explained(without_end(rest))
+        }
+        _ => Asked::Text(without_end(line)),
     }
-    Asked::Text(without_end(line))
-}
-
-// What a single word asks for.
-fn alone<'a>(word: &str, line: &'a [String]) -> Asked<'a> {
-    if word == HELP_FLAG {
-        return Asked::Help;
-    }
-    if word == VERSION_FLAG {
-        return Asked::Version;
-    }
-    Asked::Text(line)
 }
 
 // The words without a first `--`, if the second begins so, too.
@@ -83,16 +63,4 @@ fn without_end(line: &[String]) -> &[String] {
 // Whether the first of the words begins with `--`.
 fn begins_like_a_flag(words: &[String]) -> bool {
     words.first().is_some_and(|word| word.starts_with(END))
-}
-
-/// Writes the help, and flushes.
-pub fn put_help<O: Write>(out: &mut O) -> io::Result<()> {
-    writeln!(out, "{HELP}")?;
-    out.flush()
-}
-
-/// Writes the version, and flushes.
-pub fn put_version<O: Write>(out: &mut O) -> io::Result<()> {
-    writeln!(out, "{VERSION}")?;
-    out.flush()
 }

@@ -4,13 +4,11 @@ ghost use Rattle.std.specs.Prelude.{◌≡◌, IfErr, IfOk, OnOk, List, map, str
 ghost use Rattle.std.specs.List.{AllZip};
 ghost use Rattle.interpolator.specs.{Views.shown_as_value, Slots.slots_of, NameMaps.stored_slots};
 ghost use Rattle.interpolator.specs.declared.Error.TheVariants.{NoMemory};
-ghost use Rattle.words.specs.Items.{texts_of};
-ghost use Rattle.ifmt.specs.Binding.{Fills, HasObject, Lends, item_slots, items_show, object_shows};
-ghost use Rattle.ifmt.specs.Binding.{texts_show};
+ghost use Rattle.ifmt.specs.Binding.{Fills, HasObject, Lends, items_show, object_shows};
 
 use interpolator::{Bits, ContextMap, Error, Formattable, View};
 use std::alloc::Global;
-use words::{Word, classify, items};
+use words::{Word, as_items, classify, item_views};
 
 /// A word, and the views of its value.
 #[derive(Drop)]
@@ -92,32 +90,13 @@ fn item_objects<'a>(alloc: Global, word: Word<'a>) -> Result<Vec<View<'a>>, Erro
     ensures err { IfErr result (λ error. error ≡ NoMemory) }
 {
     match word {
-        Word::List {
-            name: _,
-            items: text,
-        } => {
-            let texts = items(alloc, text)?;
-            views_of(alloc, texts.as_slice())
-        }
+        Word::List { name: _, items } => item_views(alloc, items),
         Word::Text { name: _, text: _ } => Ok(Vec::new(alloc)),
         Word::Number { name: _, value: _ } => Ok(Vec::new(alloc)),
         Word::Decimal { name: _, value: _ } => Ok(Vec::new(alloc)),
         Word::Float { name: _, value: _ } => Ok(Vec::new(alloc)),
         Word::Bad => Ok(Vec::new(alloc)),
     }
-}
-
-// Each text as a view.
-fn views_of<'a>(alloc: Global, texts: &[&'a str]) -> Result<Vec<View<'a>>, Error>
-    ensures ok { IfOk result (λ objects.
-        map shown_as_value objects.items ≡ texts_show (texts_of texts.now)) }
-    ensures err { IfErr result (λ error. error ≡ NoMemory) }
-{
-    let mut objects = Vec::with_capacity(alloc, texts.len())?;
-    for text in texts {
-        objects.push(View::Text(text))?;
-    }
-    Ok(objects)
 }
 
 /// Each word with its value borrowed, and its items.
@@ -138,18 +117,6 @@ pub fn entries_of<'e, 'a>(alloc: Global, objects: &'e [Object<'a>]) -> Result<Ve
         })?;
     }
     Ok(entries)
-}
-
-// Each view as an item of a list, which fills the slots of debug and display.
-fn as_items<'a, V>(alloc: Global, objects: &'a [V]) -> Result<Vec<Formattable<'a, V>>, Error>
-    ensures ok { IfOk result (λ items. map slots_of items.items ≡ item_slots objects.now) }
-    ensures err { IfErr result (λ error. error ≡ NoMemory) }
-{
-    let mut items = Vec::with_capacity(alloc, objects.len())?;
-    for object in objects {
-        items.push(Formattable::debug_display(object))?;
-    }
-    Ok(items)
 }
 
 /// Fills slots under a word's name: a text those of debug and display, a whole number all those of

@@ -3,10 +3,11 @@
 use crate::binding::{Entry, entries_of, fill, objects_of};
 use crate::command::first_bad;
 use crate::run::{complain, report, report_fault, usage};
-use interpolator::{ContextMap, Error, Interpolate, Source, explain_with_names};
+use interpolator::{ContextMap, Error, Interpolate, explain_with_names};
 use std::alloc::Global;
 use std::io::Write;
 use words::Word;
+use words::formats::source_of;
 
 /// What a format on a command line is called.
 const NAME: &str = "format";
@@ -67,18 +68,11 @@ fn picture_of(
     error: &Error,
     entries: &[Entry<'_>],
 ) -> Result<String, Error> {
-    let source = Source {
-        name: NAME,
-        first_line: 1,
-        text: format,
-        start: 0,
-        format,
-    };
     let mut names = Vec::with_capacity(alloc, entries.len())?;
     for entry in entries {
         names.push(name_of(entry.word))?;
     }
-    explain_with_names(alloc, &source, error, names.as_slice())
+    explain_with_names(alloc, &source_of(NAME, format), error, names.as_slice())
 }
 
 // The name of a word.

@@ -8,13 +8,13 @@ mod command;
 mod explained;
 mod run;
 
-use asked::{Asked, asked_by, put_help, put_version};
+use asked::{Asked, asked_by};
 use interpolator::Error;
 use std::alloc::Global;
 use std::io;
 use std::io::Write;
 use std::process::ExitCode;
-use words::program::arguments;
+use words::program::{WRITTEN, arguments};
 
 fn main(rt: HostRuntime) -> ExitCode {
     let mut out = rt.stdout();
@@ -33,8 +33,7 @@ fn main(rt: HostRuntime) -> ExitCode {
 // Does what a command line asks for, and returns the status.
 fn answer<O: Write, E: Write>(alloc: Global, line: &[String], out: &mut O, err: &mut E) -> u8 {
     match asked_by(line) {
-        Asked::Help => run::status_of(put_help(out), run::DONE),
-        Asked::Version => run::status_of(put_version(out), run::DONE),
+        Asked::Told(text) => run::status_of(run::put_text(text, out), WRITTEN),
         Asked::Explained(words) => explained::answer_explained(alloc, words, out, err),
         Asked::Text(words) => command::answer(alloc, words, out, err),
     }

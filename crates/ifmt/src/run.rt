@@ -10,15 +10,7 @@ use interpolator::{Context, Error};
 use std::alloc::Global;
 use std::io;
 use std::io::Write;
-
-/// The status of a run that did what it was asked.
-pub const DONE: u8 = 0;
-
-const FAULT: u8 = 1;
-
-const BAD_USE: u8 = 2;
-
-const REFUSED: u8 = 3;
+use words::program::{BAD_USE, FAULT, REFUSED, WRITTEN};
 
 /// Formats, and then writes the text to `out`, or the text of the fault to `err`, as a line.
 ///
@@ -68,7 +60,7 @@ pub fn report<O: Write, E: Write>(outcome: Result<String, Error>, out: &mut O, e
         (E.contents err.old) (E.contents err.new) result (answer_of error)) }
 {
     match outcome {
-        Ok(text) => status_of(put_text(text.as_str(), out), DONE),
+        Ok(text) => status_of(put_text(text.as_str(), out), WRITTEN),
         Err(error) => status_of(put_error(&error, err), FAULT),
     }
 }
@@ -82,7 +74,8 @@ pub fn report_fault<E: Write>(told: &str, err: &mut E) -> u8
     status_of(put_text(told, err), FAULT)
 }
 
-fn put_text<O: Write>(text: &str, out: &mut O) -> io::Result<()>
+/// Writes a text as a line, and flushes.
+pub fn put_text<O: Write>(text: &str, out: &mut O) -> io::Result<()>
     ensures { OnOk result (Appends (O.contents out.old) (O.contents out.new) (line text.now)) }
 {
     writeln!(out, "{text}")?;

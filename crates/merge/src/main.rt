@@ -46,8 +46,6 @@
 //! for a file that cannot be read. A run of more than a second tells a terminal how far it is.
 #![tactic(auto)]
 
-ghost use Rattle.std.specs.Prelude.{◌<◌, IfSome, length};
-
 mod columns;
 mod files;
 mod letters;
@@ -60,17 +58,18 @@ mod told;
 mod values;
 
 use files::{FileFault, Named, write_files};
-use interpolator::{Error, Escape, IoWriter};
+use interpolator::{Escape, IoWriter};
 use letters::merge;
 use output::Output;
 use progress::Progress;
-use records::{BadByte, Separator, advice_on, is_utf16, latin1, text_in};
-use std::fs;
+use records::{Separator, advice_on, is_utf16, latin1, text_in};
 use std::process::ExitCode;
 use templates::{Fault, Templates};
 use told::{Files, told, told_files};
+use words::flags::{Flags, files_after};
 use words::program::{
-    FAULT, REFUSED, WRITTEN, arguments, ended, is_flag, usage, without_mark, without_words,
+    FAULT, REFUSED, WRITTEN, about, bytes_in, ended, out_of_memory, status_of, usage, without_mark,
+    words_in,
 };
 
 const USAGE: &str = "usage: merge [--separator , | ; | tab] [--latin1] [--partial] \
@@ -105,7 +104,7 @@ the line `merge letter.txt people.csv` writes
 const VERSION: &str = "merge 0.5.0\n";
 
 /// What the command line asks for.
-#[derive(Clone, Copy)]
+#[derive(Clone, Copy, Default)]
 struct Asked<'a> {
     template: &'a str,
     table: &'a str,
@@ -129,83 +128,37 @@ fn escape_of(flag: &str) -> Option<Escape> {
     }
 }
 
-/// Takes a flag of one word, if it is one that may stand here.
-fn take_word(asked: &mut Asked<'_>, flag: &str) -> Option<()> {
-    match flag {
-        "--latin1" => asked.is_latin1 = true,
-        "--partial" => asked.is_partial = true,
-        _ => {
-            let escape = escape_of(flag)?;
-            if asked.escape.is_some() {
-                return None;
-            }
-            asked.escape = Some(escape);
+impl<'a> Flags<'a> for Asked<'a> {
+    fn take_word(&mut self, flag: &str) -> Option<()> {
+        match flag {
+            "--latin1" => self.is_latin1 = true,
+            "--partial" => self.is_partial = true,
+            _ if self.escape.is_some() => return None,
+            _ => self.escape = Some(escape_of(flag)?),
         }
+        Some(())
     }
-    Some(())
-}
 
-/// Takes a flag at the beginning of words, and returns the words after it; none if there is none.
-fn after_flag<'a>(asked: &mut Asked<'a>, words: &'a [String]) -> Option<&'a [String]>
-    ensures { IfSome result (λ rest. length rest.now < length words.now) }
-{
-    match words {
-        [flag, word, more @ ..] if flag.as_str() == "--separator" => {
-            asked.separator = Some(Separator::named(word.as_str())?);
-            Some(more)
+    fn take_value(&mut self, flag: &str, value: &'a str) -> Option<()> {
+        match flag {
+            "--separator" => self.separator = Some(Separator::named(value)?),
+            "--if-empty" => self.if_empty = Some(value.split_once('=')?),
+            "--out" => self.out = Some(value),
+            _ => return None,
         }
-        [flag, word, more @ ..] if flag.as_str() == "--if-empty" => {
-            asked.if_empty = Some(word.as_str().split_once('=')?);
-            Some(more)
-        }
-        [flag, word, more @ ..] if flag.as_str() == "--out" => {
-            asked.out = Some(word.as_str());
-            Some(more)
-        }
-        [flag, more @ ..] => {
-            take_word(asked, flag.as_str())?;
-            Some(more)
-        }
-        _ => None,
+        Some(())
     }
 }
 
 /// What the words ask for: flags, and then two files.
-fn asked_by<'a>(words: &'a [String]) -> Option<Asked<'a>> {
-    let mut asked = Asked {
-        template: "",
-        table: "",
-        separator: None,
-        is_latin1: false,
-        is_partial: false,
-        escape: None,
-        if_empty: None,
-        out: None,
+fn asked_by(words: &[String]) -> Option<Asked<'_>> {
+    let mut asked = Asked::default();
+    let [template, table] = files_after(&mut asked, words)? else {
+        return None;
     };
-    let mut rest = words;
-    while let Some(next) = after_flag(&mut asked, rest) {
-        rest = next;
-    }
-    match rest {
-        [template, table] if !is_flag(template.as_str()) && !is_flag(table.as_str()) => Some(
-            Asked {
-                template: template.as_str(),
-                table: table.as_str(),
-                ..asked
-            },
-        ),
-        [end, template, table] if end.as_str() == "--" => Some(Asked {
-            template: template.as_str(),
-            table: table.as_str(),
-            ..asked
-        }),
-        _ => None,
-    }
-}
-
-/// Ends a run for lack of memory.
-fn out_of_memory(rt: &HostRuntime) -> ExitCode {
-    ended(eprintln!(rt; "{}", Error::NoMemory), FAULT)
+    asked.template = template.as_str();
+    asked.table = table.as_str();
+    Some(asked)
 }
 
 /// Ends a run that wrote what it could.
@@ -284,26 +237,6 @@ fn write_letters(rt: &HostRuntime, files: Files<'_>) -> ExitCode {
     }
 }
 
-/// The bytes of a file, or how the run ends without them.
-fn bytes_in(rt: &HostRuntime, name: &str) -> Result<Vec<u8>, ExitCode> {
-    match fs::read(rt, name) {
-        Ok(bytes) => Ok(bytes),
-        Err(error) => Err(ended(eprintln!(rt; "{name}: {error}"), REFUSED)),
-    }
-}
-
-/// Ends a run with a file that has a byte that is no UTF-8, with advice, which may be empty.
-fn not_utf8(rt: &HostRuntime, name: &str, bad: BadByte, advice: &str) -> ExitCode {
-    let line = bad.place.line;
-    let column = bad.place.column;
-    let byte = bad.byte;
-    let gap = if advice.is_empty() { "" } else { "; " };
-    ended(
-        eprintln!(rt; "{name}:{line}:{column}: byte 0x{byte:02X} is no UTF-8{gap}{advice}"),
-        REFUSED,
-    )
-}
-
 /// The bytes of a file as text, or how the run ends without it. Only a table may be Latin-1.
 fn text_of<'a>(
     rt: &HostRuntime,
@@ -313,8 +246,11 @@ fn text_of<'a>(
 ) -> Result<&'a str, ExitCode> {
     match text_in(bytes) {
         Ok(text) => Ok(without_mark(text)),
-        Err(bad) if is_table || is_utf16(bytes) => Err(not_utf8(rt, name, bad, advice_on(bytes))),
-        Err(bad) => Err(not_utf8(rt, name, bad, "")),
+        Err(bad) if is_table || is_utf16(bytes) => {
+            let advice = advice_on(bytes);
+            Err(ended(eprintln!(rt; "{name}:{bad}; {advice}"), REFUSED))
+        }
+        Err(bad) => Err(ended(eprintln!(rt; "{name}:{bad}"), REFUSED)),
     }
 }
 
@@ -326,10 +262,8 @@ fn merge_texts(
     other: &str,
     table: &str,
 ) -> ExitCode {
-    let separator = match asked.separator {
-        Some(separator) => separator,
-        None => Separator::told_by(table).unwrap_or(Separator::Comma),
-    };
+    let told = Separator::told_by(table);
+    let separator = asked.separator.or(told).unwrap_or(Separator::Comma);
     let (column, other_name) = match asked.if_empty {
         Some((column, name)) => (Some(column), name),
         None => (None, ""),
@@ -376,24 +310,19 @@ fn merge_files(rt: &HostRuntime, asked: Asked<'_>) -> Result<ExitCode, ExitCode>
     Ok(merge_texts(rt, asked, template, other, table))
 }
 
+/// Runs a command line.
+fn run(rt: &HostRuntime) -> Result<ExitCode, ExitCode> {
+    let words = words_in(rt, USAGE)?;
+    let first = words.get(..1).unwrap_or(&[]);
+    if let Some(text) = about(first, HELP, VERSION) {
+        return Ok(ended(rt.print(text), WRITTEN));
+    }
+    match asked_by(&words) {
+        Some(asked) => merge_files(rt, asked),
+        None => Err(usage(rt, USAGE)),
+    }
+}
+
 fn main(rt: HostRuntime) -> ExitCode {
-    let words = match arguments(&rt) {
-        Ok(words) => words,
-        Err(error) => return without_words(&rt, &error, USAGE),
-    };
-    if let [word, ..] = words.as_slice() {
-        if word.as_str() == "--help" {
-            return ended(rt.print(HELP), WRITTEN);
-        }
-        if word.as_str() == "--version" {
-            return ended(rt.print(VERSION), WRITTEN);
-        }
-    }
-    let Some(asked) = asked_by(words.as_slice()) else {
-        return usage(&rt, USAGE);
-    };
-    match merge_files(&rt, asked) {
-        Ok(status) => status,
-        Err(status) => status,
-    }
+    status_of(run(&rt))
 }

@@ -4,9 +4,10 @@ use crate::columns::{columns_of, names_of};
 use crate::files::{FileFault, NameFault, Unnamed};
 use crate::table::{LineFault, Trouble};
 use crate::templates::{Fault, Unfit};
-use interpolator::{Error, Escape, Source, explain_place, explain_with_names, places_of};
-use records::{Field, ReadError, Reader, Separator};
-use std::alloc::Global;
+use interpolator::{Error, Escape, explain_with_names, places_of};
+use records::{Faults, Field, ReadError, Reader, Separator};
+use std::alloc::{AllocError, Global};
+use words::formats::{source_of, told_at};
 
 /// The files of a command line, and their texts.
 #[derive(Clone, Copy)]
@@ -38,59 +39,35 @@ fn read_header<'a>(
     }
 }
 
-/// The fault of a line, as a line of text, in a table with a header in this line that has `wanted`
-/// names.
-fn told_line(
-    alloc: Global,
-    table: &str,
-    fault: LineFault,
-    header: usize,
-    wanted: usize,
-) -> Result<String, Error> {
+/// Tells the fault of a line, in a table whose header has `wanted` names.
+fn tell_line(faults: &mut Faults<'_>, fault: LineFault, wanted: usize) -> Result<(), AllocError> {
     let line = fault.line;
-    let told = match fault.trouble {
-        Trouble::Broken(broken) => {
-            let column = broken.place.column;
-            let why = broken.problem.as_str();
-            format!(in alloc; "{table}:{line}:{column}: {why}\n")?
-        }
-        Trouble::Empty => format!(in alloc; "{table}: the table is empty: it has no names\n")?,
+    let header = faults.header;
+    match fault.trouble {
+        Trouble::Broken(broken) => faults.add(broken),
+        Trouble::Empty => faults.add(" the table is empty: it has no names"),
         Trouble::Fields(count) => {
             let noun = if count == 1 { "field" } else { "fields" };
-            format!(in alloc; "{table}:{line}: {count} {noun}, but line {header} has {wanted}\n")?
+            faults.add(format_args!("{line}: {count} {noun}, but line {header} has {wanted}"))
         }
-        Trouble::Twice(column) => format!(in alloc;
-            "{table}:{header}: column {column} has the name of an earlier column\n"
-        )?,
-        Trouble::NotNumber(column) => format!(in alloc;
-            "{table}:{line}: column {column} wants a number, such as -7 or 12.50\n"
-        )?,
-    };
-    Ok(told)
+        Trouble::Twice(column) => faults.add(format_args!(
+            "{header}: column {column} has the name of an earlier column"
+        )),
+        Trouble::NotNumber(column) => faults.add(format_args!(
+            "{line}: column {column} wants a number, such as -7 or 12.50"
+        )),
+    }
 }
 
 /// The faults of a table, a line for each.
-fn told_lines(alloc: Global, files: Files<'_>, faults: &[LineFault]) -> Result<String, Error> {
+fn told_lines(alloc: Global, files: Files<'_>, found: &[LineFault]) -> Result<String, Error> {
     let mut fields = Vec::new(alloc);
-    let header = read_header(alloc, files, &mut fields)?;
-    let wanted = fields.len();
-    let mut told = String::new(alloc);
-    for fault in faults {
-        let line = told_line(alloc, files.table_name, *fault, header, wanted)?;
-        told.push_str(line.as_str())?;
+    let mut faults = Faults::new(alloc, files.table_name);
+    faults.header = read_header(alloc, files, &mut fields)?;
+    for fault in found {
+        tell_line(&mut faults, *fault, fields.len())?;
     }
-    Ok(told)
-}
-
-/// A template as the source of its faults.
-fn source_of<'a>(name: &'a str, text: &'a str) -> Source<'a> {
-    Source {
-        name,
-        first_line: 1,
-        text,
-        start: 0,
-        format: text,
-    }
+    Ok(faults.into_text())
 }
 
 /// The faults of a template, each shown in its line, and the names below it if one is missing.
@@ -112,19 +89,6 @@ fn told_template(
         told.push_str(picture.as_str())?;
         told.push('\n')?;
     }
-    Ok(told)
-}
-
-/// Something at a place of a template, shown in its line.
-fn told_at(
-    alloc: Global,
-    name: &str,
-    text: &str,
-    place: usize,
-    why: &str,
-) -> Result<String, Error> {
-    let mut told = explain_place(alloc, &source_of(name, text), place, why)?;
-    told.push('\n')?;
     Ok(told)
 }
 
@@ -155,23 +119,23 @@ fn told_unfit(
     text: &str,
     unfit: Unfit,
 ) -> Result<String, Error> {
+    let source = source_of(name, text);
     match unfit {
         Unfit::Misplaced(misplaced) => {
             let places = all_places_of(escape);
             let why = format!(in alloc; "{}; a value may stand {places}", misplaced.why)?;
-            told_at(alloc, name, text, misplaced.place, why.as_str())
+            told_at(alloc, &source, misplaced.place, why.as_str())
         }
         Unfit::EndsInPlace => {
             let place = place_of(escape);
             let why = format!(in alloc;
                 "this template ends in {place}, and the next letter would begin there"
             )?;
-            told_at(alloc, name, text, text.len(), why.as_str())
+            told_at(alloc, &source, text.len(), why.as_str())
         }
         Unfit::EndsElsewhere => told_at(
             alloc,
-            name,
-            text,
+            &source,
             text.len(),
             "this template ends elsewhere than it began, and the next letter would begin there",
         ),
@@ -216,18 +180,17 @@ pub fn told(alloc: Global, files: Files<'_>, fault: &Fault) -> Result<String, Er
     }
 }
 
-/// Why a record gives no name of a file, as a line of text.
-fn told_name(alloc: Global, table: &str, fault: &NameFault) -> Result<String, Error> {
+/// Tells why a record gives no name of a file.
+fn tell_name(faults: &mut Faults<'_>, fault: &NameFault) -> Result<(), AllocError> {
     let line = fault.line;
     let name = fault.name.as_str();
-    let told = match fault.why {
-        Unnamed::Slash => format!(in alloc; "{table}:{line}: `{name}`: a value has a `/`\n")?,
-        Unnamed::Part => format!(in alloc; "{table}:{line}: `{name}` is no name of a file\n")?,
-        Unnamed::Twice(before) => format!(in alloc;
-            "{table}:{line}: `{name}` is the file of line {before}\n"
-        )?,
-    };
-    Ok(told)
+    match fault.why {
+        Unnamed::Slash => faults.add(format_args!("{line}: `{name}`: a value has a `/`")),
+        Unnamed::Part => faults.add(format_args!("{line}: `{name}` is no name of a file")),
+        Unnamed::Twice(before) => faults.add(format_args!(
+            "{line}: `{name}` is the file of line {before}"
+        )),
+    }
 }
 
 /// Why files are missing; of one that could not be written, its name and why.
@@ -240,12 +203,12 @@ pub fn told_files(
     match fault {
         FileFault::Letters(fault) => told(alloc, files, fault),
         FileFault::Pattern(faults) => told_template(alloc, files, "--out", pattern, faults),
-        FileFault::Names(faults) => {
-            let mut lines = String::new(alloc);
-            for fault in faults {
-                lines.push_str(told_name(alloc, files.table_name, fault)?.as_str())?;
+        FileFault::Names(found) => {
+            let mut faults = Faults::new(alloc, files.table_name);
+            for fault in found {
+                tell_name(&mut faults, fault)?;
             }
-            Ok(lines)
+            Ok(faults.into_text())
         }
         FileFault::Refused(name, error) => Ok(format!(in alloc; "{name}: {error}\n")?),
     }

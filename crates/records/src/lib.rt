@@ -11,12 +11,14 @@
 //! ```
 //!
 //! [`Table::read`] keeps all records and faults of a table. [`push_record`] writes a record.
-//! [`text_in`] and [`latin1`] make texts of bytes. Read on at `Spellings`, `Records` and `Faults`
-//! in `specs/`, which say how a record is spelled, and at the laws in [`laws`].
+//! [`text_in`] and [`latin1`] make texts of bytes, and [`Faults`] tells what is wrong with a file.
+//! Read on at `Spellings`, `Records` and `Faults` in `specs/`, which say how a record is spelled, and
+//! at the laws in [`laws`].
 #![tactic(auto)]
 
 mod encoding;
 mod fault;
+mod faults;
 mod field;
 mod head;
 pub mod laws;
@@ -32,6 +34,7 @@ mod written;
 
 pub use encoding::{BadByte, advice_on, is_utf16, latin1, text_in};
 pub use fault::{Fault, Place, Problem};
+pub use faults::Faults;
 pub use field::Field;
 pub use reader::{ReadError, Reader};
 pub use separator::Separator;

@@ -1,9 +1,7 @@
 //! What the command line asks for.
 
-ghost use Rattle.std.specs.Prelude.{◌<◌, IfSome, length};
-
 use records::Separator;
-use words::program::is_flag;
+use words::flags::{Flags, files_after};
 
 /// The line that says what is right after a wrong use.
 pub const USAGE: &str = "usage: report [--separator , | ; | tab] [--latin1] [--total NAME,..] \
@@ -37,7 +35,7 @@ report --total count,price --group city stock.csv
 pub const VERSION: &str = "report 0.5.0\n";
 
 /// What the command line asks for.
-#[derive(Clone, Copy)]
+#[derive(Clone, Copy, Default)]
 pub struct Asked<'a> {
     pub file: &'a str,
     pub separator: Option<Separator>,
@@ -52,30 +50,17 @@ pub struct Asked<'a> {
     pub format: Option<&'a str>,
 }
 
-/// Takes a flag at the beginning of words, and returns the words after it; none if there is none.
-fn after_flag<'a>(asked: &mut Asked<'a>, words: &'a [String]) -> Option<&'a [String]>
-    ensures { IfSome result (λ rest. length rest.now < length words.now) }
-{
-    let [flag, more @ ..] = words else {
-        return None;
-    };
-    match flag.as_str() {
-        "--latin1" => asked.is_latin1 = true,
-        "--lenient" => asked.is_lenient = true,
-        "--csv" => asked.is_csv = true,
-        _ => {
-            let [value, after @ ..] = more else {
-                return None;
-            };
-            asked.take_value(flag.as_str(), value.as_str())?;
-            return Some(after);
+impl<'a> Flags<'a> for Asked<'a> {
+    fn take_word(&mut self, flag: &str) -> Option<()> {
+        match flag {
+            "--latin1" => self.is_latin1 = true,
+            "--lenient" => self.is_lenient = true,
+            "--csv" => self.is_csv = true,
+            _ => return None,
         }
+        Some(())
     }
-    Some(more)
-}
 
-impl<'a> Asked<'a> {
-    /// Takes a flag that has a value; none if it is no such flag, or has no such value.
     fn take_value(&mut self, flag: &str, value: &'a str) -> Option<()> {
         match flag {
             "--separator" => self.separator = Some(Separator::named(value)?),
@@ -86,7 +71,9 @@ impl<'a> Asked<'a> {
         }
         Some(())
     }
+}
 
+impl Asked<'_> {
     /// A flag that is given beside `--format`, and does not go with it.
     pub fn beside_format(&self) -> Option<&'static str> {
         self.format?;
@@ -101,30 +88,11 @@ impl<'a> Asked<'a> {
 }
 
 /// What the words ask for: flags, and then a file.
-pub fn asked_by<'a>(words: &'a [String]) -> Option<Asked<'a>> {
-    let mut asked = Asked {
-        file: "",
-        separator: None,
-        is_latin1: false,
-        totals: None,
-        group: None,
-        is_lenient: false,
-        is_csv: false,
-        format: None,
+pub fn asked_by(words: &[String]) -> Option<Asked<'_>> {
+    let mut asked = Asked::default();
+    let [file] = files_after(&mut asked, words)? else {
+        return None;
     };
-    let mut rest = words;
-    while let Some(next) = after_flag(&mut asked, rest) {
-        rest = next;
-    }
-    match rest {
-        [file] if !is_flag(file.as_str()) => Some(Asked {
-            file: file.as_str(),
-            ..asked
-        }),
-        [end, file] if end.as_str() == "--" => Some(Asked {
-            file: file.as_str(),
-            ..asked
-        }),
-        _ => None,
-    }
+    asked.file = file.as_str();
+    Some(asked)
 }

@@ -1,12 +1,11 @@
 //! The columns: their names, and their totals.
 
 use crate::asked::Asked;
-use crate::faults::Faults;
 use crate::rows::{Group, entries_of, entry_in};
 use crate::totals::{Cell, NoTotal, Total, cells_of, first_large, has_codes, total_of};
 use crate::widths::width;
 use interpolator::Error;
-use records::Record;
+use records::{Faults, Record};
 use std::alloc::{AllocError, Global};
 
 /// A column.
@@ -102,16 +101,15 @@ fn push_total(
             return Ok(());
         }
         Err(NoTotal::Number(before)) => {
-            let line = records
-                .get(before)
-                .map_or(faults.header, |record| record.line);
+            let line = records.get(before).map_or(faults.header, |row| row.line);
             (line, "number")
         }
         Err(NoTotal::Sum) => (faults.header, "total"),
         Err(NoTotal::NoMemory) => return Err(Error::NoMemory),
     };
     let why = format!(in faults.alloc; "the {what} of `{name}` has more than 128 bits")?;
-    faults.tell(line, why.as_str())
+    faults.tell(line, why.as_str())?;
+    Ok(())
 }
 
 /// The cells of a group.
@@ -242,7 +240,7 @@ pub fn index_of(
         }
     }
     let why = format!(in faults.alloc; "no column has the name `{name}`")?;
-    faults.tell_header(why.as_str())?;
+    faults.tell(faults.header, why.as_str())?;
     Ok(None)
 }
 

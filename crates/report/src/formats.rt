@@ -5,15 +5,14 @@ ghost use Rattle.std.specs.Option.{option_map};
 ghost use Rattle.report.specs.Lines.{parted, without};
 
 use crate::columns::name_of;
-use crate::faults::{Faults, Report};
 use crate::lines::Named;
 use crate::rows::entry_in;
 use interpolator::{
-    Error, Formattable, Interpolate, Pairs, Source, Template, View, explain_place,
-    explain_with_names,
+    Error, Formattable, Interpolate, Pairs, Template, View, explain_place, explain_with_names,
 };
 use records::{BadByte, Record, is_utf16, text_in};
 use std::alloc::Global;
+use words::formats::source_of;
 use words::program::without_mark;
 
 /// A format, as a file has it.
@@ -59,35 +58,30 @@ fn format_in<'a>(file: &'a str, text: &'a str) -> Format<'a>
     Format { file, text, end }
 }
 
-/// The report of a format's file that is no UTF-8.
-fn report_bad(alloc: Global, file: &str, bytes: &[u8], bad: BadByte) -> Result<Report, Error> {
-    let mut faults = Faults::new(alloc, file);
-    let byte = bad.byte;
+/// What is wrong with a format's file that is no UTF-8.
+fn told_bad(alloc: Global, file: &str, bytes: &[u8], bad: BadByte) -> Result<String, Error> {
     let advice = if is_utf16(bytes) {
         "this looks like UTF-16: save it as UTF-8"
     } else {
         "save it as UTF-8"
     };
-    let why = format!(in alloc; "byte 0x{byte:02X} is no UTF-8; {advice}")?;
-    faults.tell_at(bad.place, why.as_str())?;
-    Ok(Report::Faults(faults.into_text()))
+    let told = format!(in alloc; "{file}:{bad}; {advice}\n")?;
+    Ok(told)
 }
 
-/// The format in the bytes of a file, or why there is none.
+/// The format in the bytes of a file, or what is wrong with it.
 pub fn format_of<'a>(
     alloc: Global,
     file: &'a str,
     bytes: &'a [u8],
-) -> Result<Result<Format<'a>, Report>, Error> {
+) -> Result<Result<Format<'a>, String>, Error> {
     let text = match text_in(bytes) {
         Ok(text) => without_mark(text),
-        Err(bad) => return Ok(Err(report_bad(alloc, file, bytes, bad)?)),
+        Err(bad) => return Ok(Err(told_bad(alloc, file, bytes, bad)?)),
     };
     let format = format_in(file, text);
     if format.text.is_empty() {
-        let mut faults = Faults::new(alloc, file);
-        faults.tell(1, "the format is empty")?;
-        return Ok(Err(Report::Faults(faults.into_text())));
+        return Ok(Err(format!(in alloc; "{file}:1: the format is empty\n")?));
     }
     Ok(Ok(format))
 }
@@ -149,13 +143,7 @@ fn told_fault(
     names: &[&str],
     fault: &Error,
 ) -> Result<String, Error> {
-    let source = Source {
-        name: format.file,
-        first_line: 1,
-        text: format.text,
-        start: 0,
-        format: format.text,
-    };
+    let source = source_of(format.file, format.text);
     match fault {
         Error::MissingValue(name, place) if count_of(header, name.as_str()) > 1 => {
             let why = format!(in alloc; "more than one column has the name `{name}`")?;

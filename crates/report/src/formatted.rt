@@ -5,13 +5,13 @@ ghost use Rattle.report.specs.Lines.{IsReady, names_in};
 
 use crate::asked::Asked;
 use crate::columns::is_shown_as_numbers;
-use crate::faults::{Faults, Report};
 use crate::formats::{Format, asked_names, columns_for, told_faults};
 use crate::input::read_records;
 use crate::lines::{Frame, Named, lines_of, prepared_line, sample_of};
 use interpolator::{Error, Prepared, Template, View};
-use records::{ReadError, Reader, Record, Separator};
+use records::{Faults, ReadError, Reader, Record, Separator};
 use std::alloc::Global;
+use words::program::Answer;
 
 /// A column, with whether it is shown as numbers. What is wrong with it is told.
 fn with_kind<'a>(
@@ -81,20 +81,20 @@ fn report_prepared(
     frame: Frame<'_>,
     text: &str,
     separator: Separator,
-) -> Result<Report, Error>
+) -> Result<Answer, Error>
     requires names { line.now.names ≡ names_in frame.columns.now }
     requires ready { IsReady line.now frame.sample.now }
 {
     let mut faults = Faults::new(alloc, asked.file);
     let records = read_records(&mut faults, text, separator)?;
     if !faults.is_empty() {
-        return Ok(Report::Faults(faults.into_text()));
+        return Ok(Answer::Faults(faults.into_text()));
     }
     let lines = lines_below(&mut faults, asked, format, line, frame, &records)?;
     if !faults.is_empty() {
-        return Ok(Report::Faults(faults.into_text()));
+        return Ok(Answer::Faults(faults.into_text()));
     }
-    Ok(Report::Table(lines))
+    Ok(Answer::Text(lines))
 }
 
 /// The first record of a file's text, if it begins with one.
@@ -120,7 +120,7 @@ pub fn report_by(
     header: &Record<'_>,
     text: &str,
     separator: Separator,
-) -> Result<Report, Error> {
+) -> Result<Answer, Error> {
     let template = Template::parse(alloc, format.text)?;
     let wanted = asked_names(alloc, &template)?;
     let columns = columns_for(alloc, header, &wanted)?;
@@ -132,6 +132,6 @@ pub fn report_by(
     };
     match prepared_line(alloc, &template, frame)? {
         Ok(line) => report_prepared(alloc, asked, format, &line, frame, text, separator),
-        Err(found) => Ok(Report::Faults(told_faults(alloc, format, header, &found)?)),
+        Err(found) => Ok(Answer::Faults(told_faults(alloc, format, header, &found)?)),
     }
 }

@@ -1,8 +1,7 @@
 //! The records of a file.
 
-use crate::faults::Faults;
 use interpolator::Error;
-use records::{Fault, Record, Separator, Table};
+use records::{Fault, Faults, Record, Separator, Table};
 
 /// Tells the first of these faults, those that are in lines before this one. Returns the others.
 fn tell_before<'a>(
@@ -15,21 +14,17 @@ fn tell_before<'a>(
         if fault.place.line >= line {
             break;
         }
-        faults.tell_at(fault.place, fault.problem.as_str())?;
+        faults.add(*fault)?;
         count = count.saturating_add(1);
     }
     Ok(broken.get(count..).unwrap_or(&[]))
 }
 
 /// Tells a record with another number of fields than the header.
-fn tell_count(
-    faults: &mut Faults<'_>,
-    record: &Record<'_>,
-    header: &Record<'_>,
-) -> Result<(), Error> {
+fn tell_count(faults: &mut Faults<'_>, row: &Record<'_>, header: &Record<'_>) -> Result<(), Error> {
     let line = header.line;
     let wanted = header.fields.len();
-    let count = record.fields.len();
+    let count = row.fields.len();
     if count == wanted {
         return Ok(());
     }
@@ -43,7 +38,8 @@ fn tell_count(
     let why = format!(in faults.alloc;
         "{count} {noun}, but line {line} has {wanted}: column {column} has {has}"
     )?;
-    faults.tell(record.line, why.as_str())
+    faults.tell(row.line, why.as_str())?;
+    Ok(())
 }
 
 /// The header: the first record, if the file does not go on with none before it.

@@ -41,7 +41,6 @@
 
 mod asked;
 mod columns;
-mod faults;
 mod feet;
 mod formats;
 mod formatted;
@@ -55,18 +54,18 @@ mod widths;
 
 use asked::{Asked, HELP, USAGE, VERSION, asked_by};
 use columns::{check_names, columns_of, index_of};
-use faults::{Faults, Report};
 use formats::{Format, format_of};
 use formatted::{header_in, report_by};
 use input::read_records;
 use interpolator::Error;
 use layout::page_of;
-use records::{BadByte, Record, Separator, advice_on, latin1, text_in};
+use records::{Faults, Record, Separator, advice_on, latin1, text_in};
 use rows::{entry_in, groups_by};
 use std::alloc::Global;
-use std::fs;
 use std::process::ExitCode;
-use words::program::{BAD_USE, FAULT, REFUSED, WRITTEN, arguments, ended, usage, without_words};
+use words::program::{
+    Answer, BAD_USE, about, bytes_in, ended, print_answer, print_text, status_of, usage, words_in,
+};
 
 /// The page of these records below a header. What is wrong with them is told.
 fn page_below(
@@ -109,7 +108,7 @@ fn page_of_all(
     match records {
         [header, below @ ..] if !is_blank(header) => page_below(faults, asked, header, below),
         _ => {
-            faults.tell_header("the first line names no columns")?;
+            faults.tell(faults.header, "the first line names no columns")?;
             Ok(String::new(faults.alloc))
         }
     }
@@ -121,17 +120,17 @@ fn report_table(
     asked: Asked<'_>,
     text: &str,
     separator: Separator,
-) -> Result<Report, Error> {
+) -> Result<Answer, Error> {
     let mut faults = Faults::new(alloc, asked.file);
     let records = read_records(&mut faults, text, separator)?;
     if !faults.is_empty() {
-        return Ok(Report::Faults(faults.into_text()));
+        return Ok(Answer::Faults(faults.into_text()));
     }
     let page = page_of_all(&mut faults, asked, &records)?;
     if !faults.is_empty() {
-        return Ok(Report::Faults(faults.into_text()));
+        return Ok(Answer::Faults(faults.into_text()));
     }
-    Ok(Report::Table(page))
+    Ok(Answer::Text(page))
 }
 
 /// The report of a file's text. Without a header this says so, whatever the format is.
@@ -140,11 +139,9 @@ fn report_on(
     asked: Asked<'_>,
     format: Option<Format<'_>>,
     text: &str,
-) -> Result<Report, Error> {
-    let separator = match asked.separator {
-        Some(separator) => separator,
-        None => Separator::told_by(text).unwrap_or(Separator::Comma),
-    };
+) -> Result<Answer, Error> {
+    let told = Separator::told_by(text);
+    let separator = asked.separator.or(told).unwrap_or(Separator::Comma);
     let Some(format) = format else {
         return report_table(alloc, asked, text, separator);
     };
@@ -156,60 +153,23 @@ fn report_on(
     }
 }
 
-/// The report of a file with a byte that is no UTF-8.
-fn report_bad(
-    alloc: Global,
-    asked: Asked<'_>,
-    bytes: &[u8],
-    bad: BadByte,
-) -> Result<Report, Error> {
-    let mut faults = Faults::new(alloc, asked.file);
-    let byte = bad.byte;
-    let advice = advice_on(bytes);
-    let why = format!(in alloc; "byte 0x{byte:02X} is no UTF-8; {advice}")?;
-    faults.tell_at(bad.place, why.as_str())?;
-    Ok(Report::Faults(faults.into_text()))
-}
-
 /// The report of a file's bytes.
 fn report_bytes(
     alloc: Global,
     asked: Asked<'_>,
     format: Option<Format<'_>>,
     bytes: &[u8],
-) -> Result<Report, Error> {
+) -> Result<Answer, Error> {
     if asked.is_latin1 {
         let text = latin1(alloc, bytes)?;
         return report_on(alloc, asked, format, text.as_str());
     }
     match text_in(bytes) {
         Ok(text) => report_on(alloc, asked, format, text),
-        Err(bad) => report_bad(alloc, asked, bytes, bad),
-    }
-}
-
-/// Prints a text, and ends the run; if that fails, says why.
-fn print_text(rt: &HostRuntime, text: &str) -> ExitCode {
-    match rt.print(text) {
-        Ok(()) => ExitCode::from(WRITTEN),
-        Err(error) => ended(eprintln!(rt; "cannot write: {error}"), REFUSED),
-    }
-}
-
-/// Prints a report, and ends the run.
-fn print_report(rt: &HostRuntime, report: Result<Report, Error>) -> ExitCode {
-    match report {
-        Ok(Report::Table(table)) => print_text(rt, table.as_str()),
-        Ok(Report::Faults(faults)) => ended(eprint!(rt; "{faults}"), FAULT),
-        Err(error) => ended(eprintln!(rt; "{error}"), FAULT),
-    }
-}
-
-/// The bytes of a file, or how the run ends without them.
-fn bytes_in(rt: &HostRuntime, file: &str) -> Result<Vec<u8>, ExitCode> {
-    match fs::read(rt, file) {
-        Ok(bytes) => Ok(bytes),
-        Err(error) => Err(ended(eprintln!(rt; "{file}: {error}"), REFUSED)),
+        Err(bad) => {
+            let told = format!(in alloc; "{}:{bad}; {}\n", asked.file, advice_on(bytes))?;
+            Ok(Answer::Faults(told))
+        }
     }
 }
 
@@ -221,7 +181,7 @@ fn report(
 ) -> Result<ExitCode, ExitCode> {
     let bytes = bytes_in(rt, asked.file)?;
     let report = report_bytes(rt.alloc(), asked, format, &bytes);
-    Ok(print_report(rt, report))
+    Ok(print_answer(rt, report))
 }
 
 /// Prints the report of a file by the format in another.
@@ -233,38 +193,26 @@ fn report_by_file(rt: &HostRuntime, asked: Asked<'_>, file: &str) -> Result<Exit
     let bytes = bytes_in(rt, file)?;
     match format_of(rt.alloc(), file, &bytes) {
         Ok(Ok(format)) => report(rt, asked, Some(format)),
-        Ok(Err(faults)) => Ok(print_report(rt, Ok(faults))),
-        Err(error) => Ok(print_report(rt, Err(error))),
+        Ok(Err(faults)) => Ok(print_answer(rt, Ok(Answer::Faults(faults)))),
+        Err(error) => Ok(print_answer(rt, Err(error))),
     }
 }
 
-/// Prints what is asked for.
-fn answer(rt: &HostRuntime, asked: Asked<'_>) -> ExitCode {
-    let answered = match asked.format {
+/// Runs a command line.
+fn run(rt: &HostRuntime) -> Result<ExitCode, ExitCode> {
+    let words = words_in(rt, USAGE)?;
+    if let Some(text) = about(&words, HELP, VERSION) {
+        return Ok(print_text(rt, text));
+    }
+    let Some(asked) = asked_by(&words) else {
+        return Err(usage(rt, USAGE));
+    };
+    match asked.format {
         Some(file) => report_by_file(rt, asked, file),
         None => report(rt, asked, None),
-    };
-    match answered {
-        Ok(status) => status,
-        Err(status) => status,
     }
 }
 
 fn main(rt: HostRuntime) -> ExitCode {
-    let words = match arguments(&rt) {
-        Ok(words) => words,
-        Err(error) => return without_words(&rt, &error, USAGE),
-    };
-    if let [word] = words.as_slice() {
-        if word.as_str() == "--help" {
-            return print_text(&rt, HELP);
-        }
-        if word.as_str() == "--version" {
-            return print_text(&rt, VERSION);
-        }
-    }
-    match asked_by(words.as_slice()) {
-        Some(asked) => answer(&rt, asked),
-        None => usage(&rt, USAGE),
-    }
+    status_of(run(&rt))
 }

@@ -16,11 +16,12 @@ mod serving;
 mod values;
 
 use answering::{Answer, answered};
-use interpolator::Error;
 use serving::{Count, Refused};
 use std::io;
 use std::process::ExitCode;
-use words::program::{WRITTEN, arguments, ended};
+use words::program::{
+    BAD_USE, FAULT, WRITTEN, about, ended, out_of_memory, status_of, usage, words_in,
+};
 
 const USAGE: &str = "usage: strangers [FLAG NUMBER..] FORMAT \
     [NAME=TEXT | NAME:=NUMBER | NAME:.=DECIMAL | NAME[]=ITEM,ITEM..]";
@@ -46,12 +47,6 @@ example: strangers --text 20 'Dear {name}' name=Ann
 ";
 
 const VERSION: &str = "strangers 0.5.0\n";
-
-const REJECTED: u8 = 1;
-
-const BAD_USE: u8 = 2;
-
-const NOT_WRITTEN: u8 = 3;
 
 /// The name of a count, as it is reported.
 fn name_of(count: Count) -> &'static str {
@@ -79,58 +74,28 @@ fn tell_refused(rt: &HostRuntime, refused: &Refused) -> io::Result<()> {
     }
 }
 
-/// Prints an answer, and returns the status.
-fn tell(rt: &HostRuntime, answer: &Answer) -> io::Result<u8> {
+/// Prints an answer, and ends the run.
+fn tell(rt: &HostRuntime, answer: &Answer) -> ExitCode {
     match answer {
-        Answer::Text(text) => {
-            println!(rt; "{text}")?;
-            Ok(0)
-        }
-        Answer::Refused(refused) => {
-            tell_refused(rt, refused)?;
-            Ok(REJECTED)
-        }
-        Answer::BadWord(word) => {
-            eprintln!(rt; "bad word: {word}")?;
-            Ok(BAD_USE)
-        }
-        Answer::BadUse => {
-            eprintln!(rt; "{USAGE}")?;
-            Ok(BAD_USE)
-        }
+        Answer::Text(text) => ended(println!(rt; "{text}"), WRITTEN),
+        Answer::Refused(refused) => ended(tell_refused(rt, refused), FAULT),
+        Answer::BadWord(word) => ended(eprintln!(rt; "bad word: {word}"), BAD_USE),
+        Answer::BadUse => usage(rt, USAGE),
     }
 }
 
-/// What is printed for a word alone that asks for help or the version.
-fn told_alone(words: &[String]) -> Option<&'static str> {
-    let [word] = words else {
-        return None;
-    };
-    if word.as_str() == "--help" {
-        return Some(HELP);
+/// Runs a command line.
+fn run(rt: &HostRuntime) -> Result<ExitCode, ExitCode> {
+    let line = words_in(rt, USAGE)?;
+    if let Some(text) = about(&line, HELP, VERSION) {
+        return Ok(ended(rt.print(text), WRITTEN));
     }
-    if word.as_str() == "--version" {
-        return Some(VERSION);
+    match answered(rt.alloc(), &line) {
+        Ok(answer) => Ok(tell(rt, &answer)),
+        Err(_) => Err(out_of_memory(rt)),
     }
-    None
 }
 
 fn main(rt: HostRuntime) -> ExitCode {
-    let answer = match arguments(&rt) {
-        Ok(line) => match told_alone(line.as_slice()) {
-            Some(text) => return ended(rt.print(text), WRITTEN),
-            None => answered(rt.alloc(), line.as_slice()),
-        },
-        Err(error) if error.kind() == io::ErrorKind::OutOfMemory => Err(Error::NoMemory),
-        // An argument is not UTF-8.
-        Err(_) => Ok(Answer::BadUse),
-    };
-    let answer = match answer {
-        Ok(answer) => answer,
-        Err(error) => Answer::Refused(Refused::Format(error)),
-    };
-    match tell(&rt, &answer) {
-        Ok(status) => ExitCode::from(status),
-        Err(_) => ExitCode::from(NOT_WRITTEN),
-    }
+    status_of(run(&rt))
 }

@@ -1,12 +1,13 @@
 //! The values of words.
 ghost use Rattle.std.specs.Prelude.{◌≡◌, ◌≤◌, ◌<◌, ◌+◌, ◌/◌, ◌^◌, false, All, FitsSigned, None};
 ghost use Rattle.std.specs.Prelude.{length};
-ghost use Rattle.std.specs.{Int.w128, Str.chars};
+ghost use Rattle.std.specs.{Int.w128};
 ghost use Rattle.interpolator_digits.specs.{Decimals.decimal_text, Digits.digit_text};
 ghost use Rattle.strangers.specs.Values.{IsInRange, characters_of, count_after, decimal_characters};
 ghost use Rattle.strangers.specs.Values.{longest_of};
 
 use interpolator::{Bits, Decimal, Spec, Trait, Value, View};
+use interpolator_render::char_count;
 
 /// A text, a whole number or a decimal.
 #[derive(Clone, Copy)]
@@ -63,14 +64,6 @@ pub fn characters_of(value: &Datum<'_>) -> usize
         Datum::Number(number) => characters_of_number(*number),
         Datum::Decimal(decimal) => characters_of_decimal(*decimal),
     }
-}
-
-/// How many characters a text has.
-#[tactic(auto, using(std::proofs::lemmas::Str::chars_from_encodes))]
-fn char_count(text: &str) -> usize
-    ensures { result ≡ length (chars text.now) }
-{
-    text.chars().count()
 }
 
 /// 0, since a whole number is no text; the second clause gives its range to the caller.

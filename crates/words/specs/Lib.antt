@@ -3,3 +3,5 @@ pub mod Declarations
 pub mod Words
 pub mod Items
 pub mod Programs
+pub mod Flags
+pub mod Lists

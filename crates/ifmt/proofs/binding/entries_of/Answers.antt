@@ -1,5 +1,5 @@
 use Rattle.std.proofs.Common.{refl, ap, ◌∙◌}
-use Rattle.ifmt.specs.Binding.{item_slots}
+use Rattle.words.specs.Lists.{item_slots}
 use Rattle.ifmt.proofs.BindLemmas.{zip_more}
 use Rattle.ifmt.proofs.binding.entries_of.Goals as goal
 

@@ -1,9 +1,0 @@
-use Rattle.std.proofs.Common.{◌≡◌, map, take}
-use Rattle.interpolator.specs.Views.{shown_as_value}
-use Rattle.words.specs.Items.{texts_of}
-use Rattle.ifmt.specs.Binding.{texts_show}
-use Rattle.ifmt.proofs.binding.views_of.Given as goal
-
-abbrev pub invariant-loop-text : goal.invariant-loop-text
-invariant-loop-text l =
-    map shown_as_value l.objects.items ≡ texts_show (texts_of (take l.text-index l.texts))
