@@ -4,7 +4,7 @@
 //! that a call gets are those of one slice that lives until the call returns.
 //!
 //! What a call wrote is read by what the header says of its answer. Its part "Answers" is what the
-//! contracts of `crates/interpolator_c` say for every code: `Told`, by which a text or a sentence lies
+//! contracts of `crates/interpolator_c` say for every code: `Reported`, by which a text or a sentence lies
 //! in a room if it fits; `Put`, by which what `interpolator_write` counts fits; and `FillsFront`, by
 //! which an array begins with as many as it has places for. They are named where it is read. That
 //! nothing else is relied on is tested by `tests/filled`.
@@ -533,7 +533,7 @@ pub(crate) fn format(
             room.capacity(),
         )
     };
-    // SAFETY: by `Told` in `FormatAnswers`, of every code: OK has a text of `length` bytes, which
+    // SAFETY: by `Reported` in `FormatAnswers`, of every code: OK has a text of `length` bytes, which
     // lies in the room if it fits; any other a sentence of `message` bytes, likewise ("Answers").
     unsafe { settle(room, written(&answer)) };
     answer
@@ -562,7 +562,7 @@ pub(crate) fn escaped(
             room.capacity(),
         )
     };
-    // SAFETY: by `Told` in `FormatAnswers`, `EscapedBy` and `ToldCode`, of every code: as in `format`.
+    // SAFETY: by `Reported` in `FormatAnswers`, `EscapedBy` and `ReportedCode`, of every code: as in `format`.
     unsafe { settle(room, written(&answer)) };
     answer
 }
@@ -671,7 +671,7 @@ pub(crate) fn explain(
         )
     };
     // SAFETY: by `ExplainAnswers`: `message` is the length of the picture or of the sentence, which
-    // lies in the room if it fits (`Told`), and 0 of OK (`ToldNone`).
+    // lies in the room if it fits (`Reported`), and 0 of OK (`ReportedNone`).
     unsafe { settle(room, answer.message) };
     answer
 }
@@ -700,7 +700,7 @@ pub(crate) fn rows(
             room.capacity(),
         )
     };
-    // SAFETY: by `Told` in `RowsAnswers`: as in `format`, with all rows for the text. All of `ends`
+    // SAFETY: by `Reported` in `RowsAnswers`: as in `format`, with all rows for the text. All of `ends`
     // has values, whatever the call wrote of it.
     unsafe { settle(room, written(&answer)) };
     answer

@@ -12,11 +12,11 @@ drop_item g xs i x within here = at_drop_more (map g) xs i x within
     ∙ ap (λ y. g y ∷ map g (drop (i + 1) xs)) (sym here)
 
 -- what was told and what is to be told of what is left, once one more is told of
-pub told_rest : {A : Type 0} (f : A → List ℕ) (x : A) (xs rest : List A)
-    (told more new all : List ℕ) → xs ≡ x ∷ rest → told ++ concat (map f xs) ≡ all → more ≡ f x
-    → new ≡ told ++ more → new ++ concat (map f rest) ≡ all
-told_rest f x xs rest told more new all split so_far one pushed =
-    rw (pushed, one, append_assoc told (f x) (concat (map f rest))) (rw split at so_far)
+pub reported_rest : {A : Type 0} (f : A → List ℕ) (x : A) (xs rest : List A)
+    (reported more new all : List ℕ) → xs ≡ x ∷ rest → reported ++ concat (map f xs) ≡ all → more ≡ f x
+    → new ≡ reported ++ more → new ++ concat (map f rest) ≡ all
+reported_rest f x xs rest reported more new all split so_far one pushed =
+    rw (pushed, one, append_assoc reported (f x) (concat (map f rest))) (rw split at so_far)
 
 -- the first of what was found and of what is left, once one more is looked at
 pub found_next : {A B C : Type 0} (f : A → B) (gives : C → Option B) (x : C) (xs rest : List C)

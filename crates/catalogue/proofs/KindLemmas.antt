@@ -4,7 +4,7 @@ use Rattle.std.proofs.Common.{Option, Some}
 use Rattle.std.proofs.lemmas.List.Elements.{All-nil, All-cons}
 use Rattle.std.proofs.lemmas.Slice.Eq.{bytes_eq-Decides}
 use Rattle.std.specs.{List.All, List.AllZip, Str.bytes_eq, Str.chars, Float.binary64}
-use Rattle.interpolator.specs.At.{At, outermost}
+use Rattle.interpolator.specs.Places.{At, outermost}
 use Rattle.interpolator.specs.Meaning.Environments.{Environment, environment}
 use Rattle.interpolator.specs.Meaning.Samples.{is_failure, shows_nothing}
 use Rattle.interpolator.specs.Meaning.Resembling.{HasText, Resembles, ResemblesOn, ResemblesSlot}

@@ -10,7 +10,7 @@ use Rattle.interpolator.specs.Template.NodeSamples.{asked_faults, faults_over, f
 use Rattle.interpolator.specs.Template.NodeSamples.{item_faults_in, join_faults_in, may_be_items}
 use Rattle.interpolator.specs.Template.NodeSamples.{node_faults_in, plain_faults}
 use Rattle.interpolator.specs.Meaning.Samples.{Sample, bind_each, sample}
-use Rattle.interpolator.specs.{At.At, Faults.Fault, Faults.fault, Slots.Slots, Views.Shown}
+use Rattle.interpolator.specs.{Places.At, Faults.Fault, Faults.fault, Slots.Slots, Views.Shown}
 use Rattle.interpolator.specs.{declared.Spec.Spec, declared.Trait.Trait}
 use Rattle.interpolator_syntax.specs.Nodes.{Branch, Content, Forest, Node, as_forest, branch}
 use Rattle.interpolator_syntax.specs.Nodes.{no_branch, no_nodes, node, nodes, nodes_and}

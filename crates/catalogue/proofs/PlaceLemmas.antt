@@ -6,10 +6,10 @@ use Rattle.std.specs.List.{All}
 
 -- it holds of one more
 pub placed_more : {A : Type 0} (P : A → Type 0) (xs : List A) (i : ℕ) (d : A)
-    (told more new : List ℕ) → i < length xs → (length told ≡ 0 → All P (take i xs))
-    → (length more ≡ 0 → P (get_or xs i d)) → new ≡ told ++ more → length new ≡ 0
+    (reported more new : List ℕ) → i < length xs → (length reported ≡ 0 → All P (take i xs))
+    → (length more ≡ 0 → P (get_or xs i d)) → new ≡ reported ++ more → length new ≡ 0
     → All P (take (i + 1) xs)
-placed_more P xs i d told more new within so_far one pushed empty =
-    let both = length-append told more in
-    let none : length (told ++ more) ≡ 0 = rw pushed at empty in
+placed_more P xs i d reported more new within so_far one pushed empty =
+    let both = length-append reported more in
+    let none : length (reported ++ more) ≡ 0 = rw pushed at empty in
     All-more P xs i d within (so_far (omega (arith, both, none))) (one (omega (arith, both, none)))

@@ -6,10 +6,10 @@ use Rattle.catalogue.specs.Reported.{Each}
 
 -- and of one more
 each_more : {A : Type 0} (tells : A → List ℕ → Type 0) (xs : List A) (x : A)
-    (told more : List ℕ) → Each tells xs told → tells x more
-    → Each tells (xs ++ (x ∷ [])) (told ++ more)
-each_more tells [] x told more none one = (more, [], one, refl, rw none (sym (append-nil more)))
-each_more tells (y ∷ ys) x told more so_far one = (
+    (reported more : List ℕ) → Each tells xs reported → tells x more
+    → Each tells (xs ++ (x ∷ [])) (reported ++ more)
+each_more tells [] x reported more none one = (more, [], one, refl, rw none (sym (append-nil more)))
+each_more tells (y ∷ ys) x reported more so_far one = (
   so_far.0,
   so_far.1 ++ more,
   so_far.2,
@@ -18,17 +18,17 @@ each_more tells (y ∷ ys) x told more so_far one = (
 )
 
 pub each_next : {A B : Type 0} (view : A → B) (tells : B → List ℕ → Type 0) (xs : List A)
-    (i : ℕ) (x : A) (told more new : List ℕ) → i < length xs
-    → x ≡ get_or xs i x → Each tells (map view (take i xs)) told → tells (view x) more
-    → new ≡ told ++ more → Each tells (map view (take (i + 1) xs)) new
-each_next view tells xs i x told more new within here so_far one pushed =
+    (i : ℕ) (x : A) (reported more new : List ℕ) → i < length xs
+    → x ≡ get_or xs i x → Each tells (map view (take i xs)) reported → tells (view x) more
+    → new ≡ reported ++ more → Each tells (map view (take (i + 1) xs)) new
+each_next view tells xs i x reported more new within here so_far one pushed =
     rw (map_more view xs i x within, pushed)
-    (each_more tells (map view (take i xs)) (view (get_or xs i x)) told more so_far
+    (each_more tells (map view (take i xs)) (view (get_or xs i x)) reported more so_far
     (subst (λ y. tells (view y) more) here one))
 
 -- and of all, at the end
 pub each_last : {A B : Type 0} (view : A → B) (tells : B → List ℕ → Type 0) (xs : List A)
-    (i : ℕ) (told : List ℕ) → length xs ≤ i → Each tells (map view (take i xs)) told
-    → Each tells (map view xs) told
-each_last view tells xs i told past so_far =
-    subst (λ ys. Each tells (map view ys) told) (take_all i xs past) so_far
+    (i : ℕ) (reported : List ℕ) → length xs ≤ i → Each tells (map view (take i xs)) reported
+    → Each tells (map view xs) reported
+each_last view tells xs i reported past so_far =
+    subst (λ ys. Each tells (map view ys) reported) (take_all i xs past) so_far

@@ -8,25 +8,29 @@ use Rattle.interpolator.specs.Faults.{Fault, fault, fault_place}
 use Rattle.interpolator.specs.FaultTexts.{answer_text}
 use Rattle.catalogue.specs.Declarations.{Declared, nothing, these, broken, has}
 use Rattle.catalogue.specs.Files.{Line, Page, lines_of}
-use Rattle.catalogue.specs.Formats.{format_of, line_of_spot, spot_in, told_of_place, written_of}
-use Rattle.catalogue.specs.Keys.{IsNew, told_of_key, with_key}
+use Rattle.catalogue.specs.Formats.{format_of, line_of_spot, spot_in, report_of_place, written_of}
+use Rattle.catalogue.specs.Keys.{IsNew, report_of_key, with_key}
 use Rattle.catalogue.specs.Lines.{declared_of, has_message, head_of, is_passed_over, key_of}
 use Rattle.catalogue.specs.Lines.{key_with, opens}
 use Rattle.catalogue.specs.Sought.{Known, found_among, found_by, found_in, line_for, sought}
 use Rattle.catalogue.specs.Sound.{AreSound, IsSound, IsSoundFile, IsSoundFormat, IsSoundOver}
-use Rattle.catalogue.specs.Told.{told_of_faults, told_of_file, told_of_files, told_of_format}
-use Rattle.catalogue.specs.Told.{told_of_line, told_of_lines, told_of_message, told_of_more}
-use Rattle.catalogue.specs.Told.{told_of_rule, told_of_wrong, what_goes_on, what_is_declared}
-use Rattle.catalogue.specs.Told.{what_is_written}
-use Rattle.catalogue.specs.{Examples.faults_of, Forms.Chosen, Forms.first_given, Reports.told_at}
+use Rattle.catalogue.specs.FileReports.{report_of_faults, report_of_file, report_of_files}
+use Rattle.catalogue.specs.FileReports.{report_of_format}
+use Rattle.catalogue.specs.FileReports.{report_of_line, report_of_lines, report_of_message}
+use Rattle.catalogue.specs.FileReports.{report_of_more}
+use Rattle.catalogue.specs.FileReports.{report_of_rule, report_of_wrong, what_goes_on}
+use Rattle.catalogue.specs.FileReports.{what_is_declared}
+use Rattle.catalogue.specs.FileReports.{what_is_written}
+use Rattle.catalogue.specs.{Examples.faults_of, Forms.Chosen, Forms.first_given}
+use Rattle.catalogue.specs.{Reports.reported_at}
 use Rattle.catalogue.specs.{Rules.rule_in, Rules.wrong_in, declared.entries.Object.Object}
 use Rattle.folds.specs.Lines.{goes_on}
 use Rattle.words.specs.Words.{is_equals}
 use Rattle.catalogue.proofs.FirstLemmas.{given_holds}
 
 -- something is reported
-told_some : (line : Line) (place : ℕ) (what : List ℕ) → length (told_at line place what) ≡ 0 → ⊥
-told_some line place what e = absurd (grind (arith, length-append))
+reported_some : (line : Line) (place : ℕ) (what : List ℕ) → length (reported_at line place what) ≡ 0 → ⊥
+reported_some line place what e = absurd (grind (arith, length-append))
 
 newline_some : (text : List ℕ) → length (text ++ codes "\n") ≡ 0 → ⊥
 newline_some text e = absurd (grind (arith, length-append))
@@ -37,13 +41,13 @@ either_some true one other this that e = this e
 either_some false one other this that e = that e
 
 pub placed_some : (line : Line) (format : List ℕ) (place : ℕ) (what : List ℕ)
-    → length (told_of_place line format (Some place) what) ≡ 0 → ⊥
+    → length (report_of_place line format (Some place) what) ≡ 0 → ⊥
 placed_some line format place what e =
-    either_some (bytes_eq (written_of line) format) _ _ (newline_some _) (told_some _ _ what) e
+    either_some (bytes_eq (written_of line) format) _ _ (newline_some _) (reported_some _ _ what) e
 
 -- nothing is reported only if there is no fault
 clean_faults : (line : Line) (format : List ℕ) (fs : List Fault)
-    → length (told_of_faults line format (map fault fs)) ≡ 0 → fs ≡ []
+    → length (report_of_faults line format (map fault fs)) ≡ 0 → fs ≡ []
 clean_faults line format [] e = refl
 clean_faults line format (f ∷ fs) e =
     let one = placed_some line format (fault_place f) (answer_text (fault f)) in
@@ -52,40 +56,40 @@ clean_faults line format (f ∷ fs) e =
 -- nor is a backslash wrong
 clean_format : (line : Line) (declared : Declared) (format : Result (List ℕ) ℕ)
     → ((text : List ℕ) → faults_of declared text ≡ [] → IsSoundOver declared text)
-    → length (told_of_format line declared format) ≡ 0 → IsSoundFormat declared format
+    → length (report_of_format line declared format) ≡ 0 → IsSoundFormat declared format
 clean_format line declared (Ok text) over e = over text (clean_faults line text _ e)
 clean_format line declared (Err place) over e =
-    absurd (told_some (line_of_spot line (spot_in line place)) _ what_is_written e)
+    absurd (reported_some (line_of_spot line (spot_in line place)) _ what_is_written e)
 
 -- nor is anything broken
 clean_message : (line : Line) (declared : Declared) (format : Result (List ℕ) ℕ)
-    → length (told_of_message line declared format) ≡ 0 → IsSoundFormat declared format
+    → length (report_of_message line declared format) ≡ 0 → IsSoundFormat declared format
 clean_message line nothing format e = clean_format line nothing format (λ text h. h) e
 clean_message line (these declared) format e =
     clean_format line (these declared) format (λ text h. h) e
-clean_message line (broken place) format e = absurd (told_some line place what_is_declared e)
+clean_message line (broken place) format e = absurd (reported_some line place what_is_declared e)
 
 -- nothing is reported of a key only if it is new
 clean_key : (line : Line) (head key : List ℕ) (keys : List (ℕ × List ℕ))
-    → length (told_of_key line head key keys) ≡ 0 → IsNew keys key
+    → length (report_of_key line head key keys) ≡ 0 → IsNew keys key
 clean_key line head key keys e = grind (arith, nat_tests, length-append)
 
 -- nor of a rule only if it is whole, and comes first
-clean_wrong : (line : Line) (o : Option (ℕ × List ℕ)) → length (told_of_wrong line o) ≡ 0
+clean_wrong : (line : Line) (o : Option (ℕ × List ℕ)) → length (report_of_wrong line o) ≡ 0
     → o ≡ None
 clean_wrong line None e = refl
 clean_wrong line (Some wrong) e = absurd (grind (arith, length-append))
 
 clean_rule : (keys : List (ℕ × List ℕ)) (line : Line) (rule : List ℕ)
-    → length (told_of_rule keys line rule) ≡ 0 → (keys ≡ []) × (wrong_in rule ≡ None)
+    → length (report_of_rule keys line rule) ≡ 0 → (keys ≡ []) × (wrong_in rule ≡ None)
 clean_rule [] line rule e = (refl, clean_wrong line (wrong_in rule) e)
 clean_rule (key ∷ keys) line rule e = grind (arith, nat_tests, length-append)
 
 -- nor of a line that goes on only if a message may go on there
-clean_more : (is_open : Bool) (line : Line) → length (told_of_more is_open line) ≡ 0
+clean_more : (is_open : Bool) (line : Line) → length (report_of_more is_open line) ≡ 0
     → goes_on line.text ≡ true → is_open ≡ true
 clean_more true line e goes = refl
-clean_more false line e goes = absurd (told_some line _ what_goes_on (rw goes at e))
+clean_more false line e goes = absurd (reported_some line _ what_goes_on (rw goes at e))
 
 -- two parts are empty if they are together
 parts_empty : (one two : List ℕ) → length (one ++ two) ≡ 0 → (length one ≡ 0) × (length two ≡ 0)
@@ -97,15 +101,15 @@ parts_empty one two e =
 clean_line : (keys : List (ℕ × List ℕ)) (is_open : Bool) (line : Line) (passed : Bool)
     (ruled : Option (List ℕ)) (cut : Bool) → is_passed_over line.text ≡ passed
     → rule_in line.text ≡ ruled → has is_equals line.text ≡ cut
-    → length (told_of_line keys is_open line) ≡ 0 → IsSound keys is_open line
+    → length (report_of_line keys is_open line) ≡ 0 → IsSound keys is_open line
 clean_line keys is_open line true ruled cut p r h e =
     inl (p, clean_more is_open line (rw p at e))
 clean_line keys is_open line false (Some rule) cut p r h e =
     let both = clean_rule keys line rule (rw (p, r) at e) in
     inr (inl (record { rule = rule; ruled = r; first = both.0; whole = both.1 }))
 clean_line keys is_open line false None true p r h e =
-    let of_key = told_of_key line (head_of line.text) (key_of line.text) keys in
-    let of_message = told_of_message line (declared_of line.text) (format_of line) in
+    let of_key = report_of_key line (head_of line.text) (key_of line.text) keys in
+    let of_message = report_of_message line (declared_of line.text) (format_of line) in
     let empty = parts_empty of_key of_message (rw (p, r, h) at e) in
     inr (inr (
       ltb-true _ _ h,
@@ -113,25 +117,25 @@ clean_line keys is_open line false None true p r h e =
       clean_message line (declared_of line.text) (format_of line) empty.1,
     ))
 clean_line keys is_open line false None false p r h e =
-    absurd (told_some line 0 (codes "no `=`") (rw (p, r, h) at e))
+    absurd (reported_some line 0 (codes "no `=`") (rw (p, r, h) at e))
 
 -- nor of lines
 clean_lines : (keys : List (ℕ × List ℕ)) (is_open : Bool) (ls : List Line)
-    → length (told_of_lines keys is_open ls) ≡ 0 → AreSound keys is_open ls
+    → length (report_of_lines keys is_open ls) ≡ 0 → AreSound keys is_open ls
 clean_lines keys is_open [] e = tt
 clean_lines keys is_open (one ∷ rest) e =
     let more = with_key keys one.number (key_with one.text) in
-    let empty = parts_empty (told_of_line keys is_open one)
-    (told_of_lines more (opens is_open one.text) rest) e in (
+    let empty = parts_empty (report_of_line keys is_open one)
+    (report_of_lines more (opens is_open one.text) rest) e in (
       clean_line keys is_open one _ _ _ refl refl refl empty.0,
       clean_lines more (opens is_open one.text) rest empty.1,
     )
 
 -- nor of files
-pub clean_files : (pages : List Page) → length (told_of_files pages) ≡ 0 → All IsSoundFile pages
+pub clean_files : (pages : List Page) → length (report_of_files pages) ≡ 0 → All IsSoundFile pages
 clean_files [] e = All-nil IsSoundFile
 clean_files (page ∷ pages) e =
-    let empty = parts_empty (told_of_file page) (told_of_files pages) e in
+    let empty = parts_empty (report_of_file page) (report_of_files pages) e in
     All-cons IsSoundFile page pages (clean_lines [] false (lines_of page) empty.0)
     (clean_files pages empty.1)
 

@@ -5,7 +5,7 @@ use Rattle.interpolator.specs.Faults.{Answer, Fault, fault, no_memory, parse, un
 use Rattle.interpolator.specs.declared.View.TheVariants.{Character, Decimal, Signed}
 use Rattle.interpolator.specs.Template.{NodeChecks.text_faults, NodeSamples.faults_over}
 use Rattle.interpolator.specs.declared.{Bits.TheVariants.B128, Spec.Spec, Trait.Trait, View.View}
-use Rattle.interpolator.specs.{At.outermost, Slots.Slots, Views.Shown, Views.shown_as_value}
+use Rattle.interpolator.specs.{Places.outermost, Slots.Slots, Views.Shown, Views.shown_as_value}
 use Rattle.catalogue.specs.Declarations.{Declared, nothing, these, broken}
 use Rattle.catalogue.specs.Entries.{Held, found_by, slots_by}
 use Rattle.words.specs.{Lists.item_slots, declared.Kind.Kind}

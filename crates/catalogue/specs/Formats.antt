@@ -5,7 +5,7 @@ use Rattle.std.specs.{List.after_first, Str.bytes_eq, Str.trim_start}
 use Rattle.folds.specs.Lines.{Spot, folded, spot_of}
 use Rattle.folds.specs.Spellings.{place_in, text_in}
 use Rattle.interpolator.specs.{Explained.explanation, Explained.usize_sum, declared.Source.Source}
-use Rattle.catalogue.specs.{Files.Line, Reports.lent, Reports.told_at}
+use Rattle.catalogue.specs.{Files.Line, Reports.lent, Reports.reported_at}
 use Rattle.words.specs.Words.{is_equals}
 
 -- what the line of a message writes of its format, after the first `=`
@@ -35,12 +35,12 @@ line_of_spot line spot = record {
 }
 
 -- what is reported at a byte of what the lines of a message write: in the line that writes it
-abbrev pub told_at_spot : Line → Spot → (what : List ℕ) → List ℕ
-told_at_spot line spot what =
-    told_at (line_of_spot line spot) (usize_sum spot.begin spot.byte) what
+abbrev pub reported_at_spot : Line → Spot → (what : List ℕ) → List ℕ
+reported_at_spot line spot what =
+    reported_at (line_of_spot line spot) (usize_sum spot.begin spot.byte) what
 
-abbrev pub told_in : Line → (place : ℕ) → (what : List ℕ) → List ℕ
-told_in line place what = told_at_spot line (spot_in line place) what
+abbrev pub reported_in : Line → (place : ℕ) → (what : List ℕ) → List ℕ
+reported_in line place what = reported_at_spot line (spot_in line place) what
 
 -- a line of a file that ends with its format
 abbrev pub source_of : Line → (format : List ℕ) → Source
@@ -54,9 +54,9 @@ source_of line format = record {
 
 -- what is reported at a byte of a line's format: shown as a fault of a format is, if the line
 -- writes the format as it is, or else in the line that writes the byte
-abbrev pub told_of_place : Line → (format : List ℕ) → Option ℕ → (what : List ℕ) → List ℕ
-told_of_place line format None what = []
-told_of_place line format (Some place) what =
+abbrev pub report_of_place : Line → (format : List ℕ) → Option ℕ → (what : List ℕ) → List ℕ
+report_of_place line format None what = []
+report_of_place line format (Some place) what =
     if bytes_eq (written_of line) format
     then explanation (source_of line format) (Some place) what ++ codes "\n"
-    else told_in line (place_in (written_of line) place) what
+    else reported_in line (place_in (written_of line) place) what

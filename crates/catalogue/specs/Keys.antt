@@ -3,7 +3,7 @@ use Rattle.std.specs.Prelude.{◌≡◌, ◌≢◌, ℕ, ◌==◌, List, [], ◌
 use Rattle.std.specs.Prelude.{Option, None, Some, is_some}
 use Rattle.std.specs.HashMap.{HashMap, get_by, hash_map_len}
 use Rattle.std.specs.{Borrow.Bor, Fmt.decimal, List.find, Option.option_map, Str.bytes_eq}
-use Rattle.catalogue.specs.{Declarations.begin_of, Files.Line, Reports.told_at}
+use Rattle.catalogue.specs.{Declarations.begin_of, Files.Line, Reports.reported_at}
 
 -- the number of the line that has a key, if one has
 abbrev pub number_of : List (ℕ × List ℕ) → List ℕ → Option ℕ
@@ -33,13 +33,13 @@ what_is_again number key =
     codes "line " ++ (decimal number ++ (codes " has the key `" ++ (key ++ codes "` too")))
 
 -- what is reported of a key by the line before that has it
-abbrev pub told_again : Line → (head key : List ℕ) → Option ℕ → List ℕ
-told_again line head key None = []
-told_again line head key (Some before) =
-    told_at line (begin_of 0 head) (what_is_again before key)
+abbrev pub reported_again : Line → (head key : List ℕ) → Option ℕ → List ℕ
+reported_again line head key None = []
+reported_again line head key (Some before) =
+    reported_at line (begin_of 0 head) (what_is_again before key)
 
 -- what is reported of the key in the head of a line, by those of the lines before
-abbrev pub told_of_key : Line → (head key : List ℕ) → List (ℕ × List ℕ) → List ℕ
-told_of_key line head key keys =
-    if length key == 0 then told_at line (begin_of 0 head) (codes "no key")
-    else told_again line head key (number_of keys key)
+abbrev pub report_of_key : Line → (head key : List ℕ) → List (ℕ × List ℕ) → List ℕ
+report_of_key line head key keys =
+    if length key == 0 then reported_at line (begin_of 0 head) (codes "no key")
+    else reported_again line head key (number_of keys key)

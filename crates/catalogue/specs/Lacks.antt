@@ -7,7 +7,8 @@ use Rattle.std.specs.{Path.rsplit_once, Str.bytes_eq}
 use Rattle.plurals.specs.{Readings.tree_at, Trees.Tree, Values.forms, declared.fault.Fault.Fault}
 use Rattle.catalogue.specs.Lines.{has_message, head_of, is_under, key_of}
 use Rattle.catalogue.specs.{Declarations.begin_of, Files.Line, Files.Page, Files.lines_of}
-use Rattle.catalogue.specs.{Forms.first_given, Forms.key_of_form, Forms.rule_of, Reports.told_at}
+use Rattle.catalogue.specs.{Forms.first_given, Forms.key_of_form, Forms.rule_of}
+use Rattle.catalogue.specs.{Reports.reported_at}
 
 -- a text is one of some texts
 abbrev pub is_one_of : List (List ℕ) → List ℕ → Bool
@@ -93,28 +94,28 @@ abbrev pub what_is_lacking : (key first : List ℕ) → List (List ℕ) → List
 what_is_lacking key first more = codes "`" ++ (key
     ++ (codes "` lacks forms that the rule can choose: " ++ all_quoted first more))
 
-abbrev pub told_of_lacking : Line → (head key : List ℕ) → List (List ℕ) → List ℕ
-told_of_lacking line head key [] = []
-told_of_lacking line head key (first ∷ more) =
-    told_at line (begin_of 0 head) (what_is_lacking key first more)
+abbrev pub report_of_lacking : Line → (head key : List ℕ) → List (List ℕ) → List ℕ
+report_of_lacking line head key [] = []
+report_of_lacking line head key (first ∷ more) =
+    reported_at line (begin_of 0 head) (what_is_lacking key first more)
 
 -- what is reported of a key in the first line that has one of its forms
-abbrev pub told_of_first : List Line → (forms : List (List ℕ)) → Line → Option (List ℕ) → List ℕ
-told_of_first lines forms line None = []
-told_of_first lines forms line (Some key) =
+abbrev pub report_of_first : List Line → (forms : List (List ℕ)) → Line → Option (List ℕ) → List ℕ
+report_of_first lines forms line None = []
+report_of_first lines forms line (Some key) =
     if has_before lines line.number key forms then []
-    else told_of_lacking line (head_of line.text) key (lacking lines key forms)
+    else report_of_lacking line (head_of line.text) key (lacking lines key forms)
 
 -- what is reported of a line
-abbrev pub told_of_line : List Line → (forms : List (List ℕ)) → Line → List ℕ
-told_of_line lines forms line =
+abbrev pub report_of_line : List Line → (forms : List (List ℕ)) → Line → List ℕ
+report_of_line lines forms line =
     if has_message line.text
-    then told_of_first lines forms line (key_with_forms lines forms (key_of line.text)) else []
+    then report_of_first lines forms line (key_with_forms lines forms (key_of line.text)) else []
 
 -- what is reported of a file: each key of which it has some of the forms that its rule can choose,
 -- but neither all of them nor the key itself
-abbrev pub told_of_file : Page → List ℕ
-told_of_file page = concat (map (told_of_line (lines_of page) (forms_in page.1)) (lines_of page))
+abbrev pub report_of_file : Page → List ℕ
+report_of_file page = concat (map (report_of_line (lines_of page) (forms_in page.1)) (lines_of page))
 
-abbrev pub told_of_files : List Page → List ℕ
-told_of_files pages = concat (map told_of_file pages)
+abbrev pub report_of_files : List Page → List ℕ
+report_of_files pages = concat (map report_of_file pages)

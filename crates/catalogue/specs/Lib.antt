@@ -1,6 +1,6 @@
 -- What a file of messages says.
 pub mod Messages
-pub mod Told
+pub mod FileReports
 pub mod Sound
 pub mod Sought
 pub mod Lines

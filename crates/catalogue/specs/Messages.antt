@@ -3,14 +3,14 @@ use Rattle.std.specs.Prelude.{◌≡◌, ◌⊎◌, ℕ, ◌<◌, List, [], leng
 use Rattle.std.specs.Prelude.{Some, Result, Ok, Err}
 use Rattle.std.specs.List.{All, AllZip}
 use Rattle.std.specs.{Str.chars, declared.string.String.String, declared.vec.Vec.Vec}
-use Rattle.interpolator.specs.{At.outermost, Faults.Fault, Faults.fault}
+use Rattle.interpolator.specs.{Places.outermost, Faults.Fault, Faults.fault}
 use Rattle.interpolator.specs.{Meaning.Environments.environment, Meaning.Meanings.Meaning}
 use Rattle.interpolator.specs.{Meaning.Meanings.means, Meaning.Outcomes.Formats, Views.Shown}
 use Rattle.interpolator.specs.{declared.Spec.Spec, declared.Trait.Trait}
 use Rattle.interpolator_escapes.specs.{Formats.escaped_shows, declared.escape.Escape.Escape}
 use Rattle.catalogue.specs.Entries.{Held, found_by, held_by}
-use Rattle.catalogue.specs.Picks.{ArePicked, IsLacking, told_of_lacking}
-use Rattle.catalogue.specs.Told.{told_of_absent, told_of_fault, told_of_files}
+use Rattle.catalogue.specs.Picks.{ArePicked, IsLacking, report_of_lacking}
+use Rattle.catalogue.specs.FileReports.{report_of_absent, report_of_fault, report_of_files}
 use Rattle.catalogue.specs.declared.messages.Answer.TheVariants.{Message, Faults, Absent, BadWord}
 use Rattle.catalogue.specs.{Declarations.Declared, Declarations.nothing, Examples.view_shows}
 use Rattle.catalogue.specs.{Files.Line, Files.Page, Sought.Known, Sought.found_among}
@@ -30,20 +30,20 @@ message_means escape format held =
     means (escaped_by escape view_shows) (environment (found_by held)) (outermost (chars format))
 
 -- what is reported of a format's fault: the fault as it is shown in its line
-pub record IsToldOf (escape : Option Escape) (line : Line) (format : List ℕ) (held : List Held)
-    (told : List ℕ) : Type 0 where
+pub record IsReportedOf (escape : Option Escape) (line : Line) (format : List ℕ) (held : List Held)
+    (reported : List ℕ) : Type 0 where
   pub f : Fault
   pub faulty : (message_means escape format held).fault ≡ Some f
-  pub says : told ≡ told_of_fault line format (fault f)
+  pub says : reported ≡ report_of_fault line format (fault f)
 
 -- a message is what its format means, without fault; or its fault is reported
-abbrev pub IsMadeOrTold : Option Escape → Line → (format : List ℕ) → List Held → Answer → Type 0
-IsMadeOrTold escape line format held (Message message) =
+abbrev pub IsMadeOrReported : Option Escape → Line → (format : List ℕ) → List Held → Answer → Type 0
+IsMadeOrReported escape line format held (Message message) =
     Formats (message_means escape format held) (Ok message)
-IsMadeOrTold escape line format held (Faults told) =
-    IsToldOf escape line format held (string_bytes told)
-IsMadeOrTold escape line format held (Absent told) = ⊥
-IsMadeOrTold escape line format held (BadWord word) = ⊥
+IsMadeOrReported escape line format held (Faults reported) =
+    IsReportedOf escape line format held (string_bytes reported)
+IsMadeOrReported escape line format held (Absent reported) = ⊥
+IsMadeOrReported escape line format held (BadWord word) = ⊥
 
 -- a message is made with what is picked of objects for what its line declares
 pub record IsMade {Z : Type 0} (escape : Option Escape) (format : List ℕ) (declared : Declared)
@@ -53,11 +53,11 @@ pub record IsMade {Z : Type 0} (escape : Option Escape) (format : List ℕ) (dec
   pub made : Formats (message_means escape format held) (Ok message)
 
 -- what is reported of a declaration for which nothing is picked
-pub record IsToldLacking (line : Line) (key : List ℕ) (declared : Declared)
-    (objects : List Object) (told : List ℕ) : Type 0 where
+pub record IsReportedLacking (line : Line) (key : List ℕ) (declared : Declared)
+    (objects : List Object) (reported : List ℕ) : Type 0 where
   pub lacking : List ℕ × Kind
   pub first : IsLacking declared objects lacking
-  pub says : told ≡ told_of_lacking line key lacking
+  pub says : reported ≡ report_of_lacking line key lacking
 
 -- what the line that was found comes to: the message; the value that it lacks, or its fault, if it
 -- declares nothing; or that what chooses its form is missing
@@ -65,14 +65,14 @@ abbrev pub Replies : Option Escape → Answer → Option (List ℕ × Kind) → 
     → Declared → (format : List ℕ) → List Object → Type 0
 Replies escape (Message message) None line key declared format objects =
     IsMade escape format declared objects message
-Replies escape (Faults told) None line key declared format objects =
-    IsToldLacking line key declared objects (string_bytes told)
+Replies escape (Faults reported) None line key declared format objects =
+    IsReportedLacking line key declared objects (string_bytes reported)
     ⊎ ((declared ≡ nothing)
-    × IsToldOf escape line format (map held_by objects) (string_bytes told))
-Replies escape (Faults told) (Some lacking) line key declared format objects =
-    string_bytes told ≡ told_of_lacking line key lacking
+    × IsReportedOf escape line format (map held_by objects) (string_bytes reported))
+Replies escape (Faults reported) (Some lacking) line key declared format objects =
+    string_bytes reported ≡ report_of_lacking line key lacking
 Replies escape (Message message) (Some lacking) line key declared format objects = ⊥
-Replies escape (Absent told) lacks line key declared format objects = ⊥
+Replies escape (Absent reported) lacks line key declared format objects = ⊥
 Replies escape (BadWord word) lacks line key declared format objects = ⊥
 
 -- each word gives an object
@@ -99,17 +99,17 @@ module _ {Y : Type 0} (escape : Option Escape) (files : List Page) (key : List �
         values
 
   -- some line is not sound: all faults of all lines of all files are reported
-  pub record OfFiles (told : List ℕ) : Type 0 where
-    pub some : 0 < length told
-    pub all : told ≡ told_of_files files
+  pub record OfFiles (reported : List ℕ) : Type 0 where
+    pub some : 0 < length reported
+    pub all : reported ≡ report_of_files files
 
   -- every file is sound, and none has the key, or the form that what the words give chooses
-  pub record OfKey (told : List ℕ) : Type 0 where
+  pub record OfKey (reported : List ℕ) : Type 0 where
     pub sound : All IsSoundFile files
     pub values : List Object
     pub given : GiveValues words values
     pub none : found_among values key files ≡ None
-    pub says : told ≡ told_of_absent values key files
+    pub says : reported ≡ report_of_absent values key files
 
   -- every file is sound, and this is the first word that gives nothing
   pub record OfWord (word : List ℕ) : Type 0 where
@@ -122,5 +122,5 @@ module _ {Y : Type 0} (escape : Option Escape) (files : List Page) (key : List �
   abbrev pub Answers : Answer → Type 0
   Answers (Message message) = OfLine (Message message)
   Answers (BadWord word) = OfWord (string_bytes word)
-  Answers (Absent told) = OfKey (string_bytes told)
-  Answers (Faults told) = OfFiles (string_bytes told) ⊎ OfLine (Faults told)
+  Answers (Absent reported) = OfKey (string_bytes reported)
+  Answers (Faults reported) = OfFiles (string_bytes reported) ⊎ OfLine (Faults reported)

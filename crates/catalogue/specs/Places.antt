@@ -1,7 +1,7 @@
 -- Messages whose values are in places of an escape. Texts are bytes.
 use Rattle.std.specs.Prelude.{◌≡◌, ⊤, ℕ, true, List, Result, Ok, Err}
 use Rattle.std.specs.{List.All, Str.chars}
-use Rattle.interpolator.specs.At.{outermost}
+use Rattle.interpolator.specs.Places.{outermost}
 use Rattle.interpolator_escapes.specs.{Placing.StandsFor, declared.escape.Escape.Escape}
 use Rattle.catalogue.specs.Files.{Line, Page, lines_of}
 use Rattle.catalogue.specs.{Formats.format_of, Lines.has_message}

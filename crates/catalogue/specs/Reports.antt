@@ -31,7 +31,7 @@ picture_at line place =
 
 -- what is reported at a byte of a line: the file, the line's number, the column, what it is, and
 -- the line with a mark
-abbrev pub told_at : Line → ℕ → List ℕ → List ℕ
-told_at line place what = line.file ++ (codes ":" ++ (decimal line.number ++ (codes ":"
+abbrev pub reported_at : Line → ℕ → List ℕ → List ℕ
+reported_at line place what = line.file ++ (codes ":" ++ (decimal line.number ++ (codes ":"
     ++ (decimal (column_at line.text place) ++ (codes ": " ++ (what ++ (codes "\n"
     ++ (picture_at line place ++ codes "\n"))))))))

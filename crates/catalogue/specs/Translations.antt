@@ -4,7 +4,8 @@ use Rattle.std.specs.Prelude.{◌≡◌, ◌⊎◌, ⊤, ℕ, Bool, true, false,
 use Rattle.std.specs.Prelude.{◌∷◌, ◌++◌, codes, encode_utf8_all, if◌then◌else◌, length, map, Option}
 use Rattle.std.specs.Prelude.{None, Some}
 use Rattle.std.specs.{Fmt.decimal, List.list_all, List.list_any, Str.bytes_eq, Str.chars}
-use Rattle.interpolator.specs.{At.outermost, Faults.Answer, Faults.fault, FaultTexts.answer_text}
+use Rattle.interpolator.specs.{Places.outermost, Faults.Answer, Faults.fault}
+use Rattle.interpolator.specs.{FaultTexts.answer_text}
 use Rattle.interpolator.specs.Template.AllArguments.{arguments_of}
 use Rattle.interpolator.specs.declared.Trait.TheVariants.{Display}
 use Rattle.interpolator_escapes.specs.declared.{escape.Escape.Escape, misplaced.Misplaced.Misplaced}
@@ -13,7 +14,7 @@ use Rattle.interpolator_syntax.specs.Arguments.{Argument}
 use Rattle.interpolator_syntax.specs.SpecTexts.{Kind, of_list, of_value}
 use Rattle.po.specs.Sections.{text_of, token_text}
 use Rattle.po.specs.{Entries.Entry, declared.token.Placed.Placed}
-use Rattle.catalogue.specs.Reported.{Each, IsToldAt, Nothing, Then, Unless, When}
+use Rattle.catalogue.specs.Reported.{Each, IsReportedAt, Nothing, Then, Unless, When}
 use Rattle.catalogue.specs.{Declarations.nothing, Examples.faults_of, declared.files.File.File}
 
 -- the arguments of the format that strings make
@@ -62,25 +63,25 @@ what_is_lacking name = codes "the translation lacks `{" ++ (encode_utf8_all name
 module _ (file : File) where
   -- what is reported of an argument of a translation: nothing, if it is known
   abbrev pub TellsOther : (id plural : List Argument) → Argument → List ℕ → Type 0
-  TellsOther id plural one = Unless (IsKnown id plural one) (IsToldAt file
+  TellsOther id plural one = Unless (IsKnown id plural one) (IsReportedAt file
       (what_is_other (has_name id one.name || has_name plural one.name) one.name))
 
   -- what is reported of an argument of a message: that the translation, which has these, lacks it
   abbrev pub TellsLacking : (found : List Argument) → Argument → List ℕ → Type 0
   TellsLacking found one =
-      When (not (has_name found one.name)) (IsToldAt file (what_is_lacking one.name))
+      When (not (has_name found one.name)) (IsReportedAt file (what_is_lacking one.name))
 
   -- what is reported of a fault of a format
   abbrev pub TellsFault : Answer → List ℕ → Type 0
-  TellsFault why = IsToldAt file (answer_text why)
+  TellsFault why = IsReportedAt file (answer_text why)
 
   -- what is reported of the first value of a format in no place of an escape, if one is asked for
   abbrev pub TellsPlaces : Option Escape → (format : List ℕ) → List ℕ → Type 0
-  TellsPlaces None format told = Nothing told
-  TellsPlaces (Some escape) format told =
-      (StandsFor escape (outermost (chars format)) × Nothing told)
+  TellsPlaces None format reported = Nothing reported
+  TellsPlaces (Some escape) format reported =
+      (StandsFor escape (outermost (chars format)) × Nothing reported)
       ⊎ ((why : Misplaced) × FailsFor escape (outermost (chars format)) why
-      × IsToldAt file (why_text why.why) told)
+      × IsReportedAt file (why_text why.why) reported)
 
   -- what is reported of a format by itself: each of its faults, and that value
   abbrev pub TellsFormat : Option Escape → (format : List ℕ) → List ℕ → Type 0
@@ -148,9 +149,9 @@ module _ (file : File) where
   -- what is reported of the number of forms of a message
   abbrev pub TellsCount : (wanted : ℕ) → Entry → List ℕ → Type 0
   TellsCount wanted entry = When (has_other_count wanted entry)
-      (IsToldAt file (what_is_count (length entry.texts) wanted))
+      (IsReportedAt file (what_is_count (length entry.texts) wanted))
 
   -- what is reported of a message that stands twice
   abbrev pub TellsTwice : (is_twice : Bool) → List ℕ → Type 0
-  TellsTwice true told = (line : ℕ) × IsToldAt file (what_is_twice line) told
-  TellsTwice false told = Nothing told
+  TellsTwice true reported = (line : ℕ) × IsReportedAt file (what_is_twice line) reported
+  TellsTwice false reported = Nothing reported

@@ -2,7 +2,7 @@
 use Rattle.std.specs.Prelude.{ℕ, Bool, false, not, ◌||◌, List, [], ◌∷◌, ◌++◌, codes, filter, map}
 use Rattle.std.specs.Prelude.{if◌then◌else◌, Option, None, Some, Result, Ok, Err}
 use Rattle.std.specs.{List.before_first, List.concat, List.list_any, Str.bytes_eq, Str.chars}
-use Rattle.interpolator.specs.{At.outermost, Meaning.AskedNames.asked_names}
+use Rattle.interpolator.specs.{Places.outermost, Meaning.AskedNames.asked_names}
 use Rattle.plurals.specs.Trees.{Tree, alike, chosen, counted, grouped, joined, named, negated}
 use Rattle.plurals.specs.Trees.{reduced, unlike}
 use Rattle.plurals.specs.{Readings.tree_at, declared.fault.Fault.Fault}
@@ -93,8 +93,8 @@ abbrev pub first_name : List Page → List ℕ
 first_name [] = []
 first_name (page ∷ pages) = page.0
 
-abbrev pub told_unused : (file name : List ℕ) → List ℕ
-told_unused file name = file ++ (codes ": no message uses `" ++ (name ++ codes "`\n"))
+abbrev pub reported_unused : (file name : List ℕ) → List ℕ
+reported_unused file name = file ++ (codes ": no message uses `" ++ (name ++ codes "`\n"))
 
-abbrev pub told_of_unused : List Page → (words : List (List ℕ)) → List ℕ
-told_of_unused pages words = concat (map (told_unused (first_name pages)) (unused pages words))
+abbrev pub report_of_unused : List Page → (words : List (List ℕ)) → List ℕ
+report_of_unused pages words = concat (map (reported_unused (first_name pages)) (unused pages words))

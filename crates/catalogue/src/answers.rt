@@ -69,10 +69,10 @@ fn tell_message(
     words: &[String],
 ) -> io::Result<u8> {
     match unused(rt.alloc(), files, words) {
-        Ok(told) => {
+        Ok(reported) => {
             let status = status_after(rt, println!(rt; "{message}"))?;
-            if status == WRITTEN && !told.is_empty() {
-                eprint!(rt; "{told}")?;
+            if status == WRITTEN && !reported.is_empty() {
+                eprint!(rt; "{reported}")?;
             }
             Ok(status)
         }
@@ -108,40 +108,44 @@ fn tell(rt: &HostRuntime, answer: &Answer, files: &[File], wanted: &Wanted<'_>) 
 
 /// What is wrong with files: the faults of their lines, and the values that are in no place of an
 /// escape, if one is asked for.
-fn told_of(alloc: Global, files: &[File], escape: Option<Escape>) -> Result<String, Error> {
-    let mut told = check(alloc, files)?;
+fn report_of(alloc: Global, files: &[File], escape: Option<Escape>) -> Result<String, Error> {
+    let mut reported = check(alloc, files)?;
     if let Some(escape) = escape {
         let more = misplaced(alloc, files, escape)?;
-        told.push_str(more.as_str())?;
+        reported.push_str(more.as_str())?;
     }
-    Ok(told)
+    Ok(reported)
 }
 
 /// What a check reports: what is wrong with files, and the keys that lack a form.
-fn told_by_check(alloc: Global, files: &[File], escape: Option<Escape>) -> Result<String, Error> {
-    let mut told = told_of(alloc, files, escape)?;
+fn reported_by_check(
+    alloc: Global,
+    files: &[File],
+    escape: Option<Escape>,
+) -> Result<String, Error> {
+    let mut reported = report_of(alloc, files, escape)?;
     let more = lacking_forms(alloc, files)?;
-    told.push_str(more.as_str())?;
-    Ok(told)
+    reported.push_str(more.as_str())?;
+    Ok(reported)
 }
 
 /// What is wrong with PO files.
-fn told_by_po(alloc: Global, files: &[File], escape: Option<Escape>) -> Result<String, Error> {
-    let mut told = String::new(alloc);
+fn reported_by_po(alloc: Global, files: &[File], escape: Option<Escape>) -> Result<String, Error> {
+    let mut reported = String::new(alloc);
     for file in files {
         if let Answer::Faults(more) = in_po(alloc, file, escape, None)? {
-            told.push_str(more.as_str())?;
+            reported.push_str(more.as_str())?;
         }
     }
-    Ok(told)
+    Ok(reported)
 }
 
 /// What is answered: all that is wrong with the files, or the message, or why there is none.
 fn answer_in(alloc: Global, wanted: &Wanted<'_>, files: &[File]) -> Result<Answer, Error> {
     if wanted.escape.is_some() {
-        let told = told_of(alloc, files, wanted.escape)?;
-        if !told.is_empty() {
-            return Ok(Answer::Faults(told));
+        let reported = report_of(alloc, files, wanted.escape)?;
+        if !reported.is_empty() {
+            return Ok(Answer::Faults(reported));
         }
     }
     look_up(alloc, wanted.escape, files, wanted.key, wanted.values)
@@ -197,14 +201,14 @@ pub(crate) fn check_files(rt: &HostRuntime, asked: &Asked<'_>) -> io::Result<u8>
             None => status = REFUSED,
         }
     }
-    let told = if asked.is_po {
-        told_by_po(rt.alloc(), files.as_slice(), asked.escape)
+    let reported = if asked.is_po {
+        reported_by_po(rt.alloc(), files.as_slice(), asked.escape)
     } else {
-        told_by_check(rt.alloc(), files.as_slice(), asked.escape)
+        reported_by_check(rt.alloc(), files.as_slice(), asked.escape)
     };
-    match &told {
-        Ok(told) if told.is_empty() => return Ok(status),
-        Ok(told) => eprint!(rt; "{told}")?,
+    match &reported {
+        Ok(reported) if reported.is_empty() => return Ok(status),
+        Ok(reported) => eprint!(rt; "{reported}")?,
         Err(error) => eprintln!(rt; "{error}")?,
     }
     Ok(status.max(FAULT))

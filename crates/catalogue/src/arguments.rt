@@ -10,7 +10,7 @@ ghost use Rattle.catalogue.specs.Translations.{TellsOther, arguments_in, has_nam
 ghost use Rattle.catalogue.specs.Translations.{what_is_lacking, what_is_other};
 
 use crate::files::File;
-use crate::po_reports::told_in;
+use crate::po_reports::reported_in;
 use crate::translations::template_of;
 use crate::unused::is_name;
 use interpolator::{Argument, Error, Kind, Trait};
@@ -99,7 +99,7 @@ fn what_is_lacking(alloc: Global, name: &str) -> Result<String, AllocError>
 }
 
 /// Reports an argument of a translation that neither text of its message has.
-fn told_of_other(
+fn report_of_other(
     alloc: Global,
     file: &File,
     strings: &[Placed],
@@ -107,20 +107,20 @@ fn told_of_other(
     id: &[Argument<'_>],
     plural: &[Argument<'_>],
 ) -> Result<String, Error>
-    ensures told { IfOk result (λ told. TellsOther file.now (map argument_of id.now)
-        (map argument_of plural.now) (argument_of one.now) (string_bytes told)) }
+    ensures reported { IfOk result (λ reported. TellsOther file.now (map argument_of id.now)
+        (map argument_of plural.now) (argument_of one.now) (string_bytes reported)) }
     ensures refused { IfErr result (λ error. answer_of error ≡ no_memory) }
 {
     if is_known(id, plural, one) {
         return Ok(String::new(alloc));
     }
     let what = what_is_other(alloc, is_named(id, plural, one.name), one.name)?;
-    let told = told_in(alloc, file, strings, one.name_place, what.as_str())?;
-    Ok(told)
+    let reported = reported_in(alloc, file, strings, one.name_place, what.as_str())?;
+    Ok(reported)
 }
 
 /// Reports the arguments of a translation that neither text of its message has.
-pub fn told_of_others(
+pub fn report_of_others(
     alloc: Global,
     file: &File,
     strings: &[Placed],
@@ -128,56 +128,56 @@ pub fn told_of_others(
     id: &[Argument<'_>],
     plural: &[Argument<'_>],
 ) -> Result<String, Error>
-    ensures told { IfOk result (λ told. Each
+    ensures reported { IfOk result (λ reported. Each
         (TellsOther file.now (map argument_of id.now) (map argument_of plural.now))
-        (map argument_of found.now) (string_bytes told)) }
+        (map argument_of found.now) (string_bytes reported)) }
     ensures refused { IfErr result (λ error. answer_of error ≡ no_memory) }
 {
-    let mut told = String::new(alloc);
+    let mut reported = String::new(alloc);
     for one in found {
-        let more = told_of_other(alloc, file, strings, one, id, plural)?;
-        told.push_str(more.as_str())?;
+        let more = report_of_other(alloc, file, strings, one, id, plural)?;
+        reported.push_str(more.as_str())?;
     }
-    Ok(told)
+    Ok(reported)
 }
 
 /// Reports the name of an argument of a message, if its translation, which has these, lacks it.
-fn told_of_name(
+fn report_of_name(
     alloc: Global,
     file: &File,
     strings: &[Placed],
     found: &[Argument<'_>],
     one: &Argument<'_>,
 ) -> Result<String, Error>
-    ensures told { IfOk result (λ told. TellsLacking file.now (map argument_of found.now)
-        (argument_of one.now) (string_bytes told)) }
+    ensures reported { IfOk result (λ reported. TellsLacking file.now (map argument_of found.now)
+        (argument_of one.now) (string_bytes reported)) }
     ensures refused { IfErr result (λ error. answer_of error ≡ no_memory) }
 {
     if has_name(found, one.name) {
         return Ok(String::new(alloc));
     }
     let what = what_is_lacking(alloc, one.name)?;
-    let told = told_in(alloc, file, strings, 0, what.as_str())?;
-    Ok(told)
+    let reported = reported_in(alloc, file, strings, 0, what.as_str())?;
+    Ok(reported)
 }
 
 /// Reports the names of a message that its translation lacks.
-pub fn told_of_lacking(
+pub fn report_of_lacking(
     alloc: Global,
     file: &File,
     strings: &[Placed],
     wanted: &[Argument<'_>],
 ) -> Result<String, Error>
-    ensures told { IfOk result (λ told. Each (TellsLacking file.now (arguments_in strings.now))
-        (map argument_of wanted.now) (string_bytes told)) }
+    ensures reported { IfOk result (λ reported. Each (TellsLacking file.now (arguments_in strings.now))
+        (map argument_of wanted.now) (string_bytes reported)) }
     ensures refused { IfErr result (λ error. answer_of error ≡ no_memory) }
 {
     let template = template_of(alloc, strings)?;
     let found = template.arguments(alloc)?;
-    let mut told = String::new(alloc);
+    let mut reported = String::new(alloc);
     for one in wanted {
-        let more = told_of_name(alloc, file, strings, found.as_slice(), one)?;
-        told.push_str(more.as_str())?;
+        let more = report_of_name(alloc, file, strings, found.as_slice(), one)?;
+        reported.push_str(more.as_str())?;
     }
-    Ok(told)
+    Ok(reported)
 }

@@ -3,7 +3,7 @@
 ghost use Rattle.std.specs.Prelude.{◌≡◌, IfOk, IfErr, map};
 ghost use Rattle.std.specs.{List.filter, Str.chars};
 ghost use Rattle.interpolator.specs.Faults.{answer_of, fault, no_memory};
-ghost use Rattle.interpolator.specs.{At.outermost, Template.NodeChecks.text_faults};
+ghost use Rattle.interpolator.specs.{Places.outermost, Template.NodeChecks.text_faults};
 ghost use Rattle.catalogue.specs.Examples.{example_faults, example_of, faults_of, is_own_reply};
 ghost use Rattle.catalogue.specs.{Declarations.declared_by, Entries.held_by};
 ghost use Rattle.words.specs.Declarations.{as_declaration};

@@ -4,11 +4,12 @@ ghost use Rattle.std.specs.Prelude.{◌≡◌, IfOk, IfErr, Some, string_bytes};
 ghost use Rattle.interpolator.specs.Faults.{answer_of, no_memory};
 ghost use Rattle.catalogue.specs.Files.{as_line};
 ghost use Rattle.std.specs.List.{after_first};
-ghost use Rattle.catalogue.specs.Formats.{first_of, format_of, told_in, told_of_place, written_of};
+ghost use Rattle.catalogue.specs.Formats.{first_of, format_of, reported_in, report_of_place};
+ghost use Rattle.catalogue.specs.Formats.{written_of};
 ghost use Rattle.words.specs.Words.{is_equals};
 
 use crate::files::Line;
-use crate::reports::told_at;
+use crate::reports::reported_at;
 use folds::{ReadError, place_of, read, spot_of, written};
 use interpolator::{Error, Source, Template, explain_place};
 use std::alloc::{AllocError, Global};
@@ -52,14 +53,14 @@ pub fn format_of(alloc: Global, line: &Line<'_, '_>) -> Result<Result<Template, 
 }
 
 /// Reports something at a byte of what the lines of a message write, in the line that writes it.
-pub fn told_in(
+pub fn reported_in(
     alloc: Global,
     line: &Line<'_, '_>,
     place: usize,
     what: &str,
 ) -> Result<String, Error>
-    ensures told { IfOk result (λ told.
-        string_bytes told ≡ told_in (as_line line.now) place what.now) }
+    ensures reported { IfOk result (λ reported.
+        string_bytes reported ≡ reported_in (as_line line.now) place what.now) }
     ensures refused { IfErr result (λ error. answer_of error ≡ no_memory) }
 {
     let begin = line.text.len().saturating_sub(first_of(line.text).len());
@@ -70,25 +71,25 @@ pub fn told_in(
         text: spot.text,
         rest: &[],
     };
-    told_at(alloc, &its_line, spot.begin.saturating_add(spot.byte), what)
+    reported_at(alloc, &its_line, spot.begin.saturating_add(spot.byte), what)
 }
 
 /// Reports something at a byte of a line's format: in its line, if that writes the format as it is,
 /// or else in the line that writes the byte.
-pub fn told_of_place(
+pub fn report_of_place(
     alloc: Global,
     line: &Line<'_, '_>,
     format: &str,
     place: usize,
     what: &str,
 ) -> Result<String, Error>
-    ensures told { IfOk result (λ told.
-        string_bytes told ≡ told_of_place (as_line line.now) format.now (Some place) what.now) }
+    ensures reported { IfOk result (λ reported.
+        string_bytes reported ≡ report_of_place (as_line line.now) format.now (Some place) what.now) }
     ensures refused { IfErr result (λ error. answer_of error ≡ no_memory) }
 {
     let written = written_of(alloc, line)?;
     if written.as_str() != format {
-        return told_in(alloc, line, place_of(written.as_str(), place), what);
+        return reported_in(alloc, line, place_of(written.as_str(), place), what);
     }
     let source = Source {
         name: line.file,
@@ -98,6 +99,6 @@ pub fn told_of_place(
         format,
     };
     let picture = explain_place(alloc, &source, place, what)?;
-    let told = format!(in alloc; "{picture}\n")?;
-    Ok(told)
+    let reported = format!(in alloc; "{picture}\n")?;
+    Ok(reported)
 }

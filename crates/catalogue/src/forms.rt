@@ -135,13 +135,13 @@ pub fn key_by<'a>(
 
 /// What follows a key that is absent in a report: the form of it that was looked up, if one was.
 pub fn or_form(alloc: Global, key: &str, choice: Option<Choice<'_>>) -> Result<String, AllocError>
-    ensures { IfOk result (λ told.
-        string_bytes told ≡ or_form key.now (option_map as_choice choice.entry)) }
+    ensures { IfOk result (λ reported.
+        string_bytes reported ≡ or_form key.now (option_map as_choice choice.entry)) }
 {
     let Some(choice) = choice else {
         return Ok(String::new(alloc));
     };
     let whole = key_of_form(alloc, key, choice.form)?;
-    let told = format!(in alloc; " or `{whole}`")?;
-    Ok(told)
+    let reported = format!(in alloc; " or `{whole}`")?;
+    Ok(reported)
 }

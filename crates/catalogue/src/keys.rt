@@ -4,12 +4,13 @@ ghost use Rattle.std.specs.Prelude.{◌≡◌, ◌==◌, ℕ, List, [], IfErr, I
 ghost use Rattle.std.specs.Prelude.{string_bytes};
 ghost use Rattle.std.specs.Option.{option_map};
 ghost use Rattle.interpolator.specs.Faults.{answer_of, no_memory};
-ghost use Rattle.catalogue.specs.{Files.as_line, Keys.Remembers, Keys.number_of, Keys.told_again};
-ghost use Rattle.catalogue.specs.{Keys.told_of_key, Keys.what_is_again, Keys.with_key};
+ghost use Rattle.catalogue.specs.{Files.as_line, Keys.Remembers, Keys.number_of};
+ghost use Rattle.catalogue.specs.{Keys.reported_again};
+ghost use Rattle.catalogue.specs.{Keys.report_of_key, Keys.what_is_again, Keys.with_key};
 
 use crate::declarations::begin_of;
 use crate::files::Line;
-use crate::reports::told_at;
+use crate::reports::reported_at;
 use interpolator::Error;
 use std::alloc::{AllocError, Global};
 use std::collections::HashMap;
@@ -63,39 +64,39 @@ fn what_is_again(alloc: Global, number: usize, key: &str) -> Result<String, Allo
 }
 
 /// Reports that the line `before` has the key in the head of a line, if one has.
-fn told_again(
+fn reported_again(
     alloc: Global,
     line: &Line<'_, '_>,
     head: &str,
     key: &str,
     before: Option<usize>,
 ) -> Result<String, Error>
-    ensures told { IfOk result (λ told.
-        string_bytes told ≡ told_again (as_line line.now) head.now key.now before) }
+    ensures reported { IfOk result (λ reported.
+        string_bytes reported ≡ reported_again (as_line line.now) head.now key.now before) }
     ensures refused { IfErr result (λ error. answer_of error ≡ no_memory) }
 {
     let Some(before) = before else {
         return Ok(String::new(alloc));
     };
     let what = what_is_again(alloc, before, key)?;
-    told_at(alloc, line, begin_of(0, head), what.as_str())
+    reported_at(alloc, line, begin_of(0, head), what.as_str())
 }
 
 /// Reports what is wrong with the key in the head of a line: it is empty, or it is among those of
 /// the lines before.
-pub fn told_of_key(
+pub fn report_of_key(
     alloc: Global,
     line: &Line<'_, '_>,
     head: &str,
     key: &str,
     keys: &HashMap<&str, usize>,
 ) -> Result<String, Error>
-    ensures told { IfOk result (λ told. (seen : List (ℕ × List ℕ)) → Remembers seen keys.now
-        → string_bytes told ≡ told_of_key (as_line line.now) head.now key.now seen) }
+    ensures reported { IfOk result (λ reported. (seen : List (ℕ × List ℕ)) → Remembers seen keys.now
+        → string_bytes reported ≡ report_of_key (as_line line.now) head.now key.now seen) }
     ensures refused { IfErr result (λ error. answer_of error ≡ no_memory) }
 {
     if key.is_empty() {
-        return told_at(alloc, line, begin_of(0, head), "no key");
+        return reported_at(alloc, line, begin_of(0, head), "no key");
     }
-    told_again(alloc, line, head, key, number_of(keys, key))
+    reported_again(alloc, line, head, key, number_of(keys, key))
 }

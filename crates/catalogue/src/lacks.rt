@@ -9,15 +9,16 @@ ghost use Rattle.catalogue.specs.Files.{Line as PlainLine, as_line, page_of};
 ghost use Rattle.catalogue.specs.Forms.{key_of_form};
 ghost use Rattle.catalogue.specs.Lacks.{HasFirsts, all_quoted, each_once, first_of, forms_in};
 ghost use Rattle.catalogue.specs.Lacks.{has_before, is_before, is_form, is_one_of, key_if_message};
-ghost use Rattle.catalogue.specs.Lacks.{key_with_forms, lacking, told_of_file, told_of_files};
-ghost use Rattle.catalogue.specs.Lacks.{told_of_lacking, told_of_line, what_is_lacking, with_text};
+ghost use Rattle.catalogue.specs.Lacks.{key_with_forms, lacking, report_of_file, report_of_files};
+ghost use Rattle.catalogue.specs.Lacks.{report_of_lacking, report_of_line, what_is_lacking};
+ghost use Rattle.catalogue.specs.Lacks.{with_text};
 
 use crate::declarations::{begin_of, key_in};
 use crate::files::{File, Line, lines_of, page_of};
 use crate::forms::{rule_of, text_of_form};
 use crate::keys::{add, no_keys};
 use crate::lines::message_of;
-use crate::reports::told_at;
+use crate::reports::reported_at;
 use interpolator::Error;
 use plurals::{Expression, ParseError, parse};
 use std::alloc::{AllocError, Global};
@@ -193,14 +194,14 @@ fn key_with_forms<'a>(
 
 /// Some texts between backquotes, with commas between.
 fn all_quoted(alloc: Global, first: &str, more: &[&str]) -> Result<String, AllocError>
-    ensures { IfOk result (λ told. string_bytes told ≡ all_quoted first.now (texts_of more.now)) }
+    ensures { IfOk result (λ reported. string_bytes reported ≡ all_quoted first.now (texts_of more.now)) }
 {
-    let mut told = format!(in alloc; "`{first}`")?;
+    let mut reported = format!(in alloc; "`{first}`")?;
     for text in more {
         let part = format!(in alloc; ", `{text}`")?;
-        told.push_str(part.as_str())?;
+        reported.push_str(part.as_str())?;
     }
-    Ok(told)
+    Ok(reported)
 }
 
 /// What is reported of a key that lacks forms.
@@ -219,34 +220,34 @@ fn what_is_lacking(
 }
 
 /// Reports the forms that a key lacks, if it lacks any.
-fn told_of_lacking(
+fn report_of_lacking(
     alloc: Global,
     line: &Line<'_, '_>,
     head: &str,
     key: &str,
     lacks: &[&str],
 ) -> Result<String, Error>
-    ensures told { IfOk result (λ told. string_bytes told
-        ≡ told_of_lacking (as_line line.now) head.now key.now (texts_of lacks.now)) }
+    ensures reported { IfOk result (λ reported. string_bytes reported
+        ≡ report_of_lacking (as_line line.now) head.now key.now (texts_of lacks.now)) }
     ensures refused { IfErr result (λ error. answer_of error ≡ no_memory) }
 {
     let Some((first, more)) = lacks.split_first() else {
         return Ok(String::new(alloc));
     };
     let what = what_is_lacking(alloc, key, first, more)?;
-    told_at(alloc, line, begin_of(0, head), what.as_str())
+    reported_at(alloc, line, begin_of(0, head), what.as_str())
 }
 
 /// Reports the forms that a key lacks, in the first line that has one of them.
-fn told_of_line(
+fn report_of_line(
     alloc: Global,
     line: &Line<'_, '_>,
     forms: &[String],
     keys: &HashMap<&str, usize>,
 ) -> Result<String, Error>
-    ensures told { IfOk result (λ told. (lines : List PlainLine) → HasFirsts lines keys.now
-        → string_bytes told
-        ≡ told_of_line lines (map string_bytes forms.now) (as_line line.now)) }
+    ensures reported { IfOk result (λ reported. (lines : List PlainLine) → HasFirsts lines keys.now
+        → string_bytes reported
+        ≡ report_of_line lines (map string_bytes forms.now) (as_line line.now)) }
     ensures refused { IfErr result (λ error. answer_of error ≡ no_memory) }
 {
     let Some(head) = message_of(line.text) else {
@@ -259,34 +260,34 @@ fn told_of_line(
         return Ok(String::new(alloc));
     }
     let lacks = lacking(alloc, key, forms, keys)?;
-    told_of_lacking(alloc, line, head, key, lacks.as_slice())
+    report_of_lacking(alloc, line, head, key, lacks.as_slice())
 }
 
 /// Reports the forms that the keys of some lines lack.
-fn told_of_lines(alloc: Global, lines: &[Line<'_, '_>], forms: &[String]) -> Result<String, Error>
-    ensures told { IfOk result (λ told. string_bytes told ≡ concat (map
-        (told_of_line (map as_line lines.now) (map string_bytes forms.now))
+fn report_of_lines(alloc: Global, lines: &[Line<'_, '_>], forms: &[String]) -> Result<String, Error>
+    ensures reported { IfOk result (λ reported. string_bytes reported ≡ concat (map
+        (report_of_line (map as_line lines.now) (map string_bytes forms.now))
         (map as_line lines.now))) }
     ensures refused { IfErr result (λ error. answer_of error ≡ no_memory) }
 {
     let keys = keys_of(alloc, lines)?;
-    let mut told = String::new(alloc);
+    let mut reported = String::new(alloc);
     for line in lines {
-        let more = told_of_line(alloc, line, forms, &keys)?;
-        told.push_str(more.as_str())?;
+        let more = report_of_line(alloc, line, forms, &keys)?;
+        reported.push_str(more.as_str())?;
     }
-    Ok(told)
+    Ok(reported)
 }
 
 /// Reports the forms that the keys of a file lack.
-fn told_of_file(alloc: Global, file: &File) -> Result<String, Error>
-    ensures told { IfOk result (λ told. string_bytes told ≡ told_of_file (page_of file.now)) }
+fn report_of_file(alloc: Global, file: &File) -> Result<String, Error>
+    ensures reported { IfOk result (λ reported. string_bytes reported ≡ report_of_file (page_of file.now)) }
     ensures refused { IfErr result (λ error. answer_of error ≡ no_memory) }
 {
     let page = page_of(alloc, file)?;
     let lines = lines_of(alloc, &page)?;
     let forms = forms_in(alloc, page.texts.as_slice())?;
-    told_of_lines(alloc, lines.as_slice(), forms.as_slice())
+    report_of_lines(alloc, lines.as_slice(), forms.as_slice())
 }
 
 /// Reports the keys of some files that lack a form which the rule of their file can choose, though
@@ -296,14 +297,14 @@ fn told_of_file(alloc: Global, file: &File) -> Result<String, Error>
 ///
 /// `NoMemory`.
 pub fn lacking_forms(alloc: Global, files: &[File]) -> Result<String, Error>
-    ensures told { IfOk result (λ told.
-        string_bytes told ≡ told_of_files (map page_of files.now)) }
+    ensures reported { IfOk result (λ reported.
+        string_bytes reported ≡ report_of_files (map page_of files.now)) }
     ensures refused { IfErr result (λ error. answer_of error ≡ no_memory) }
 {
-    let mut told = String::new(alloc);
+    let mut reported = String::new(alloc);
     for file in files {
-        let more = told_of_file(alloc, file)?;
-        told.push_str(more.as_str())?;
+        let more = report_of_file(alloc, file)?;
+        reported.push_str(more.as_str())?;
     }
-    Ok(told)
+    Ok(reported)
 }

@@ -2,13 +2,13 @@
 
 ghost use Rattle.std.specs.Prelude.{◌≡◌, IfOk, IfErr, None, map, string_bytes};
 ghost use Rattle.std.specs.{List.All, Option.option_map, Str.chars};
-ghost use Rattle.interpolator.specs.{At.outermost, Contexts.found_by_pairs, Faults.answer_of};
+ghost use Rattle.interpolator.specs.{Places.outermost, Contexts.found_by_pairs, Faults.answer_of};
 ghost use Rattle.interpolator.specs.{Faults.no_memory, Meaning.Environments.environment};
 ghost use Rattle.interpolator.specs.{Meaning.Meanings.means, Meaning.Outcomes.Formats};
 ghost use Rattle.interpolator_escapes.specs.Formats.{escaped_shows};
 ghost use Rattle.catalogue.specs.Files.{as_line, as_page, page_of};
-ghost use Rattle.catalogue.specs.Messages.{Answers, IsMadeOrTold, Replies, escaped_by, given};
-ghost use Rattle.catalogue.specs.Told.{told_absent, told_of_absent};
+ghost use Rattle.catalogue.specs.Messages.{Answers, IsMadeOrReported, Replies, escaped_by, given};
+ghost use Rattle.catalogue.specs.FileReports.{reported_absent, report_of_absent};
 ghost use Rattle.catalogue.specs.{Declarations.declared_by, Entries.held_by_entry};
 ghost use Rattle.catalogue.specs.{Examples.view_shows, Sound.IsSoundOver, Objects.IsGiven};
 ghost use Rattle.words.specs.Declarations.{as_declaration};
@@ -17,9 +17,9 @@ use crate::checks::{Found, Verdict, checked};
 use crate::entries::{Entry, Object, pairs_of};
 use crate::files::{File, Page, pages_of};
 use crate::forms::{choice_in, or_form};
-use crate::line_faults::told_of_fault;
+use crate::line_faults::report_of_fault;
 use crate::objects::objects_of;
-use crate::picks::{Picked, picks_of, told_of_lacking};
+use crate::picks::{Picked, picks_of, report_of_lacking};
 use interpolator::{Error, Escape, Formattable, Interpolate, Pairs, Template, Value, View};
 use interpolator_escapes::laws::escapes_make_no_fault;
 use interpolator_escapes::{CsvEscaper, HtmlEscaper, JsonEscaper, LineEscaper, ShellEscaper};
@@ -41,40 +41,40 @@ pub enum Answer {
 }
 
 /// Reports that a file has no message under a key, nor under its form.
-fn told_absent(
+fn reported_absent(
     alloc: Global,
     page: &Page<'_>,
     key: &str,
     objects: &[Object<'_>],
 ) -> Result<String, Error>
-    ensures told { IfOk result (λ told.
-        string_bytes told ≡ told_absent objects.now key.now (as_page page.now)) }
+    ensures reported { IfOk result (λ reported.
+        string_bytes reported ≡ reported_absent objects.now key.now (as_page page.now)) }
     ensures refused { IfErr result (λ error. answer_of error ≡ no_memory) }
 {
     let choice = choice_in(alloc, objects, page.texts.as_slice())?;
     let form = or_form(alloc, key, choice)?;
     let name = page.file;
-    let told = format!(in alloc; "{name}: no message `{key}`{form}\n")?;
-    Ok(told)
+    let reported = format!(in alloc; "{name}: no message `{key}`{form}\n")?;
+    Ok(reported)
 }
 
 /// Reports that no file has a message under a key, nor under its form, for each of them.
-fn told_of_absent(
+fn report_of_absent(
     alloc: Global,
     pages: &[Page<'_>],
     key: &str,
     objects: &[Object<'_>],
 ) -> Result<String, Error>
-    ensures told { IfOk result (λ told.
-        string_bytes told ≡ told_of_absent objects.now key.now (map as_page pages.now)) }
+    ensures reported { IfOk result (λ reported.
+        string_bytes reported ≡ report_of_absent objects.now key.now (map as_page pages.now)) }
     ensures refused { IfErr result (λ error. answer_of error ≡ no_memory) }
 {
-    let mut told = String::new(alloc);
+    let mut reported = String::new(alloc);
     for page in pages {
-        let more = told_absent(alloc, page, key, objects)?;
-        told.push_str(more.as_str())?;
+        let more = reported_absent(alloc, page, key, objects)?;
+        reported.push_str(more.as_str())?;
     }
-    Ok(told)
+    Ok(reported)
 }
 
 /// The text of a format with these pairs, each value escaped.
@@ -120,7 +120,7 @@ fn said(
     found: &Found<'_, '_>,
     entries: &[Entry<'_>],
 ) -> Result<Answer, Error>
-    ensures said { IfOk result (λ answer. IsMadeOrTold escape (as_line found.now.line)
+    ensures said { IfOk result (λ answer. IsMadeOrReported escape (as_line found.now.line)
         found.now.template (map held_by_entry entries.now) answer) }
     ensures refused { IfErr result (λ error. answer_of error ≡ no_memory) }
 {
@@ -131,8 +131,8 @@ fn said(
             None => Err(error),
             Some(_) => {
                 let format = found.template.text();
-                let told = told_of_fault(alloc, &found.line, format, &error)?;
-                Ok(Answer::Faults(told))
+                let reported = report_of_fault(alloc, &found.line, format, &error)?;
+                Ok(Answer::Faults(reported))
             }
         },
     }
@@ -159,8 +159,8 @@ fn message(
     match picks_of(alloc, objects, &found.heading)? {
         Picked::Values(entries) => said(alloc, escape, found, entries.as_slice()),
         Picked::Lacks(lacking) => {
-            let told = told_of_lacking(alloc, &found.line, key, &lacking)?;
-            Ok(Answer::Faults(told))
+            let reported = report_of_lacking(alloc, &found.line, key, &lacking)?;
+            Ok(Answer::Faults(reported))
         }
     }
 }
@@ -183,8 +183,8 @@ fn reply(
     let Some(lacking) = found.lacks else {
         return message(alloc, escape, key, found, objects);
     };
-    let told = told_of_lacking(alloc, &found.line, key, &lacking)?;
-    Ok(Answer::Faults(told))
+    let reported = report_of_lacking(alloc, &found.line, key, &lacking)?;
+    Ok(Answer::Faults(reported))
 }
 
 /// The objects that words give; none, if a word gives nothing.
@@ -211,9 +211,9 @@ fn look_up_in(
 {
     let values = objects_of(alloc, words)?;
     let objects = given(&values);
-    let Verdict { told, found } = checked(alloc, pages, key, objects)?;
-    if !told.is_empty() {
-        return Ok(Answer::Faults(told));
+    let Verdict { reported, found } = checked(alloc, pages, key, objects)?;
+    if !reported.is_empty() {
+        return Ok(Answer::Faults(reported));
     }
     match &values {
         Err(word) => {
@@ -223,7 +223,7 @@ fn look_up_in(
         Ok(_) => match &found {
             Some(found) => reply(alloc, escape, key, found, objects),
             None => {
-                let absent = told_of_absent(alloc, pages, key, objects)?;
+                let absent = report_of_absent(alloc, pages, key, objects)?;
                 Ok(Answer::Absent(absent))
             }
         },

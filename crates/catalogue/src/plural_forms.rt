@@ -7,7 +7,7 @@ ghost use Rattle.plurals.specs.Trees.{tree_of};
 ghost use Rattle.catalogue.specs.PluralForms.{AreBelow, IsFirstBeyond, header_in, header_of};
 
 use crate::files::File;
-use crate::po_reports::told_in;
+use crate::po_reports::reported_in;
 use crate::rules::problem_text;
 use crate::translations::is_head;
 use interpolator::Error;
@@ -51,8 +51,8 @@ pub fn header_of<'t>(entries: &[Entry<'t>]) -> &'t [Placed]
 /// The number and the rule of a header `Plural-Forms: nplurals=2; plural=n != 1;`. A file that
 /// tells none has two forms, as English.
 pub fn plural_forms<'h>(header: &'h [Placed], text: &'h str) -> PluralForms<'h> {
-    let told = count_in(text).zip(text.split_once("plural="));
-    match told {
+    let reported = count_in(text).zip(text.split_once("plural="));
+    match reported {
         Some((count, (before, rest))) => PluralForms {
             count,
             rule: rule_in(rest),
@@ -103,7 +103,7 @@ fn beyond(read: &plurals::Expression<'_>, count: usize) -> Option<(u128, u128)>
 const NO_TEXTS: &str = "a rule of a PO file compares no texts";
 
 /// Reports that a rule that was read compares a text, or chooses a form that is not there.
-fn told_of_choices(
+fn report_of_choices(
     alloc: Global,
     file: &File,
     forms: &PluralForms<'_>,
@@ -111,26 +111,30 @@ fn told_of_choices(
 ) -> Result<String, Error> {
     // A number alone is given for each name, so only a text can be missing.
     if read.missing_for(&0u128).is_some() {
-        return told_in(alloc, file, forms.header, forms.place, NO_TEXTS);
+        return reported_in(alloc, file, forms.header, forms.place, NO_TEXTS);
     }
     match beyond(read, forms.count) {
         None => Ok(String::new(alloc)),
         Some((n, value)) => {
             let count = forms.count;
             let what = format!(in alloc; "the rule chooses form {value} of {count} for {n}")?;
-            told_in(alloc, file, forms.header, forms.place, what.as_str())
+            reported_in(alloc, file, forms.header, forms.place, what.as_str())
         }
     }
 }
 
 /// Reports what is wrong with the rule of a file: it is none, compares a text, or chooses a form
 /// that is not there for a number up to 1000.
-pub fn told_of_rule(alloc: Global, file: &File, forms: &PluralForms<'_>) -> Result<String, Error> {
+pub fn report_of_rule(
+    alloc: Global,
+    file: &File,
+    forms: &PluralForms<'_>,
+) -> Result<String, Error> {
     match parse(alloc, forms.rule) {
-        Ok(read) => told_of_choices(alloc, file, forms, &read),
+        Ok(read) => report_of_choices(alloc, file, forms, &read),
         Err(ParseError::Broken(fault)) => {
             let place = forms.place.saturating_add(fault.place);
-            told_in(
+            reported_in(
                 alloc,
                 file,
                 forms.header,
@@ -144,7 +148,7 @@ pub fn told_of_rule(alloc: Global, file: &File, forms: &PluralForms<'_>) -> Resu
 
 /// Reports that the header of a file tells another character set than that by which it is read, if
 /// that matters.
-pub fn told_of_charset(
+pub fn report_of_charset(
     alloc: Global,
     file: &File,
     header: &[Placed],
@@ -157,5 +161,5 @@ pub fn told_of_charset(
         return Ok(String::new(alloc));
     }
     let place = before.len().saturating_add(8);
-    told_in(alloc, file, header, place, "a PO file is read as UTF-8")
+    reported_in(alloc, file, header, place, "a PO file is read as UTF-8")
 }

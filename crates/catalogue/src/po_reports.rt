@@ -2,10 +2,10 @@
 
 ghost use Rattle.std.specs.Prelude.{◌≡◌, IfErr, IfOk, string_bytes};
 ghost use Rattle.interpolator.specs.{Faults.answer_of, Faults.no_memory, Positions.line_at};
-ghost use Rattle.catalogue.specs.{Reported.IsToldAt, Translations.TellsFault};
+ghost use Rattle.catalogue.specs.{Reported.IsReportedAt, Translations.TellsFault};
 
 use crate::files::{File, Line};
-use crate::reports::told_at;
+use crate::reports::reported_at;
 use interpolator::{Error, Position};
 use po::{Placed, place_of};
 use std::alloc::Global;
@@ -32,42 +32,47 @@ fn line_at(file: &File, place: usize) -> (Line<'_, '_>, usize)
 }
 
 /// Reports something at a byte of a file, with its line and a mark.
-pub fn told_at_byte(alloc: Global, file: &File, place: usize, what: &str) -> Result<String, Error>
-    ensures told { IfOk result (λ told. IsToldAt file.now what.now (string_bytes told)) }
+pub fn reported_at_byte(
+    alloc: Global,
+    file: &File,
+    place: usize,
+    what: &str,
+) -> Result<String, Error>
+    ensures reported { IfOk result (λ reported. IsReportedAt file.now what.now (string_bytes reported)) }
     ensures refused { IfErr result (λ error. answer_of error ≡ no_memory) }
 {
     let (line, place) = line_at(file, place);
-    let told = told_at(alloc, &line, place, what)?;
-    Ok(told)
+    let reported = reported_at(alloc, &line, place, what)?;
+    Ok(reported)
 }
 
 /// Reports something at a byte of the text that strings of a file make.
-pub fn told_in(
+pub fn reported_in(
     alloc: Global,
     file: &File,
     strings: &[Placed],
     byte: usize,
     what: &str,
 ) -> Result<String, Error>
-    ensures told { IfOk result (λ told. IsToldAt file.now what.now (string_bytes told)) }
+    ensures reported { IfOk result (λ reported. IsReportedAt file.now what.now (string_bytes reported)) }
     ensures refused { IfErr result (λ error. answer_of error ≡ no_memory) }
 {
     let place = place_of(file.text.as_str(), strings, byte);
-    told_at_byte(alloc, file, place, what)
+    reported_at_byte(alloc, file, place, what)
 }
 
 /// Reports a fault of the format that strings make.
-pub fn told_of_error(
+pub fn report_of_error(
     alloc: Global,
     file: &File,
     strings: &[Placed],
     error: &Error,
 ) -> Result<String, Error>
-    ensures told { IfOk result (λ told.
-        TellsFault file.now (answer_of error.now) (string_bytes told)) }
+    ensures reported { IfOk result (λ reported.
+        TellsFault file.now (answer_of error.now) (string_bytes reported)) }
     ensures refused { IfErr result (λ error. answer_of error ≡ no_memory) }
 {
     let what = format!(in alloc; "{error}")?;
     let byte = error.place().unwrap_or(0);
-    told_in(alloc, file, strings, byte, what.as_str())
+    reported_in(alloc, file, strings, byte, what.as_str())
 }

@@ -4,7 +4,7 @@ ghost use Rattle.std.specs.Prelude.{◌≡◌, IfErr, IfOk, string_bytes};
 ghost use Rattle.std.specs.List.{after_first};
 ghost use Rattle.interpolator.specs.Faults.{answer_of, no_memory};
 ghost use Rattle.catalogue.specs.Files.{as_line};
-ghost use Rattle.catalogue.specs.Reports.{is_newline, picture_at, told_at};
+ghost use Rattle.catalogue.specs.Reports.{is_newline, picture_at, reported_at};
 
 use crate::files::Line;
 use interpolator::{Error, Position, Source, explain_in};
@@ -43,20 +43,20 @@ fn picture_at(alloc: Global, line: &Line<'_, '_>, place: usize) -> Result<String
 
 /// Reports something at a byte of a line of the file, with the line and a mark under the byte's
 /// character.
-pub fn told_at(
+pub fn reported_at(
     alloc: Global,
     line: &Line<'_, '_>,
     place: usize,
     what: &str,
 ) -> Result<String, Error>
-    ensures told { IfOk result (λ told.
-        string_bytes told ≡ told_at (as_line line.now) place what.now) }
+    ensures reported { IfOk result (λ reported.
+        string_bytes reported ≡ reported_at (as_line line.now) place what.now) }
     ensures refused { IfErr result (λ error. answer_of error ≡ no_memory) }
 {
     let picture = picture_at(alloc, line, place)?;
     let file = line.file;
     let number = line.number;
     let column = Position::of(line.text, place).column;
-    let told = format!(in alloc; "{file}:{number}:{column}: {what}\n{picture}\n")?;
-    Ok(told)
+    let reported = format!(in alloc; "{file}:{number}:{column}: {what}\n{picture}\n")?;
+    Ok(reported)
 }

@@ -9,10 +9,10 @@ use crate::entries::{Object, entries_of, pairs_of};
 use crate::files::File;
 use crate::messages::{Answer, made};
 use crate::objects::objects_of;
-use crate::plural_forms::{PluralForms, header_of, plural_forms, told_of_charset};
-use crate::po_reports::{told_at_byte, told_of_error};
+use crate::plural_forms::{PluralForms, header_of, plural_forms, report_of_charset};
+use crate::po_reports::{report_of_error, reported_at_byte};
 use crate::rules::Named;
-use crate::translations::{is_translated, template_of, told_of_entries};
+use crate::translations::{is_translated, report_of_entries, template_of};
 use interpolator::{Error, Escape};
 use plurals::{ParseError, Values, parse};
 use po::{Entry, Placed, ReadError, text_of, tokens_of};
@@ -33,8 +33,8 @@ fn broken(alloc: Global, file: &File, error: ReadError) -> Result<Answer, Error>
     match error {
         ReadError::NoMemory => Err(Error::NoMemory),
         ReadError::Broken(fault) => {
-            let told = told_at_byte(alloc, file, fault.place, fault.problem.as_str())?;
-            Ok(Answer::Faults(told))
+            let reported = reported_at_byte(alloc, file, fault.place, fault.problem.as_str())?;
+            Ok(Answer::Faults(reported))
         }
     }
 }
@@ -128,7 +128,7 @@ fn said(
     match made(alloc, escape, &template, pairs.as_slice()) {
         Ok(message) => Ok(Answer::Message(message)),
         Err(Error::NoMemory) => Err(Error::NoMemory),
-        Err(error) => Ok(Answer::Faults(told_of_error(alloc, file, strings, &error)?)),
+        Err(error) => Ok(Answer::Faults(report_of_error(alloc, file, strings, &error)?)),
     }
 }
 
@@ -149,13 +149,13 @@ fn message(
     let name = file.name.as_str();
     let key = sought.key;
     let Some(entry) = found_in(alloc, entries, sought)? else {
-        let told = format!(in alloc; "{name}: no message `{key}`\n")?;
-        return Ok(Answer::Faults(told));
+        let reported = format!(in alloc; "{name}: no message `{key}`\n")?;
+        return Ok(Answer::Faults(reported));
     };
     match Named(objects).number("n") {
         None if !entry.plural.is_empty() => {
-            let told = format!(in alloc; "{name}: `{key}` wants `n:=NUMBER`\n")?;
-            Ok(Answer::Faults(told))
+            let reported = format!(in alloc; "{name}: `{key}` wants `n:=NUMBER`\n")?;
+            Ok(Answer::Faults(reported))
         }
         number => {
             let strings = form_of(alloc, forms.rule, entry, number.unwrap_or(1))?;
@@ -189,13 +189,13 @@ pub fn in_po(
     let header = header_of(entries.as_slice());
     let head = text_of(alloc, header)?;
     let forms = plural_forms(header, head.as_str());
-    let mut told = told_of_charset(alloc, file, header, head.as_str())?;
-    let more = told_of_entries(alloc, file, escape, &forms, entries.as_slice())?;
-    told.push_str(more.as_str())?;
+    let mut reported = report_of_charset(alloc, file, header, head.as_str())?;
+    let more = report_of_entries(alloc, file, escape, &forms, entries.as_slice())?;
+    reported.push_str(more.as_str())?;
     match sought {
-        Some(sought) if told.is_empty() => {
+        Some(sought) if reported.is_empty() => {
             message(alloc, file, escape, &forms, entries.as_slice(), &sought)
         }
-        _ => Ok(Answer::Faults(told)),
+        _ => Ok(Answer::Faults(reported)),
     }
 }

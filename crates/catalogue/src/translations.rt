@@ -11,13 +11,13 @@ ghost use Rattle.catalogue.specs.Translations.{TellsFormat, TellsFormats, TellsP
 ghost use Rattle.catalogue.specs.Translations.{TellsText, TellsTexts, is_empty, arguments_in};
 ghost use Rattle.catalogue.specs.Translations.{is_head, is_translated};
 
-use crate::arguments::{told_of_lacking, told_of_others};
+use crate::arguments::{report_of_lacking, report_of_others};
 use crate::declarations::Heading;
 use crate::examples::faults_of;
 use crate::files::File;
 use crate::keys::{add, no_keys};
-use crate::plural_forms::{PluralForms, told_of_rule};
-use crate::po_reports::{told_in, told_of_error};
+use crate::plural_forms::{PluralForms, report_of_rule};
+use crate::po_reports::{report_of_error, reported_in};
 use interpolator::{Argument, Error, Escape, PlaceError, Position, Template};
 use interpolator_escapes::check_format;
 use po::{Entry, Placed, Token, place_of, text_of};
@@ -25,35 +25,35 @@ use std::alloc::Global;
 use std::collections::HashMap;
 
 /// Reports some faults of the format that strings make.
-fn told_of_faults(
+fn report_of_faults(
     alloc: Global,
     file: &File,
     strings: &[Placed],
     errors: &[Error],
 ) -> Result<String, Error>
-    ensures told { IfOk result (λ told.
-        Each (TellsFault file.now) (map answer_of errors.now) (string_bytes told)) }
+    ensures reported { IfOk result (λ reported.
+        Each (TellsFault file.now) (map answer_of errors.now) (string_bytes reported)) }
     ensures refused { IfErr result (λ error. answer_of error ≡ no_memory) }
 {
-    let mut told = String::new(alloc);
+    let mut reported = String::new(alloc);
     for error in errors {
-        let more = told_of_error(alloc, file, strings, error)?;
-        told.push_str(more.as_str())?;
+        let more = report_of_error(alloc, file, strings, error)?;
+        reported.push_str(more.as_str())?;
     }
-    Ok(told)
+    Ok(reported)
 }
 
 /// Reports the first value of the format that strings make in no place of an escape, if one is
 /// asked for.
-fn told_of_places(
+fn report_of_places(
     alloc: Global,
     file: &File,
     escape: Option<Escape>,
     strings: &[Placed],
     format: &str,
 ) -> Result<String, Error>
-    ensures told { IfOk result (λ told.
-        TellsPlaces file.now escape format.now (string_bytes told)) }
+    ensures reported { IfOk result (λ reported.
+        TellsPlaces file.now escape format.now (string_bytes reported)) }
     ensures refused { IfErr result (λ error. answer_of error ≡ no_memory) }
 {
     let Some(escape) = escape else {
@@ -63,8 +63,8 @@ fn told_of_places(
         Ok(_) => Ok(String::new(alloc)),
         Err(PlaceError::Misplaced(misplaced)) => {
             let what = format!(in alloc; "{}", misplaced.why)?;
-            let told = told_in(alloc, file, strings, misplaced.place, what.as_str())?;
-            Ok(told)
+            let reported = reported_in(alloc, file, strings, misplaced.place, what.as_str())?;
+            Ok(reported)
         }
         Err(PlaceError::NoMemory) => Err(Error::NoMemory),
     }
@@ -72,22 +72,22 @@ fn told_of_places(
 
 /// Reports what is wrong with the format that strings make by itself, and the first value that is
 /// in no place of an escape.
-fn told_of_format(
+fn report_of_format(
     alloc: Global,
     file: &File,
     escape: Option<Escape>,
     strings: &[Placed],
     template: &Template,
 ) -> Result<String, Error>
-    ensures told { IfOk result (λ told.
-        TellsFormat file.now escape template.now (string_bytes told)) }
+    ensures reported { IfOk result (λ reported.
+        TellsFormat file.now escape template.now (string_bytes reported)) }
     ensures refused { IfErr result (λ error. answer_of error ≡ no_memory) }
 {
     let errors = faults_of(alloc, template, &Heading::Plain)?;
-    let mut told = told_of_faults(alloc, file, strings, errors.as_slice())?;
-    let more = told_of_places(alloc, file, escape, strings, template.text())?;
-    told.push_str(more.as_str())?;
-    Ok(told)
+    let mut reported = report_of_faults(alloc, file, strings, errors.as_slice())?;
+    let more = report_of_places(alloc, file, escape, strings, template.text())?;
+    reported.push_str(more.as_str())?;
+    Ok(reported)
 }
 
 /// The format that strings make.
@@ -135,7 +135,7 @@ pub fn is_head(entry: &Entry<'_>) -> bool
 
 /// Reports what is wrong with the format of a translation, and the arguments in it that its message
 /// does not have.
-fn told_of_text(
+fn report_of_text(
     alloc: Global,
     file: &File,
     escape: Option<Escape>,
@@ -143,20 +143,20 @@ fn told_of_text(
     id: &[Argument<'_>],
     plural: &[Argument<'_>],
 ) -> Result<String, Error>
-    ensures told { IfOk result (λ told. TellsText file.now escape (map argument_of id.now)
-        (map argument_of plural.now) strings.now (string_bytes told)) }
+    ensures reported { IfOk result (λ reported. TellsText file.now escape (map argument_of id.now)
+        (map argument_of plural.now) strings.now (string_bytes reported)) }
     ensures refused { IfErr result (λ error. answer_of error ≡ no_memory) }
 {
     let template = template_of(alloc, strings)?;
     let found = template.arguments(alloc)?;
-    let mut told = told_of_format(alloc, file, escape, strings, &template)?;
-    let more = told_of_others(alloc, file, strings, found.as_slice(), id, plural)?;
-    told.push_str(more.as_str())?;
-    Ok(told)
+    let mut reported = report_of_format(alloc, file, escape, strings, &template)?;
+    let more = report_of_others(alloc, file, strings, found.as_slice(), id, plural)?;
+    reported.push_str(more.as_str())?;
+    Ok(reported)
 }
 
 /// Reports what is wrong with each of some translations.
-fn told_of_each(
+fn report_of_each(
     alloc: Global,
     file: &File,
     escape: Option<Escape>,
@@ -164,42 +164,42 @@ fn told_of_each(
     id: &[Argument<'_>],
     plural: &[Argument<'_>],
 ) -> Result<String, Error>
-    ensures told { IfOk result (λ told. Each
+    ensures reported { IfOk result (λ reported. Each
         (TellsText file.now escape (map argument_of id.now) (map argument_of plural.now))
-        (lists_of texts.now) (string_bytes told)) }
+        (lists_of texts.now) (string_bytes reported)) }
     ensures refused { IfErr result (λ error. answer_of error ≡ no_memory) }
 {
-    let mut told = String::new(alloc);
+    let mut reported = String::new(alloc);
     for text in texts {
-        let more = told_of_text(alloc, file, escape, text, id, plural)?;
-        told.push_str(more.as_str())?;
+        let more = report_of_text(alloc, file, escape, text, id, plural)?;
+        reported.push_str(more.as_str())?;
     }
-    Ok(told)
+    Ok(reported)
 }
 
 /// Reports each name of a message, if it has no plural, that its one translation lacks.
-fn told_of_single(
+fn report_of_single(
     alloc: Global,
     file: &File,
     entry: &Entry<'_>,
     id: &[Argument<'_>],
 ) -> Result<String, Error>
-    ensures told { IfOk result (λ told. map argument_of id.now ≡ arguments_in entry.now.id.now
+    ensures reported { IfOk result (λ reported. map argument_of id.now ≡ arguments_in entry.now.id.now
         → TellsSingle file.now (as_entry entry.now) (lists_of entry.now.texts.items)
-        (string_bytes told)) }
+        (string_bytes reported)) }
     ensures refused { IfErr result (λ error. answer_of error ≡ no_memory) }
 {
     match entry.texts.as_slice() {
         [text] if entry.plural.is_empty() => {
-            let told = told_of_lacking(alloc, file, text, id)?;
-            Ok(told)
+            let reported = report_of_lacking(alloc, file, text, id)?;
+            Ok(reported)
         }
         _ => Ok(String::new(alloc)),
     }
 }
 
 /// Reports what is wrong with the translations of a message whose formats these are.
-fn told_of_texts(
+fn report_of_texts(
     alloc: Global,
     file: &File,
     escape: Option<Escape>,
@@ -207,22 +207,29 @@ fn told_of_texts(
     id: &Template,
     plural: &Template,
 ) -> Result<String, Error>
-    ensures told { IfOk result (λ told. id.now ≡ text_of entry.now.id.now
+    ensures reported { IfOk result (λ reported. id.now ≡ text_of entry.now.id.now
         → plural.now ≡ text_of entry.now.plural.now
-        → TellsTexts file.now escape (as_entry entry.now) (string_bytes told)) }
+        → TellsTexts file.now escape (as_entry entry.now) (string_bytes reported)) }
     ensures refused { IfErr result (λ error. answer_of error ≡ no_memory) }
 {
     let one = id.arguments(alloc)?;
     let other = plural.arguments(alloc)?;
     let texts = entry.texts.as_slice();
-    let mut told = told_of_each(alloc, file, escape, texts, one.as_slice(), other.as_slice())?;
-    let more = told_of_single(alloc, file, entry, one.as_slice())?;
-    told.push_str(more.as_str())?;
-    Ok(told)
+    let mut reported = report_of_each(
+        alloc,
+        file,
+        escape,
+        texts,
+        one.as_slice(),
+        other.as_slice(),
+    )?;
+    let more = report_of_single(alloc, file, entry, one.as_slice())?;
+    reported.push_str(more.as_str())?;
+    Ok(reported)
 }
 
 /// Reports the same, if the translations count.
-fn told_if_translated(
+fn reported_if_translated(
     alloc: Global,
     file: &File,
     escape: Option<Escape>,
@@ -230,37 +237,37 @@ fn told_if_translated(
     id: &Template,
     plural: &Template,
 ) -> Result<String, Error>
-    ensures told { IfOk result (λ told. id.now ≡ text_of entry.now.id.now
+    ensures reported { IfOk result (λ reported. id.now ≡ text_of entry.now.id.now
         → plural.now ≡ text_of entry.now.plural.now → When (is_translated (as_entry entry.now))
-        (TellsTexts file.now escape (as_entry entry.now)) (string_bytes told)) }
+        (TellsTexts file.now escape (as_entry entry.now)) (string_bytes reported)) }
     ensures refused { IfErr result (λ error. answer_of error ≡ no_memory) }
 {
     if is_translated(entry) {
-        let told = told_of_texts(alloc, file, escape, entry, id, plural)?;
-        return Ok(told);
+        let reported = report_of_texts(alloc, file, escape, entry, id, plural)?;
+        return Ok(reported);
     }
     Ok(String::new(alloc))
 }
 
 /// Reports what is wrong with the formats of a message and its translation.
-fn told_of_formats(
+fn report_of_formats(
     alloc: Global,
     file: &File,
     escape: Option<Escape>,
     entry: &Entry<'_>,
 ) -> Result<String, Error>
-    ensures told { IfOk result (λ told.
-        TellsFormats file.now escape (as_entry entry.now) (string_bytes told)) }
+    ensures reported { IfOk result (λ reported.
+        TellsFormats file.now escape (as_entry entry.now) (string_bytes reported)) }
     ensures refused { IfErr result (λ error. answer_of error ≡ no_memory) }
 {
     let id = template_of(alloc, entry.id)?;
     let plural = template_of(alloc, entry.plural)?;
-    let mut told = told_of_format(alloc, file, escape, entry.id, &id)?;
-    let more = told_of_format(alloc, file, escape, entry.plural, &plural)?;
-    told.push_str(more.as_str())?;
-    let last = told_if_translated(alloc, file, escape, entry, &id, &plural)?;
-    told.push_str(last.as_str())?;
-    Ok(told)
+    let mut reported = report_of_format(alloc, file, escape, entry.id, &id)?;
+    let more = report_of_format(alloc, file, escape, entry.plural, &plural)?;
+    reported.push_str(more.as_str())?;
+    let last = reported_if_translated(alloc, file, escape, entry, &id, &plural)?;
+    reported.push_str(last.as_str())?;
+    Ok(reported)
 }
 
 /// Whether a translation that counts, of a message with a plural, has another number of forms.
@@ -271,34 +278,34 @@ fn has_other_count(wanted: usize, entry: &Entry<'_>) -> bool
 }
 
 /// Reports that a translation has fewer or more forms than the file tells.
-fn told_of_count(
+fn report_of_count(
     alloc: Global,
     file: &File,
     wanted: usize,
     entry: &Entry<'_>,
 ) -> Result<String, Error>
-    ensures told { IfOk result (λ told.
-        TellsCount file.now wanted (as_entry entry.now) (string_bytes told)) }
+    ensures reported { IfOk result (λ reported.
+        TellsCount file.now wanted (as_entry entry.now) (string_bytes reported)) }
     ensures refused { IfErr result (λ error. answer_of error ≡ no_memory) }
 {
     if has_other_count(wanted, entry) {
         let count = entry.texts.len();
         let what = format!(in alloc; "{count} of {wanted} forms that Plural-Forms tells")?;
-        let told = told_in(alloc, file, entry.id, 0, what.as_str())?;
-        return Ok(told);
+        let reported = reported_in(alloc, file, entry.id, 0, what.as_str())?;
+        return Ok(reported);
     }
     Ok(String::new(alloc))
 }
 
 /// Reports that a message stands twice, if it stands before.
-fn told_of_twice(
+fn report_of_twice(
     alloc: Global,
     file: &File,
     entry: &Entry<'_>,
     before: Option<&Entry<'_>>,
 ) -> Result<String, Error>
-    ensures told { IfOk result (λ told.
-        TellsTwice file.now (is_some before.entry) (string_bytes told)) }
+    ensures reported { IfOk result (λ reported.
+        TellsTwice file.now (is_some before.entry) (string_bytes reported)) }
     ensures refused { IfErr result (λ error. answer_of error ≡ no_memory) }
 {
     let Some(before) = before else {
@@ -307,8 +314,8 @@ fn told_of_twice(
     let text = file.text.as_str();
     let line = Position::of(text, place_of(text, before.id, 0)).line;
     let what = format!(in alloc; "line {line} has this message too")?;
-    let told = told_in(alloc, file, entry.id, 0, what.as_str())?;
-    Ok(told)
+    let reported = reported_in(alloc, file, entry.id, 0, what.as_str())?;
+    Ok(reported)
 }
 
 /// What tells a message from others: its text, behind its context, if it has one.
@@ -335,7 +342,7 @@ fn firsts_of(alloc: Global, keys: &[String]) -> Result<HashMap<&str, usize>, Err
 
 /// Reports what is wrong with the messages of a file: with its Plural-Forms, and with each message
 /// that is not fuzzy.
-pub fn told_of_entries(
+pub fn report_of_entries(
     alloc: Global,
     file: &File,
     escape: Option<Escape>,
@@ -347,7 +354,7 @@ pub fn told_of_entries(
         keys.push(key_of(alloc, entry)?)?;
     }
     let firsts = firsts_of(alloc, keys.as_slice())?;
-    let mut told = told_of_rule(alloc, file, forms)?;
+    let mut reported = report_of_rule(alloc, file, forms)?;
     let mut index = 0usize;
     for (entry, key) in entries.iter().zip(keys.as_slice()) {
         let before = match firsts.get(key.as_str()).copied() {
@@ -355,14 +362,14 @@ pub fn told_of_entries(
             _ => None,
         };
         index = index.saturating_add(1);
-        let more = told_of_twice(alloc, file, entry, before)?;
-        told.push_str(more.as_str())?;
-        let more = told_of_count(alloc, file, forms.count, entry)?;
-        told.push_str(more.as_str())?;
+        let more = report_of_twice(alloc, file, entry, before)?;
+        reported.push_str(more.as_str())?;
+        let more = report_of_count(alloc, file, forms.count, entry)?;
+        reported.push_str(more.as_str())?;
         if !entry.is_fuzzy && !is_head(entry) {
-            let more = told_of_formats(alloc, file, escape, entry)?;
-            told.push_str(more.as_str())?;
+            let more = report_of_formats(alloc, file, escape, entry)?;
+            reported.push_str(more.as_str())?;
         }
     }
-    Ok(told)
+    Ok(reported)
 }

@@ -9,7 +9,8 @@ ghost use Rattle.words.specs.{Declarations.as_declaration, Items.texts_of};
 ghost use Rattle.catalogue.specs.Declarations.{declared_by, declared_in, is_among};
 ghost use Rattle.catalogue.specs.Files.{as_line, lines_of, page_of};
 ghost use Rattle.catalogue.specs.Unused.{asks, declares, first_name, format_asks, is_in, is_used};
-ghost use Rattle.catalogue.specs.Unused.{name_of, names_of, rule_asks, told_of_unused, told_unused};
+ghost use Rattle.catalogue.specs.Unused.{name_of, names_of, rule_asks, report_of_unused};
+ghost use Rattle.catalogue.specs.Unused.{reported_unused};
 ghost use Rattle.catalogue.specs.Unused.{uses, with_name};
 ghost use Rattle.catalogue.specs.{Formats.format_of, Lacks.each_once, Lacks.is_one_of};
 
@@ -271,24 +272,24 @@ fn first_name(files: &[File]) -> &str
 }
 
 /// Reports that no message of a file uses a name.
-fn told_unused(alloc: Global, file: &str, name: &str) -> Result<String, AllocError>
-    ensures { IfOk result (λ told. string_bytes told ≡ told_unused file.now name.now) }
+fn reported_unused(alloc: Global, file: &str, name: &str) -> Result<String, AllocError>
+    ensures { IfOk result (λ reported. string_bytes reported ≡ reported_unused file.now name.now) }
 {
-    let told = format!(in alloc; "{file}: no message uses `{name}`\n")?;
-    Ok(told)
+    let reported = format!(in alloc; "{file}: no message uses `{name}`\n")?;
+    Ok(reported)
 }
 
 /// Reports that no message of a file uses some names, for each a line.
-fn told_of_names(alloc: Global, file: &str, names: &[&str]) -> Result<String, AllocError>
-    ensures { IfOk result (λ told.
-        string_bytes told ≡ concat (map (told_unused file.now) (texts_of names.now))) }
+fn report_of_names(alloc: Global, file: &str, names: &[&str]) -> Result<String, AllocError>
+    ensures { IfOk result (λ reported.
+        string_bytes reported ≡ concat (map (reported_unused file.now) (texts_of names.now))) }
 {
-    let mut told = String::new(alloc);
+    let mut reported = String::new(alloc);
     for name in names {
-        let more = told_unused(alloc, file, name)?;
-        told.push_str(more.as_str())?;
+        let more = reported_unused(alloc, file, name)?;
+        reported.push_str(more.as_str())?;
     }
-    Ok(told)
+    Ok(reported)
 }
 
 /// Reports the names of words that no message of some files uses and no rule asks for, for each a
@@ -298,14 +299,14 @@ fn told_of_names(alloc: Global, file: &str, names: &[&str]) -> Result<String, Al
 ///
 /// `NoMemory`.
 pub fn unused(alloc: Global, files: &[File], words: &[String]) -> Result<String, Error>
-    ensures told { IfOk result (λ told. string_bytes told
-        ≡ told_of_unused (map page_of files.now) (map string_bytes words.now)) }
+    ensures reported { IfOk result (λ reported. string_bytes reported
+        ≡ report_of_unused (map page_of files.now) (map string_bytes words.now)) }
     ensures refused { IfErr result (λ error. answer_of error ≡ no_memory) }
 {
     let mut left = names_of(alloc, words)?;
     for file in files {
         leave_file(alloc, &mut left, file)?;
     }
-    let told = told_of_names(alloc, first_name(files), left.as_slice())?;
-    Ok(told)
+    let reported = report_of_names(alloc, first_name(files), left.as_slice())?;
+    Ok(reported)
 }

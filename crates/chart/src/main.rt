@@ -30,7 +30,7 @@ use rows::{Rows, place_of, rows_of_records};
 use std::alloc::Global;
 use std::process::ExitCode;
 use words::flags::{Flags, files_after};
-use words::formats::{source_of, told_at};
+use words::formats::{reported_at, source_of};
 use words::program::{
     Answer, REFUSED, about, bytes_in, ended, print_answer, print_text, status_of, usage,
     without_mark, words_in,
@@ -129,9 +129,9 @@ fn picture_of(
         Ok(picture) => Ok(Answer::Text(picture)),
         Err(Error::NoMemory) => Err(Error::NoMemory),
         Err(error) => {
-            let mut told = explain(alloc, asked.format, format, &error)?;
-            told.push('\n')?;
-            Ok(Answer::Faults(told))
+            let mut reported = explain(alloc, asked.format, format, &error)?;
+            reported.push('\n')?;
+            Ok(Answer::Faults(reported))
         }
     }
 }
@@ -149,16 +149,16 @@ fn misplaced(
     let places = places_of(Escape::Html);
     let why = format!(in alloc; "{}; a value may stand {places}", misplaced.why)?;
     let source = source_of(asked.format, format);
-    let told = told_at(alloc, &source, misplaced.place, why.as_str())?;
-    Ok(Answer::Faults(told))
+    let reported = reported_at(alloc, &source, misplaced.place, why.as_str())?;
+    Ok(Answer::Faults(reported))
 }
 
 /// The chart of a table's text.
 fn chart_of(alloc: Global, asked: Asked<'_>, format: &str, text: &str) -> Result<Answer, Error> {
     let template = Template::parse(alloc, format)?;
     let wanted = numbers_drawn(alloc, &template)?;
-    let told = Separator::told_by(text);
-    let separator = asked.separator.or(told).unwrap_or(Separator::Comma);
+    let detected = Separator::detected_in(text);
+    let separator = asked.separator.or(detected).unwrap_or(Separator::Comma);
     let table = Table::read(alloc, text, separator)?;
     let mut faults = Faults::new(alloc, asked.table);
     for fault in &table.faults {
@@ -191,8 +191,8 @@ fn chart_bytes(
     match text_in(bytes) {
         Ok(text) => chart_of(alloc, asked, format, text),
         Err(bad) => {
-            let told = format!(in alloc; "{}:{bad}; {}\n", asked.table, advice_on(bytes))?;
-            Ok(Answer::Faults(told))
+            let reported = format!(in alloc; "{}:{bad}; {}\n", asked.table, advice_on(bytes))?;
+            Ok(Answer::Faults(reported))
         }
     }
 }

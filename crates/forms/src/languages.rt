@@ -112,7 +112,7 @@ fn languages(alloc: Global, german: &str) -> Result<[Language; 2], Fault> {
 }
 
 /// Three messages.
-fn told(alloc: Global, languages: &[Language]) -> Result<String, Error> {
+fn reported(alloc: Global, languages: &[Language]) -> Result<String, Error> {
     let cells = list!["tea", "milk"];
     let items = items_of(alloc, &cells)?;
     let values = values!(name = "Zoë", n:integer = 2u8, items:i = &items);
@@ -132,7 +132,7 @@ pub fn shown(alloc: Global) -> Result<String, Error> {
         "bye = Tschüss {name",
     ] {
         match languages(alloc, german) {
-            Ok(languages) => text.push_str(told(alloc, &languages)?.as_str())?,
+            Ok(languages) => text.push_str(reported(alloc, &languages)?.as_str())?,
             Err(Fault::Broken(picture)) => text.push_str(picture.as_str())?,
             Err(Fault::Format(error)) => return Err(error),
         }

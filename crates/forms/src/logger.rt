@@ -77,7 +77,7 @@ fn written(alloc: Global, layout: &EscapedTemplate) -> Result<String, Error> {
 }
 
 /// The list of a layout that is padded with a control, as a compiler shows it.
-fn told(alloc: Global, text: &str, error: &PlaceError) -> Result<String, Error> {
+fn reported(alloc: Global, text: &str, error: &PlaceError) -> Result<String, Error> {
     let PlaceError::Misplaced(misplaced) = error else {
         return Err(Error::NoMemory);
     };
@@ -89,16 +89,16 @@ fn told(alloc: Global, text: &str, error: &PlaceError) -> Result<String, Error> 
         format: text,
     };
     let what = format!(in alloc; "{}", misplaced.why)?;
-    let mut told = explain_place(alloc, &source, misplaced.place, what.as_str())?;
-    told.push('\n')?;
-    Ok(told)
+    let mut reported = explain_place(alloc, &source, misplaced.place, what.as_str())?;
+    reported.push('\n')?;
+    Ok(reported)
 }
 
 /// The log by a layout, or a picture of what is wrong with it.
 fn log(alloc: Global, text: &str) -> Result<String, Error> {
     match Template::parse(alloc, text)?.escaped(alloc, Escape::Line) {
         Ok(layout) => written(alloc, &layout),
-        Err(error) => told(alloc, text, &error),
+        Err(error) => reported(alloc, text, &error),
     }
 }
 

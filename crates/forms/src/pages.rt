@@ -53,7 +53,7 @@ fn pages(alloc: Global, text: &str, lines: &[&str]) -> Result<String, Error> {
     Letter::read(alloc, "Ann,tea.png,Tea")?.check(alloc, &template)?;
     match template.escaped(alloc, Escape::Html) {
         Ok(page) => written(alloc, &page, lines),
-        Err(error) => told(alloc, text, &error),
+        Err(error) => reported(alloc, text, &error),
     }
 }
 
@@ -67,7 +67,7 @@ fn written(alloc: Global, page: &EscapedTemplate, lines: &[&str]) -> Result<Stri
 }
 
 /// The value that is out of place, as a compiler shows it.
-fn told(alloc: Global, text: &str, error: &PlaceError) -> Result<String, Error> {
+fn reported(alloc: Global, text: &str, error: &PlaceError) -> Result<String, Error> {
     let PlaceError::Misplaced(misplaced) = error else {
         return Err(Error::NoMemory);
     };
@@ -80,9 +80,9 @@ fn told(alloc: Global, text: &str, error: &PlaceError) -> Result<String, Error> 
     };
     let places = places_of(Escape::Html);
     let what = format!(in alloc; "{}; a value may stand {places}", misplaced.why)?;
-    let mut told = explain_place(alloc, &source, misplaced.place, what.as_str())?;
-    told.push('\n')?;
-    Ok(told)
+    let mut reported = explain_place(alloc, &source, misplaced.place, what.as_str())?;
+    reported.push('\n')?;
+    Ok(reported)
 }
 
 const PAGE: &str = "<h1>{name}</h1>\n{items:i#(<img src=\"/{:i0({})}\" alt=\"{:i1({})}\">\n)#}";

@@ -1,7 +1,8 @@
 -- What the program does with a command line.
 use Rattle.std.specs.Prelude.{◌≡◌, ◌⊎◌, ℕ, List, [], ◌∷◌, All, Option, string_bytes}
 use Rattle.std.specs.{Str.chars, Io.KnownBytes.Keeps, declared.string.String.String}
-use Rattle.interpolator.specs.{declared.View.View, At.outermost, Meaning.Environments.environment}
+use Rattle.interpolator.specs.{declared.View.View, Places.outermost}
+use Rattle.interpolator.specs.{Meaning.Environments.environment}
 use Rattle.interpolator.specs.{Faults.no_memory, Meaning.Meanings.means, Slots.Slots}
 use Rattle.interpolator.specs.Views.{shown_as_value}
 use Rattle.words.specs.Words.{IsGood}
@@ -21,10 +22,10 @@ module _ {Z : Type 0} where
 
   -- what is written of a wrong command line: without a format, how the program is called; else the
   -- first bad word
-  pub data IsTold : List (String Z) → List ℕ → Type 0 where
-    no_format : IsTold [] usage_line
+  pub data IsReported : List (String Z) → List ℕ → Type 0 where
+    no_format : IsReported [] usage_line
     bad_word : {format : String Z} {words : List (String Z)} (bad : List ℕ) →
-        IsFirstBad words bad → IsTold (format ∷ words) (complaint bad)
+        IsFirstBad words bad → IsReported (format ∷ words) (complaint bad)
 
 -- the bytes that `out` and `err` are known to hold before and after, and the status
 module _ {Z : Type 0} (out_old out_new err_old err_new : Option (List ℕ)) (status : ℕ) where
@@ -38,7 +39,7 @@ module _ {Z : Type 0} (out_old out_new err_old err_new : Option (List ℕ)) (sta
   -- what is wrong with a wrong command line was written to `err`, with status 2; a sound one was
   -- run, or memory ran out before that; after a failed write the status is 3
   pub data Answers : List (String Z) → Type 0 where
-    wrong : {line : List (String Z)} {text : List ℕ} → IsTold line text →
+    wrong : {line : List (String Z)} {text : List ℕ} → IsReported line text →
         Keeps out_old out_new → Puts 2 err_old err_new text status → Answers line
     ran : {format : String Z} {words : List (String Z)} →
         RunsOver (string_bytes format) words → Answers (format ∷ words)

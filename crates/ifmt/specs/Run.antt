@@ -3,7 +3,7 @@ use Rattle.std.specs.Prelude.{◌≡◌, ℕ, List, [], ◌∷◌, ◌++◌, cod
 use Rattle.std.specs.Prelude.{Some, ◌⊎◌}
 use Rattle.std.specs.Io.KnownBytes.{Appends, Keeps}
 use Rattle.interpolator.specs.Faults.{Answer, Fault, fault, no_memory}
-use Rattle.interpolator.specs.{At.text_of, FaultTexts.answer_text, Meaning.Meanings.Meaning}
+use Rattle.interpolator.specs.{Places.text_of, FaultTexts.answer_text, Meaning.Meanings.Meaning}
 
 -- a text and a newline
 abbrev pub line : List ℕ → List ℕ
@@ -41,5 +41,5 @@ module _ (out_old out_new err_old err_new : Option (List ℕ)) (status : ℕ) wh
   -- a meaning without fault was printed, or its fault was reported, or that memory ran out
   pub data Runs (m : Meaning) : Type 0 where
     printed : m.fault ≡ None → Prints (encode_utf8_all (text_of m.text)) → Runs m
-    told : {why : Fault} → m.fault ≡ Some why → Tells (fault why) → Runs m
+    reported : {why : Fault} → m.fault ≡ Some why → Tells (fault why) → Runs m
     wanted_memory : Tells no_memory → Runs m

@@ -31,7 +31,7 @@ const VERSION: &str = "ifmt 0.5.0";
 #[derive(Clone, Copy)]
 pub enum Asked<'a> {
     /// The help, or the version.
-    Told(&'static str),
+    Reported(&'static str),
     /// A text, by a format and the words after it; a fault is shown in the format.
     Explained(&'a [String]),
     /// A text, by a format and the words after it.
@@ -42,7 +42,7 @@ pub enum Asked<'a> {
 /// its words, and `--` before a format that begins with `--`. Any other first word is the format.
 pub fn asked_by(line: &[String]) -> Asked<'_> {
     if let Some(text) = about(line, HELP, VERSION) {
-        return Asked::Told(text);
+        return Asked::Reported(text);
     }
     match line {
         [first, rest @ ..] if first.as_str() == EXPLAIN_FLAG && !rest.is_empty() => {

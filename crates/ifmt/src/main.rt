@@ -33,7 +33,7 @@ fn main(rt: HostRuntime) -> ExitCode {
 // Does what a command line asks for, and returns the status.
 fn answer<O: Write, E: Write>(alloc: Global, line: &[String], out: &mut O, err: &mut E) -> u8 {
     match asked_by(line) {
-        Asked::Told(text) => run::status_of(run::put_text(text, out), WRITTEN),
+        Asked::Reported(text) => run::status_of(run::put_text(text, out), WRITTEN),
         Asked::Explained(words) => explained::answer_explained(alloc, words, out, err),
         Asked::Text(words) => command::answer(alloc, words, out, err),
     }

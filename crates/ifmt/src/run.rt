@@ -3,7 +3,7 @@
 ghost use Rattle.std.specs.Prelude.{◌≡◌, MatchResult, OnOk, string_bytes};
 ghost use Rattle.std.specs.{Str.chars, Io.KnownBytes.Appends};
 ghost use Rattle.interpolator.specs.Meaning.{Environments.environment, Meanings.means};
-ghost use Rattle.interpolator.specs.{At.outermost, Faults.answer_of, FaultTexts.error_text};
+ghost use Rattle.interpolator.specs.{Places.outermost, Faults.answer_of, FaultTexts.error_text};
 ghost use Rattle.ifmt.specs.Run.{Prints, Puts, Runs, Tells, complaint, line, usage_line};
 
 use interpolator::{Context, Error};
@@ -68,10 +68,10 @@ pub fn report<O: Write, E: Write>(outcome: Result<String, Error>, out: &mut O, e
 /// Writes what is said of a fault to `err`, as a line, and flushes.
 ///
 /// Returns 1, or 3 if the write failed; how much was written is then unknown.
-pub fn report_fault<E: Write>(told: &str, err: &mut E) -> u8
-    ensures { Puts 1 (E.contents err.old) (E.contents err.new) (line told.now) result }
+pub fn report_fault<E: Write>(reported: &str, err: &mut E) -> u8
+    ensures { Puts 1 (E.contents err.old) (E.contents err.new) (line reported.now) result }
 {
-    status_of(put_text(told, err), FAULT)
+    status_of(put_text(reported, err), FAULT)
 }
 
 /// Writes a text as a line, and flushes.

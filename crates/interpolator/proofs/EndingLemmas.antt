@@ -4,7 +4,7 @@ use Rattle.std.proofs.Common.{None, eqb-true}
 use Rattle.std.specs.Char.{len_utf8}
 use Rattle.interpolator_syntax.specs.Pieces.{Step, argument_from, past, pieces}
 use Rattle.interpolator_syntax.specs.Tokens.{Token, first_token, past_token}
-use Rattle.interpolator_syntax.specs.{At.At, At.after, Classes.in_class, Classes.is_brace}
+use Rattle.interpolator_syntax.specs.{Places.At, Places.after, Classes.in_class, Classes.is_brace}
 use Rattle.interpolator_syntax.specs.declared.class.Class.TheVariants.{Literal}
 use Rattle.interpolator.specs.Seams.{piece_ending, last_ending, token_ending}
 use Rattle.interpolator.specs.declared.{parts.Ending.Ending, parts.Ending.TheVariants.Settled}

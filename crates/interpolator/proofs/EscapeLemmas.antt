@@ -7,7 +7,8 @@ use Rattle.interpolator_render.specs.{declared.view.Trait.Trait, declared.view.S
 use Rattle.interpolator_render.specs.Views.{Shown}
 use Rattle.interpolator_syntax.specs.Classes.{front_of, after_of, in_class, is_brace}
 use Rattle.interpolator_syntax.specs.Pieces.{PieceKind, Piece, piece_from, past, pieces}
-use Rattle.interpolator_syntax.specs.{At.At, At.outermost, declared.class.Class.TheVariants.Literal}
+use Rattle.interpolator_syntax.specs.{Places.At, Places.outermost}
+use Rattle.interpolator_syntax.specs.{declared.class.Class.TheVariants.Literal}
 use Rattle.interpolator_eval.specs.{Meaning.Environments.Environment, Meaning.Meanings.means}
 use Rattle.interpolator.specs.Escaping.{braces_doubled, plain_character, ArePlain, SaysAlone}
 use Rattle.interpolator_syntax.proofs.PieceLemmas.{piece_within, pieces_none, pieces_next}

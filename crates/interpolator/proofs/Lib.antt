@@ -1,5 +1,5 @@
 -- The lemmas of the calls.
-pub mod DeepLemmas
+pub mod LongNestingLemmas
 pub mod EscapeLemmas
 pub mod ExcerptLemmas
 pub mod PartLemmas

@@ -4,8 +4,9 @@ use Rattle.std.proofs.Common.{Option, Some, None, append_assoc, append-nil, ◌<
 use Rattle.std.proofs.lemmas.List.{drop_more}
 use Rattle.std.specs.{Borrow.Bor, Str.chars}
 use Rattle.interpolator_render.specs.{declared.view.Trait.Trait, declared.view.Spec.Spec}
-use Rattle.interpolator_render.specs.{Views.Shown, Written.Written}
-use Rattle.interpolator_syntax.specs.{At.At, At.size, At.outermost, Pieces.PieceKind, Pieces.Piece}
+use Rattle.interpolator_render.specs.{Views.Shown, Writers.Written}
+use Rattle.interpolator_syntax.specs.{Places.At, Places.size, Places.outermost, Pieces.PieceKind}
+use Rattle.interpolator_syntax.specs.{Pieces.Piece}
 use Rattle.interpolator_syntax.specs.{Nodes.nodes, Nodes.piece_node, Faults.Answer}
 use Rattle.interpolator.specs.Seams.{kind_ending, piece_ending, last_ending, ending}
 use Rattle.interpolator.specs.Meaning.Parts.{joined_text, texts_of, parts_mean, CleanBehind, Clean}

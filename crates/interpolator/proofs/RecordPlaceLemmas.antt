@@ -5,7 +5,7 @@ use Rattle.std.proofs.Common.{chars, IsUtf8}
 use Rattle.std.specs.Prelude.{⊤}
 use Rattle.interpolator_render.specs.{declared.view.Spec.Spec, declared.view.Trait.Trait}
 use Rattle.interpolator_render.specs.declared.view.Trait.TheVariants.{Display}
-use Rattle.interpolator_syntax.specs.At.{At, outermost, size, strip}
+use Rattle.interpolator_syntax.specs.Places.{At, outermost, size, strip}
 use Rattle.interpolator_syntax.specs.Nodes.{Node, node, Branch, no_branch, branch, Forest, no_nodes}
 use Rattle.interpolator_syntax.specs.Nodes.{nodes_and, as_forest, nodes, text_content}
 use Rattle.interpolator_syntax.specs.Nodes.{argument_content, fault_content, group_branch}
@@ -178,16 +178,16 @@ pub stands : (r : Result Spot Misplaced) (ending : Ending) → Ok ending ≡ rec
 stands (Ok t) ending e = (t, refl)
 stands (Err m) ending e = absurd (cc)
 
-told : (n : ℕ) (A : Type 0) (r : Result Spot Misplaced) (error : PlaceError) → AnswerLies n r
+reported : (n : ℕ) (A : Type 0) (r : Result Spot Misplaced) (error : PlaceError) → AnswerLies n r
     → Err error ≡ record_answer r → IfMisplaced {A = A} (Err error) (λ m. m.place < n)
-told n A (Ok t) error h e = absurd (cc)
-told n A (Err m) error h e = let same : errors.Misplaced m ≡ error = cc in rw (← same) h
+reported n A (Ok t) error h e = absurd (cc)
+reported n A (Err m) error h e = let same : errors.Misplaced m ≡ error = cc in rw (← same) h
 
-pub told_within : (A : Type 0) (bs : List ℕ) → IsUtf8 bs → (error : PlaceError)
+pub reported_within : (A : Type 0) (bs : List ℕ) → IsUtf8 bs → (error : PlaceError)
     → Err error ≡ record_answer (after_record (outermost (chars bs)))
     → IfMisplaced {A = A} (Err error) (λ m. m.place < length bs)
-told_within A bs utf8 error e =
+reported_within A bs utf8 error e =
     let a = outermost (chars bs) in
-    told (length bs) A (after_record a) error
+    reported (length bs) A (after_record a) error
     (forest_lies (length bs) (as_forest (nodes a)) _
     (arguments_begin a (length bs) (omega (arith, size-chars bs utf8))) tt) e

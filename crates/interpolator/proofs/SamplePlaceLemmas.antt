@@ -8,7 +8,7 @@ use Rattle.interpolator_render.specs.declared.view.Trait.{Trait}
 use Rattle.interpolator_syntax.specs.Faults.{Fault, Answer, fault, fault_place, PlaceWithin}
 use Rattle.interpolator_syntax.specs.Nodes.{Node, node, Branch, no_branch, branch, Forest, no_nodes}
 use Rattle.interpolator_syntax.specs.Nodes.{nodes_and, as_forest, nodes, Content}
-use Rattle.interpolator_syntax.specs.{At.outermost, declared.piece_kind.PieceKind.PieceKind}
+use Rattle.interpolator_syntax.specs.{Places.outermost, declared.piece_kind.PieceKind.PieceKind}
 use Rattle.interpolator_eval.specs.Slots.{Slots}
 use Rattle.interpolator_eval.specs.Meaning.Samples.{Sample, sample, bind_each}
 use Rattle.interpolator_pieces.specs.NodeChecks.{fault_list, own_fault, end_fault}
@@ -89,13 +89,13 @@ module _ {X : Type 0} (shows : X → Trait → Spec → Shown) (finds : List ℕ
   all_lie_over = grind (arith, each_within, all_within)
 
   -- and are told so
-  pub told_lie_over : (answers : List Answer) → answers ≡ map fault Faults
+  pub reported_lie_over : (answers : List Answer) → answers ≡ map fault Faults
       → All (λ answer. PlaceWithin (length bs) (Some answer)) answers
-  told_lie_over answers is =
+  reported_lie_over answers is =
       rw is (All-map (λ answer. PlaceWithin (length bs) (Some answer)) fault Faults all_lie_over)
 
 -- the first of them lies in the text
 pub first_lies_over : {X : Type 0} (shows : X → Trait → Spec → Shown)
     (finds : List ℕ → Option (Slots X)) (bs : List ℕ) (r : Option Answer) → IsUtf8 bs
     → AnswersFirst (faults_over shows finds (outermost (chars bs))) r → PlaceWithin (length bs) r
-first_lies_over shows finds bs r utf8 told = grind (arith, all_within)
+first_lies_over shows finds bs r utf8 reported = grind (arith, all_within)

@@ -5,13 +5,13 @@ use Rattle.std.proofs.lemmas.Str.{length-le-encodes, encodes-chars}
 use Rattle.std.specs.Str.{chars, IsUtf8}
 use Rattle.interpolator_render.specs.{Views.Shown, declared.view.Spec.Spec}
 use Rattle.interpolator_render.specs.declared.view.Trait.{Trait}
-use Rattle.interpolator_syntax.specs.{At.outermost, Faults.Answer, Nodes.as_forest, Nodes.nodes}
+use Rattle.interpolator_syntax.specs.{Places.outermost, Faults.Answer, Nodes.as_forest, Nodes.nodes}
 use Rattle.interpolator_eval.specs.{Slots.Slots, Meaning.Samples.Sample, Meaning.Samples.sample}
 use Rattle.interpolator_pieces.specs.{NodeExtents.forest_depth, NodeSamples.forest_faults_in}
 use Rattle.interpolator_pieces.specs.{NodeSamples.faults_over, Stored.nodes_of, Stored.forest_whole}
 use Rattle.interpolator_pieces.specs.{Collecting.Collects, declared.piece.Piece.Piece}
 use Rattle.interpolator_pieces.specs.declared.fault_collector.FaultCollector.{FaultCollector}
-use Rattle.interpolator.proofs.DeepLemmas.{deep_is_long}
+use Rattle.interpolator.proofs.LongNestingLemmas.{deep_is_long}
 use Rattle.interpolator_pieces.proofs.WholeLemmas.{nodes_whole}
 
 -- a text is much less deep than it has characters
@@ -37,4 +37,4 @@ module _ (bs : List ℕ) (xs : List Piece) (text : List ℕ) (utf8 : IsUtf8 text
       (finds : List ℕ → Option (Slots X)) (s : Sample X) (old new : FaultCollector) (r : Option Answer)
       → s ≡ sample finds → Collects (forest_faults_in shows s (as_forest (nodes_of bs xs))) old new r
       → Collects (faults_over shows finds (outermost (chars text))) old new r
-  walk_tells shows finds s old new r is told = rw (is, same) at told
+  walk_tells shows finds s old new r is reported = rw (is, same) at reported

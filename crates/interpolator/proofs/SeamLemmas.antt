@@ -5,7 +5,7 @@ use Rattle.std.proofs.Common.{None, length-append}
 use Rattle.std.proofs.lemmas.List.{take-append-le}
 use native.Mathlib.Numerals.{unary_clauses}
 use Rattle.std.specs.Char.{len_utf8}
-use Rattle.interpolator_syntax.specs.At.{At, size, strip, strip_of}
+use Rattle.interpolator_syntax.specs.Places.{At, size, strip, strip_of}
 use Rattle.interpolator_syntax.specs.Pieces.{Piece, Step, argument_step, argument_or_broken}
 use Rattle.interpolator_syntax.specs.Pieces.{argument_from, piece_from, past, pieces}
 use Rattle.interpolator_syntax.specs.{Classes.open_brace, Classes.close_brace, Arguments.Argument}

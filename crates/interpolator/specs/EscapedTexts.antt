@@ -4,7 +4,7 @@ use Rattle.std.specs.{Str.chars, declared.string.String.String}
 use Rattle.interpolator_render.specs.{Views.Shown, declared.view.Spec.Spec}
 use Rattle.interpolator_render.specs.declared.view.Trait.{Trait}
 use Rattle.interpolator_syntax.specs.Faults.{answer_of, no_memory}
-use Rattle.interpolator_syntax.specs.{At.outermost, FaultTexts.error_text}
+use Rattle.interpolator_syntax.specs.{Places.outermost, FaultTexts.error_text}
 use Rattle.interpolator_syntax.specs.declared.error.Error.TheVariants.{NoMemory}
 use Rattle.interpolator_eval.specs.Slots.{Slots}
 use Rattle.interpolator_escapes.specs.{Formats.escaped_shows, Placing.FailsFor, Placing.StandsFor}

@@ -1,7 +1,7 @@
 -- Texts whose braces are doubled, and meanings that are text and nothing else.
 use Rattle.std.specs.Prelude.{◌≡◌, ℕ, if◌then◌else◌, List, [], ◌∷◌, map, Option, Some, None}
 use Rattle.interpolator_syntax.specs.Pieces.{PieceKind, Piece, literal, doubled}
-use Rattle.interpolator_syntax.specs.{At.text_of, Classes.is_brace}
+use Rattle.interpolator_syntax.specs.{Places.text_of, Classes.is_brace}
 use Rattle.interpolator_eval.specs.Meaning.Meanings.{Meaning}
 
 -- every brace twice, and every other character once

@@ -5,10 +5,10 @@ use Rattle.std.specs.Prelude.{◌++◌, length, get_or, codes, Option, None, Som
 use Rattle.std.specs.{Borrow.Bor, Fmt.decimal, Str.chars, Str.Lines.lines}
 use Rattle.interpolator_syntax.specs.Faults.{Answer, answer_place, fault, missing_value}
 use Rattle.interpolator_syntax.specs.Nodes.{as_forest, nodes}
-use Rattle.interpolator_syntax.specs.{At.outermost, FaultTexts.answer_text}
+use Rattle.interpolator_syntax.specs.{Places.outermost, FaultTexts.answer_text}
 use Rattle.interpolator.specs.Excerpts.{Excerpt, excerpt_of, gap, picture}
 use Rattle.interpolator.specs.Positions.{line_at, column_at, position_text}
-use Rattle.interpolator.specs.{Naming.told_names, declared.explaining.Source.Source}
+use Rattle.interpolator.specs.{Naming.reported_names, declared.explaining.Source.Source}
 use Rattle.interpolator_pieces.specs.NodePlaces.{argument_among}
 
 -- the sum, or the greatest `usize` if it is greater
@@ -57,15 +57,15 @@ abbrev pub number_at : Source → (at : ℕ) → ℕ
 number_at s at = usize_sum s.first_line (line_at s.text.now at - 1)
 
 -- what is reported at a byte of the text, with this line
-abbrev pub told_in : Source → (line : List ℕ) → (at : ℕ) → ℕ × ℕ → List ℕ → List ℕ
-told_in s line at marked what =
+abbrev pub reported_in : Source → (line : List ℕ) → (at : ℕ) → ℕ × ℕ → List ℕ → List ℕ
+reported_in s line at marked what =
     let number = number_at s at in
     head s.name.now number (column_at s.text.now at) what
     ++ (codes "\n" ++ picture number (excerpt_in s (chars line) at marked))
 
 -- what is reported at a byte of the text, with the line that has it
-abbrev pub told_at : Source → (at : ℕ) → ℕ × ℕ → List ℕ → List ℕ
-told_at s at marked what = told_in s (line_with s.text.now at) at marked what
+abbrev pub reported_at : Source → (at : ℕ) → ℕ × ℕ → List ℕ → List ℕ
+reported_at s at marked what = reported_in s (line_with s.text.now at) at marked what
 
 -- where a place that a text names counts from: said only if the format does not begin its text
 abbrev pub note_of : (start place : ℕ) → List ℕ
@@ -76,7 +76,7 @@ note_of start place =
 abbrev pub explanation : Source → Option ℕ → List ℕ → List ℕ
 explanation s None what = s.name.now ++ (codes ": " ++ what)
 explanation s (Some place) what =
-    told_at s (usize_sum s.start place) (marked_bytes s.format.now place)
+    reported_at s (usize_sum s.start place) (marked_bytes s.format.now place)
     (what ++ note_of s.start place)
 
 -- the explanation of an error
@@ -88,7 +88,7 @@ abbrev pub names_line : Source → (place : ℕ) → (name : List ℕ) → List 
 names_line s place name [] = []
 names_line s place name (n ∷ ns) =
     codes "\n" ++ (gap (number_at s (usize_sum s.start place))
-    ++ (codes " = " ++ told_names name (n ∷ ns)))
+    ++ (codes " = " ++ reported_names name (n ∷ ns)))
 
 -- what comes after the explanation of an error: the names, if one is missing
 abbrev pub names_after : Source → Answer → List (Bor (List ℕ)) → List ℕ

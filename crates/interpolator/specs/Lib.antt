@@ -1,8 +1,8 @@
 -- The definitions that the contracts cite.
 pub use Rattle.interpolator_render.specs.Texts
 pub use Rattle.interpolator_render.specs.Views
-pub use Rattle.interpolator_render.specs.Written
-pub use Rattle.interpolator_syntax.specs.At
+pub use Rattle.interpolator_render.specs.Writers
+pub use Rattle.interpolator_syntax.specs.Places
 pub use Rattle.interpolator_syntax.specs.Faults
 pub use Rattle.interpolator_syntax.specs.FaultTexts
 pub mod Meaning

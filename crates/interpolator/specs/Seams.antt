@@ -4,7 +4,7 @@ use Rattle.interpolator_syntax.specs.Pieces.{PieceKind, Piece, literal, doubled,
 use Rattle.interpolator_syntax.specs.Pieces.{unclosed, broken, pieces, argument_from}
 use Rattle.interpolator_syntax.specs.Tokens.{Token, literals, argument, doubled as doubled_token}
 use Rattle.interpolator_syntax.specs.Tokens.{lone_close as lone_token}
-use Rattle.interpolator_syntax.specs.{At.At, At.outermost, Classes.close_brace}
+use Rattle.interpolator_syntax.specs.{Places.At, Places.outermost, Classes.close_brace}
 use Rattle.interpolator.specs.declared.parts.Ending.{Ending}
 use Rattle.interpolator.specs.declared.parts.Ending.TheVariants.{Settled, LoneClose, Open}
 

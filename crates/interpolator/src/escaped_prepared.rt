@@ -1,7 +1,8 @@
 //! Prepared formats whose values are written escaped.
 ghost use Rattle.std.specs.Prelude.{◌≡◌, length, IfErr, IfOk, Some, None, ◌⊎◌};
 ghost use Rattle.std.specs.Str.{chars};
-ghost use Rattle.interpolator_syntax.specs.{At.outermost, Faults.answer_of, Faults.result_answer};
+ghost use Rattle.interpolator_syntax.specs.{Places.outermost, Faults.answer_of};
+ghost use Rattle.interpolator_syntax.specs.{Faults.result_answer};
 ghost use Rattle.interpolator_syntax.specs.{Faults.no_memory, Faults.PlaceWithin};
 ghost use Rattle.interpolator_eval.specs.{Meaning.Environments.environment, Meaning.Meanings.means};
 ghost use Rattle.interpolator_eval.specs.Meaning.Outcomes.{Outcome};
@@ -40,7 +41,7 @@ pub struct EscapedPrepared {
 
 impl Model for EscapedPrepared {
     ghost use Rattle.std.specs.Str.{chars};
-    ghost use Rattle.interpolator_syntax.specs.At.{outermost};
+    ghost use Rattle.interpolator_syntax.specs.Places.{outermost};
     ghost use Rattle.interpolator_escapes.specs.EscapedFormats.{EscapedRows};
     ghost use Rattle.interpolator_escapes.specs.Placing.{StandsFor};
 

@@ -1,7 +1,7 @@
 //! Formats whose values are written escaped.
 ghost use Rattle.std.specs.Prelude.{◌≡◌, ◌<◌, IfOk, length};
 ghost use Rattle.std.specs.Str.{chars};
-ghost use Rattle.interpolator_syntax.specs.{At.outermost, Faults.result_answer};
+ghost use Rattle.interpolator_syntax.specs.{Places.outermost, Faults.result_answer};
 ghost use Rattle.interpolator_escapes.specs.Placing.{FailsFor, IfMisplaced, StandsFor};
 ghost use Rattle.interpolator_escapes.specs.Formats.{escaped_shows};
 ghost use Rattle.interpolator_pieces.specs.Calls.{MakesText, WritesText};
@@ -39,7 +39,7 @@ pub struct EscapedTemplate {
 
 impl Model for EscapedTemplate {
     ghost use Rattle.std.specs.Str.{chars};
-    ghost use Rattle.interpolator_syntax.specs.At.{outermost};
+    ghost use Rattle.interpolator_syntax.specs.Places.{outermost};
     ghost use Rattle.interpolator_escapes.specs.EscapedFormats.{EscapedFormat};
     ghost use Rattle.interpolator_escapes.specs.Placing.{StandsFor};
 

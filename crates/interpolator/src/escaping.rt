@@ -1,7 +1,7 @@
 //! Texts made into formats that mean them.
 ghost use Rattle.std.specs.Prelude.{◌≡◌, ◌<◌, ◌++◌, ◌∷◌, [], length, IfOk, IfErr, string_bytes};
 ghost use Rattle.std.specs.Str.{chars, IsUtf8};
-ghost use Rattle.interpolator_syntax.specs.{At.outermost, Pieces.pieces};
+ghost use Rattle.interpolator_syntax.specs.{Places.outermost, Pieces.pieces};
 ghost use Rattle.interpolator_syntax.specs.declared.error.Error.TheVariants.{NoMemory};
 ghost use Rattle.interpolator.specs.Escaping.{braces_doubled, ArePlain};
 

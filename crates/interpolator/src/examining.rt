@@ -1,7 +1,8 @@
 //! What is known of a template before it is written: names, arguments, faults, extent and cost.
 ghost use Rattle.std.specs.Prelude.{◌≡◌, ◌+◌, Some, length, map, option_map, IfErr, IfOk};
 ghost use Rattle.std.specs.{List.All, Str.chars, Str.IsUtf8};
-ghost use Rattle.interpolator_syntax.specs.{Arguments.argument_of, At.outermost, Faults.answer_of};
+ghost use Rattle.interpolator_syntax.specs.{Arguments.argument_of, Places.outermost};
+ghost use Rattle.interpolator_syntax.specs.{Faults.answer_of};
 ghost use Rattle.interpolator_syntax.specs.{Faults.result_answer, Faults.fault, Faults.no_memory};
 ghost use Rattle.interpolator_syntax.specs.{Faults.PlaceWithin, Nodes.as_forest, Nodes.nodes};
 ghost use Rattle.interpolator_eval.specs.Meaning.{AskedNames.asked_names, Environments.environment};

@@ -3,11 +3,11 @@ ghost use Rattle.std.specs.Prelude.{◌≡◌, ◌<◌, ◌++◌, codes, IfErr, 
 ghost use Rattle.std.specs.Str.{chars};
 ghost use Rattle.interpolator.specs.Explained.{before_in_line, explanation, explanation_of};
 ghost use Rattle.interpolator.specs.Explained.{head as head_of, line_of, marked_bytes, names_after};
-ghost use Rattle.interpolator.specs.Explained.{names_line, note_of, told_at, told_in};
+ghost use Rattle.interpolator.specs.Explained.{names_line, note_of, reported_at, reported_in};
 ghost use Rattle.interpolator_syntax.specs.Faults.{answer_of, no_memory};
 
 use crate::excerpt::{draw, gap};
-use crate::naming::told_names;
+use crate::naming::reported_names;
 use crate::position::Position;
 use crate::template::Template;
 use interpolator_render::char_count;
@@ -51,7 +51,7 @@ pub struct Source<'a> {
 ///
 /// `NoMemory`.
 pub fn explain(alloc: Global, name: &str, text: &str, error: &Error) -> Result<String, Error>
-    ensures told { IfOk result (λ told. string_bytes told ≡ explanation_of (record {
+    ensures reported { IfOk result (λ reported. string_bytes reported ≡ explanation_of (record {
       name = name.entry;
       first_line = 1;
       text = text.entry;
@@ -94,15 +94,15 @@ pub fn explain(alloc: Global, name: &str, text: &str, error: &Error) -> Result<S
 ///
 /// `NoMemory`.
 pub fn explain_in(alloc: Global, source: &Source<'_>, error: &Error) -> Result<String, Error>
-    ensures told { IfOk result (λ told.
-        string_bytes told ≡ explanation_of source.now (answer_of error.now)) }
+    ensures reported { IfOk result (λ reported.
+        string_bytes reported ≡ explanation_of source.now (answer_of error.now)) }
     ensures refused { IfErr result (λ error. answer_of error ≡ no_memory) }
 {
     let what = format!(in alloc; "{error}")?;
     match error.place() {
         None => {
-            let told = without_place(alloc, source.name, what.as_str())?;
-            Ok(told)
+            let reported = without_place(alloc, source.name, what.as_str())?;
+            Ok(reported)
         }
         Some(place) => explain_place(alloc, source, place, what.as_str()),
     }
@@ -128,8 +128,8 @@ pub fn explain_place(
     place: usize,
     what: &str,
 ) -> Result<String, Error>
-    ensures told { IfOk result (λ told.
-        string_bytes told ≡ explanation source.now (Some place) what.now) }
+    ensures reported { IfOk result (λ reported.
+        string_bytes reported ≡ explanation source.now (Some place) what.now) }
     ensures refused { IfErr result (λ error. answer_of error ≡ no_memory) }
 {
     let marked = marked_bytes(alloc, source.format, place)?;
@@ -141,8 +141,8 @@ pub fn explain_place(
         marked,
         what: what.as_str(),
     };
-    let told = told_at(alloc, source, &report)?;
-    Ok(told)
+    let reported = reported_at(alloc, source, &report)?;
+    Ok(reported)
 }
 
 /// Shows a fault of a format as [`explain_in`] does, and for a `MissingValue` the names that there
@@ -169,19 +169,19 @@ pub fn explain_with_names(
     error: &Error,
     names: &[&str],
 ) -> Result<String, Error>
-    ensures told { IfOk result (λ told. string_bytes told
+    ensures reported { IfOk result (λ reported. string_bytes reported
         ≡ explanation_of source.now (answer_of error.now)
         ++ names_after source.now (answer_of error.now) names.now) }
     ensures refused { IfErr result (λ error. answer_of error ≡ no_memory) }
 {
-    let told = explain_in(alloc, source, error)?;
+    let reported = explain_in(alloc, source, error)?;
     match error {
         Error::MissingValue(name, place) => {
             let line = names_line(alloc, source, *place, name.as_str(), names)?;
-            let told = format!(in alloc; "{told}{line}")?;
-            Ok(told)
+            let reported = format!(in alloc; "{reported}{line}")?;
+            Ok(reported)
         }
-        _ => Ok(told),
+        _ => Ok(reported),
     }
 }
 
@@ -202,18 +202,18 @@ fn names_line(
     let position = Position::of(source.text, source.start.saturating_add(place));
     let number = source.first_line.saturating_add(position.line - 1);
     let gap = gap(alloc, number)?;
-    let told = told_names(alloc, name, names)?;
-    let line = format!(in alloc; "\n{gap} = {told}")?;
+    let reported = reported_names(alloc, name, names)?;
+    let line = format!(in alloc; "\n{gap} = {reported}")?;
     Ok(line)
 }
 
 /// What is reported without a place.
 fn without_place(alloc: Global, name: &str, what: &str) -> Result<String, AllocError>
-    ensures { IfOk result (λ told.
-        string_bytes told ≡ name.now ++ (codes ": " ++ what.now)) }
+    ensures { IfOk result (λ reported.
+        string_bytes reported ≡ name.now ++ (codes ": " ++ what.now)) }
 {
-    let told = format!(in alloc; "{name}: {what}")?;
-    Ok(told)
+    let reported = format!(in alloc; "{name}: {what}")?;
+    Ok(reported)
 }
 
 /// A note on where the place that a fault's text names counts from; empty if the format begins its
@@ -279,30 +279,34 @@ struct Report<'a> {
 
 /// What is reported at a byte of the text, with the line that has it. If the byte is the newline
 /// after a carriage return, a space stands for that, so that the mark is in the column reported.
-fn told_at(alloc: Global, source: &Source<'_>, report: &Report<'_>) -> Result<String, AllocError>
-    ensures { IfOk result (λ told. string_bytes told
-        ≡ told_at source.now report.now.at report.now.marked report.now.what.now) }
+fn reported_at(
+    alloc: Global,
+    source: &Source<'_>,
+    report: &Report<'_>,
+) -> Result<String, AllocError>
+    ensures { IfOk result (λ reported. string_bytes reported
+        ≡ reported_at source.now report.now.at report.now.marked report.now.what.now) }
 {
     let position = Position::of(source.text, report.at);
     let line = line_of(source.text, position.line);
     if char_count(line) < position.column - 1 {
         let line = format!(in alloc; "{line} ")?;
-        let told = told_in(alloc, source, line.as_str(), report)?;
-        return Ok(told);
+        let reported = reported_in(alloc, source, line.as_str(), report)?;
+        return Ok(reported);
     }
-    let told = told_in(alloc, source, line, report)?;
-    Ok(told)
+    let reported = reported_in(alloc, source, line, report)?;
+    Ok(reported)
 }
 
 /// What is reported at a byte of the text, with this line.
-fn told_in(
+fn reported_in(
     alloc: Global,
     source: &Source<'_>,
     line: &str,
     report: &Report<'_>,
 ) -> Result<String, AllocError>
-    ensures { IfOk result (λ told. string_bytes told
-        ≡ told_in source.now line.now report.now.at report.now.marked report.now.what.now) }
+    ensures { IfOk result (λ reported. string_bytes reported
+        ≡ reported_in source.now line.now report.now.at report.now.marked report.now.what.now) }
 {
     let position = Position::of(source.text, report.at);
     let count = char_count(line);
@@ -319,6 +323,6 @@ fn told_in(
     };
     let head = head(alloc, source.name, shown, report.what)?;
     let picture = draw(alloc, number, line, position.column - 1, (from, to))?;
-    let told = format!(in alloc; "{head}\n{picture}")?;
-    Ok(told)
+    let reported = format!(in alloc; "{head}\n{picture}")?;
+    Ok(reported)
 }

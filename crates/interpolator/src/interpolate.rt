@@ -1,7 +1,8 @@
 //! Formats as methods of a context.
 ghost use Rattle.std.specs.Prelude.{◌≡◌, length, map, IfErr, IfOk, Some};
 ghost use Rattle.std.specs.{List.All, Str.chars};
-ghost use Rattle.interpolator_syntax.specs.{At.outermost, Faults.answer_of, Faults.result_answer};
+ghost use Rattle.interpolator_syntax.specs.{Places.outermost, Faults.answer_of};
+ghost use Rattle.interpolator_syntax.specs.{Faults.result_answer};
 ghost use Rattle.interpolator_syntax.specs.{Faults.fault, Faults.no_memory, Faults.PlaceWithin};
 ghost use Rattle.interpolator_escapes.specs.Formats.{escaped_shows};
 ghost use Rattle.interpolator_pieces.specs.Calls.{MakesText, WritesLine, WritesText};

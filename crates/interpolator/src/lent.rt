@@ -78,7 +78,7 @@ fn and_slots_of<'a, V>(before: Formattable<'a, V>, lent: &Lent<'a, V>) -> Format
 
 /// Adds the slots of a name to those that it has in the map.
 #[tactic(auto, using(crate::proofs::LentLemmas::entry_added))]
-fn add<'a, V>(map: &mut ContextMap<'a, V>, lent: &Lent<'a, V>) -> Result<(), Error>
+fn add_lent<'a, V>(map: &mut ContextMap<'a, V>, lent: &Lent<'a, V>) -> Result<(), Error>
     ensures added { OnOk result ((name : List ℕ) →
         stored_slots map.new name ≡ with_added name lent.now (stored_slots map.old name)) }
     ensures refused { IfErr result (λ error. answer_of error ≡ no_memory) }
@@ -109,7 +109,7 @@ pub fn and_lent<'a, V>(
     match map {
         Err(error) => Err(error),
         Ok(mut map) => {
-            add(&mut map, &lent)?;
+            add_lent(&mut map, &lent)?;
             Ok(map)
         }
     }

@@ -1,7 +1,7 @@
 //! Formats in parts: which may follow which, and what they write.
 ghost use Rattle.std.specs.Prelude.{◌≡◌, ◌+◌, ◌^◌, ◌<◌, length, IfOk};
 ghost use Rattle.std.specs.Str.{chars};
-ghost use Rattle.interpolator_syntax.specs.At.{at, size, outermost};
+ghost use Rattle.interpolator_syntax.specs.Places.{at, size, outermost};
 ghost use Rattle.interpolator_syntax.specs.{Pieces.pieces, Pieces.argument_from, Tokens.token_of};
 ghost use Rattle.interpolator_syntax.specs.{Tokens.past_token, Grammar.from_place};
 ghost use Rattle.interpolator_syntax.specs.{Faults.result_answer, Faults.PlaceWithin};

@@ -1,7 +1,7 @@
 //! Formats of records of CSV, whose values are whole fields.
 ghost use Rattle.std.specs.Prelude.{◌≡◌, ◌<◌, Err, IfErr, IfOk, length};
 ghost use Rattle.std.specs.Str.{chars};
-ghost use Rattle.interpolator_syntax.specs.{At.outermost, Faults.result_answer};
+ghost use Rattle.interpolator_syntax.specs.{Places.outermost, Faults.result_answer};
 ghost use Rattle.interpolator_escapes.specs.RecordFormats.{StandsAsRecord, after_record};
 ghost use Rattle.interpolator_escapes.specs.RecordFormats.{record_answer};
 ghost use Rattle.interpolator_escapes.specs.{Fields.record_shows, Placing.IfMisplaced};
@@ -38,7 +38,7 @@ pub struct RecordTemplate {
 impl Model for RecordTemplate {
     ghost use Rattle.std.specs.Prelude.{List, ℕ};
     ghost use Rattle.std.specs.Str.{chars};
-    ghost use Rattle.interpolator_syntax.specs.At.{outermost};
+    ghost use Rattle.interpolator_syntax.specs.Places.{outermost};
     ghost use Rattle.interpolator_escapes.specs.RecordFormats.{StandsAsRecord};
 
     ghost Value = { List ℕ };

@@ -8,7 +8,7 @@ use std::alloc::{AllocError, Global};
 use std::collections::HashMap;
 
 /// Puts one more pair into a map of those before it.
-fn add<'a, V>(
+fn add_pair<'a, V>(
     map: &mut HashMap<&'a str, Formattable<'a, V>>,
     pair: &(&'a str, Formattable<'a, V>),
 ) -> Result<(), AllocError>
@@ -27,7 +27,7 @@ pub(crate) fn map_of<'a, V>(
 {
     let mut map = HashMap::with_capacity(alloc, pairs.len())?;
     for pair in pairs {
-        add(&mut map, pair)?;
+        add_pair(&mut map, pair)?;
     }
     Ok(map)
 }

@@ -3,7 +3,7 @@ ghost use Rattle.std.specs.Prelude.{◌≡◌, ◌+◌, ◌≤◌, ◌⊎◌, No
 ghost use Rattle.std.specs.Str.{chars};
 ghost use Rattle.interpolator_syntax.specs.Faults.{answer_of, result_answer, fault, no_memory};
 ghost use Rattle.interpolator_syntax.specs.Faults.{PlaceWithin};
-ghost use Rattle.interpolator_syntax.specs.{At.outermost, Nodes.nodes};
+ghost use Rattle.interpolator_syntax.specs.{Places.outermost, Nodes.nodes};
 ghost use Rattle.interpolator_eval.specs.Meaning.{AskedNames.asked_names, Environments.environment};
 ghost use Rattle.interpolator_eval.specs.Meaning.{Limits.IsWithin, Work.text_work};
 ghost use Rattle.interpolator_eval.specs.{Escaping.shows_by, Contexts.found_by_pairs};
@@ -54,7 +54,7 @@ pub struct Template {
 impl Model for Template {
     ghost use Rattle.std.specs.Prelude.{◌≡◌, List, ℕ, string_bytes};
     ghost use Rattle.std.specs.Str.{chars};
-    ghost use Rattle.interpolator_syntax.specs.At.{outermost};
+    ghost use Rattle.interpolator_syntax.specs.Places.{outermost};
     ghost use Rattle.interpolator_syntax.specs.Nodes.{nodes};
     ghost use Rattle.interpolator_pieces.specs.Stored.{nodes_of};
 
@@ -192,7 +192,7 @@ impl Template {
             (W.written out.old) (W.written out.new) (result_answer result) }
         ensures exact { IfOk result (λ _. count.new ≡ count.old + (text_work C.Object.shows
             (environment (C.finds context.now)) (outermost (chars self.now))).pieces) }
-        ensures gone { count.new ≤ count.old + (text_work C.Object.shows
+        ensures visited { count.new ≤ count.old + (text_work C.Object.shows
             (environment (C.finds context.now)) (outermost (chars self.now))).pieces }
         ensures within { (limits : Limits)
             → IsWithin C.Object.shows limits.text limits.items (environment (C.finds context.now))

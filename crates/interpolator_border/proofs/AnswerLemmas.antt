@@ -6,21 +6,24 @@ use Rattle.std.proofs.Common.{arith, ◌≡◌, inl, inr, List, [], ℕ, Option,
 use Rattle.std.proofs.Common.{Bool, true, false, map, Result, length, ◌≤◌, ◌<◌, ap, sym, ◌∙◌}
 use Rattle.std.proofs.Common.{◌⊎◌, refl, subst}
 use Rattle.std.proofs.lemmas.Str.{encodes-chars}
-use Rattle.interpolator_syntax.specs.At.{text_of}
+use Rattle.interpolator_syntax.specs.Places.{text_of}
 use Rattle.interpolator_syntax.specs.Faults.{Answer, Fault, fault, no_memory, answer_of}
 use Rattle.interpolator_render.specs.Bounds.{BoundedText, bounded, bounded_writer}
-use Rattle.interpolator_render.specs.Written.{Written, byte_count}
+use Rattle.interpolator_render.specs.Writers.{Written, byte_count}
 use Rattle.interpolator_eval.specs.{Meaning.Meanings.Meaning, Slots.Slots}
 use Rattle.interpolator_eval.specs.Meaning.Outcomes.{Finished, Outcome, Refused, WantsMemory}
-use Rattle.interpolator_border.specs.Answers.{FailsBy, FormatAnswers, Means, Put, Shows, TellsResult}
-use Rattle.interpolator_border.specs.Answers.{TellsWritten, Told, ToldBy, ToldFailure, ToldFault}
+use Rattle.interpolator_border.specs.Answers.{FailsBy, FormatAnswers, Means, Put, Shows}
+use Rattle.interpolator_border.specs.Answers.{TellsResult}
+use Rattle.interpolator_border.specs.Answers.{TellsWritten, Reported, ReportedBy, ReportedFailure}
+use Rattle.interpolator_border.specs.Answers.{ReportedFault}
 use Rattle.interpolator_border.specs.Answers.{row_means}
 use Rattle.interpolator_border.specs.Measures.{TellsMade, TellsText, TellsWhy}
 use Rattle.interpolator_border.specs.Answers.{WriteAnswers, WritesKnown, WritesRow, Wrote}
 use Rattle.interpolator_border.specs.Answers.{WroteAll, WroteFull, WroteSome, text_answer}
 use Rattle.interpolator_border.specs.Fields.{field_shows, field_slots, lists_lie}
 use Rattle.interpolator_border.specs.declared.field.Field.{Field}
-use Rattle.interpolator_border.specs.declared.answer.{Answer.Answer as Told_answer, Failure.Failure}
+use Rattle.interpolator_border.specs.declared.answer.{Answer.Answer as Reported_answer}
+use Rattle.interpolator_border.specs.declared.answer.{Failure.Failure}
 use Rattle.interpolator_border.specs.declared.answer.Failure.TheVariants as failure
 
 module _ {shows : Shows} {fields items : List Field} {format : List ℕ} where
@@ -44,11 +47,11 @@ appended m old new outcome = grind (arith, outcome)
 -- ---- a fault that is told
 
 -- memory was wanted is told
-pub out_of_memory : (written : ℕ) (old new : List ℕ) (answer : Told_answer) (a : Answer)
-    → a ≡ no_memory → ToldBy a written old new answer → ToldFault no_memory written old new answer
-out_of_memory written old new answer a wants (inl told) = told
-out_of_memory written old new answer a wants (inr told) =
-    subst (λ b. ToldFault b written old new answer) wants told
+pub out_of_memory : (written : ℕ) (old new : List ℕ) (answer : Reported_answer) (a : Answer)
+    → a ≡ no_memory → ReportedBy a written old new answer → ReportedFault no_memory written old new answer
+out_of_memory written old new answer a wants (inl reported) = reported
+out_of_memory written old new answer a wants (inr reported) =
+    subst (λ b. ReportedFault b written old new answer) wants reported
 
 -- what holds of an answer that is that of a fault, holds of the fault
 pub some_fault : (P : Answer → Type 0) (found : Option Fault) (a : Answer)
@@ -60,20 +63,20 @@ pub if_fault : (P : Answer → Type 0) (None_holds : Type 0) (found : Option Fau
 if_fault P None_holds found a is holds = grind (arith, is, holds)
 
 module _ (shows : Shows) (fields items : List Field) (format old new : List ℕ)
-    (answer : Told_answer) where
+    (answer : Reported_answer) where
   -- why there is no text is told
   pub format_fails : (why : Failure) → FailsBy shows fields items format why
-      → ToldFailure why old new answer → FormatAnswers shows fields items format old new answer
-  format_fails failure.NotUtf8 fails told = inr (inr (inl (told, fails)))
-  format_fails failure.Lists fails told = inr (inr (inr (told, fails)))
-  format_fails failure.Table fails told = absurd fails
-  format_fails (failure.Fault e) (inl wants) told =
-      inr (inl (out_of_memory 0 old new answer (answer_of e) wants told))
-  format_fails (failure.Fault e) (inr fails) told =
+      → ReportedFailure why old new answer → FormatAnswers shows fields items format old new answer
+  format_fails failure.NotUtf8 fails reported = inr (inr (inl (reported, fails)))
+  format_fails failure.Lists fails reported = inr (inr (inr (reported, fails)))
+  format_fails failure.Table fails reported = absurd fails
+  format_fails (failure.Fault e) (inl wants) reported =
+      inr (inl (out_of_memory 0 old new answer (answer_of e) wants reported))
+  format_fails (failure.Fault e) (inr fails) reported =
       inl (
         fails.0,
         means_more (λ m is.
-            if_fault (λ a. ToldBy a 0 old new answer) _ m.fault (answer_of e) is told) fails.1,
+            if_fault (λ a. ReportedBy a 0 old new answer) _ m.fault (answer_of e) is reported) fails.1,
       )
 
 -- ---- a text that is told
@@ -81,9 +84,9 @@ module _ (shows : Shows) (fields items : List Field) (format old new : List ℕ)
 -- why a writer that did not refuse has not all of a text
 why_not_all : (m : Meaning) (old new : Written) (a : Answer) → new.refused ≡ false
     → Outcome m old new (Some a) → (a ≡ no_memory) ⊎ (Some a ≡ option_map fault m.fault)
-why_not_all m old new a open_yet (inl finished) = inr finished.told
+why_not_all m old new a open_yet (inl finished) = inr finished.reported
 why_not_all m old new a open_yet (inr (inl refused)) = grind (arith, refused.flag)
-why_not_all m old new a open_yet (inr (inr wants)) = inl (grind (arith, wants.told))
+why_not_all m old new a open_yet (inr (inr wants)) = inl (grind (arith, wants.reported))
 
 -- why there is no text, if the writer did not refuse it
 fails_by : (shows : Shows) (fields items : List Field) (format : List ℕ) (old new : Written) (why : Failure)
@@ -104,23 +107,23 @@ fails_by shows fields items format old new (failure.Fault e) is_text open_yet (i
     by_cases (inr is) = inr (is_text, record { trees = wrote.trees; are = wrote.are; holds = is })
 
 -- a text that was taken is told, or that memory was wanted
-text_told : (shows : Shows) (fields items : List Field) (format text old new : List ℕ)
-    (answer : Told_answer)
+text_reported : (shows : Shows) (fields items : List Field) (format text old new : List ℕ)
+    (answer : Reported_answer)
     → is_utf8 format ≡ true
     → Means shows fields items format (λ m. (m.fault ≡ None) × (text ≡ text_of m.text))
     → TellsText text old new answer → FormatAnswers shows fields items format old new answer
-text_told shows fields items format text old new answer is_text made (inl told) =
+text_reported shows fields items format text old new answer is_text made (inl reported) =
     grind (arith, inl, means_more)
-text_told shows fields items format text old new answer is_text made (inr told) = inr (inl told)
+text_reported shows fields items format text old new answer is_text made (inr reported) = inr (inl reported)
 
 -- what was written is told
 pub formats : (shows : Shows) (fields items : List Field) (format : List ℕ) (none made : Written)
-    (written : Result (Unit {0}) Failure) (old new : List ℕ) (answer : Told_answer)
+    (written : Result (Unit {0}) Failure) (old new : List ℕ) (answer : Reported_answer)
     → none.text ≡ [] → is_utf8 format ≡ true
     → WritesRow shows (lists_lie fields items) fields items format none made written
     → TellsMade made written old new answer → FormatAnswers shows fields items format old new answer
 formats shows fields items format none made (Ok ok) old new answer empty is_text wrote tells =
-    text_told shows fields items format made.text old new answer is_text
+    text_reported shows fields items format made.text old new answer is_text
     (means_more (λ m outcome. let all = appended m none made outcome in
     (all.0, all.1 ∙ ap (λ text. text ++ text_of m.text) empty)) wrote) tells
 formats shows fields items format none made (Err why) old new answer empty is_text wrote tells =
@@ -128,10 +131,10 @@ formats shows fields items format none made (Err why) old new answer empty is_te
   where
     by_flag : (refused : Bool) → made.refused ≡ refused → TellsWhy refused why old new answer
         → FormatAnswers shows fields items format old new answer
-    by_flag true is told = inr (inl told)
-    by_flag false is told =
+    by_flag true is reported = inr (inl reported)
+    by_flag false is reported =
         format_fails shows fields items format old new answer why
-        (fails_by shows fields items format none made why is_text is wrote) told
+        (fails_by shows fields items format none made why is_text is wrote) reported
 
 -- ---- a room that was written
 
@@ -156,11 +159,11 @@ pub is_fresh : (b : BoundedText) (most bytes : ℕ)
 is_fresh b most bytes new is same = new ∙ ap fresh (sym is ∙ same)
 
 -- each outcome keeps the origin
-origin_kept : (m : Meaning) (old new : Written) (told : Option Answer) → Outcome m old new told
+origin_kept : (m : Meaning) (old new : Written) (reported : Option Answer) → Outcome m old new reported
     → new.origin ≡ old.origin
-origin_kept m old new told (inl finished) = finished.all.same_origin
-origin_kept m old new told (inr (inl refused)) = refused.same_origin
-origin_kept m old new told (inr (inr wants)) = wants.begun.same_origin
+origin_kept m old new reported (inl finished) = finished.all.same_origin
+origin_kept m old new reported (inr (inl refused)) = refused.same_origin
+origin_kept m old new reported (inr (inr wants)) = wants.begun.same_origin
 
 -- so does a row that was written
 pub row_keeps_origin : (shows : Shows) (lie : Bool) (fields items : List Field) (format : List ℕ)
@@ -179,56 +182,56 @@ row_keeps_origin shows lie fields items format old new (Err (failure.Fault e)) (
     origin_kept _ old new (Some (answer_of e)) wrote.holds
 
 -- what is told of all that a format means
-all_told : (bytes : ℕ) (found : Option Fault) (told : Option Answer) (old new : List ℕ)
-    (answer : Told_answer) → told ≡ option_map fault found
-    → TellsWritten false bytes told old new answer
+all_reported : (bytes : ℕ) (found : Option Fault) (reported : Option Answer) (old new : List ℕ)
+    (answer : Reported_answer) → reported ≡ option_map fault found
+    → TellsWritten false bytes reported old new answer
     → MatchOption found ((answer ≡ text_answer bytes) × (new ≡ old))
-    (λ f. ToldBy (fault f) bytes old new answer)
-all_told bytes None told old new answer is tells =
+    (λ f. ReportedBy (fault f) bytes old new answer)
+all_reported bytes None reported old new answer is tells =
     subst (λ t. TellsWritten false bytes t old new answer) is tells
-all_told bytes (Some f) told old new answer is tells =
+all_reported bytes (Some f) reported old new answer is tells =
     subst (λ t. TellsWritten false bytes t old new answer) is tells
 
-module _ (new : Written) (made old room sentence_old sentence_new : List ℕ) (answer : Told_answer)
+module _ (new : Written) (made old room sentence_old sentence_new : List ℕ) (answer : Reported_answer)
     (is : chars made ≡ new.text) (utf8 : IsUtf8 made) (fits : length made ≤ length old)
-    (put : Told made old room) where
+    (put : Reported made old room) where
   made_is : (text : List ℕ) → new.text ≡ text → made ≡ encode_utf8_all text
   made_is text same = sym (encodes-chars made utf8) ∙ ap encode_utf8_all (is ∙ same)
 
   -- the text lies in the room
   put_text : (text : List ℕ) → new.text ≡ text → Put text old room
   put_text text same =
-      subst (λ bytes. (length bytes ≤ length old) × Told bytes old room) (made_is text same)
+      subst (λ bytes. (length bytes ≤ length old) × Reported bytes old room) (made_is text same)
       (fits, put)
 
   -- what is told counts its bytes
-  told_text : (text : List ℕ) (refused : Bool) (told : Option Answer) → new.text ≡ text
+  reported_text : (text : List ℕ) (refused : Bool) (reported : Option Answer) → new.text ≡ text
       → new.refused ≡ refused
-      → TellsWritten new.refused (length made) told sentence_old sentence_new answer
-      → TellsWritten refused (byte_count text) told sentence_old sentence_new answer
-  told_text text refused told same flag tells =
-      subst (λ r. TellsWritten r (byte_count text) told sentence_old sentence_new answer) flag
-      (subst (λ bytes. TellsWritten new.refused (length bytes) told sentence_old sentence_new answer)
+      → TellsWritten new.refused (length made) reported sentence_old sentence_new answer
+      → TellsWritten refused (byte_count text) reported sentence_old sentence_new answer
+  reported_text text refused reported same flag tells =
+      subst (λ r. TellsWritten r (byte_count text) reported sentence_old sentence_new answer) flag
+      (subst (λ bytes. TellsWritten new.refused (length bytes) reported sentence_old sentence_new answer)
       (made_is text same) tells)
 
-  wrote_all : (m : Meaning) (told : Option Answer) → Finished m (fresh (length old)) new told
-      → TellsWritten new.refused (length made) told sentence_old sentence_new answer
+  wrote_all : (m : Meaning) (reported : Option Answer) → Finished m (fresh (length old)) new reported
+      → TellsWritten new.refused (length made) reported sentence_old sentence_new answer
       → WroteAll m old room sentence_old sentence_new answer
-  wrote_all m told finished tells =
+  wrote_all m reported finished tells =
       let text = text_of m.text in record {
         put = put_text text finished.all.appended;
-        tells = all_told (byte_count text) m.fault told sentence_old sentence_new answer
-            finished.told
-            (told_text text false told finished.all.appended finished.all.same_flag tells);
+        tells = all_reported (byte_count text) m.fault reported sentence_old sentence_new answer
+            finished.reported
+            (reported_text text false reported finished.all.appended finished.all.same_flag tells);
       }
 
-  wrote_full : (m : Meaning) (told : Option Answer) → Refused m (fresh (length old)) new told
-      → TellsWritten new.refused (length made) told sentence_old sentence_new answer
+  wrote_full : (m : Meaning) (reported : Option Answer) → Refused m (fresh (length old)) new reported
+      → TellsWritten new.refused (length made) reported sentence_old sentence_new answer
       → WroteFull m old room sentence_old sentence_new answer
-  wrote_full m told refused tells =
+  wrote_full m reported refused tells =
       let text = text_of refused.front in
       let full = subst (λ t. TellsWritten true (byte_count text) t sentence_old sentence_new answer)
-      refused.told (told_text text true told refused.appended refused.flag tells) in record {
+      refused.reported (reported_text text true reported refused.appended refused.flag tells) in record {
         front = refused.front;
         c = refused.c;
         place = refused.place;
@@ -238,39 +241,39 @@ module _ (new : Written) (made old room sentence_old sentence_new : List ℕ) (a
         over = subst
             (λ t. length old < byte_count t + length (encode_utf8 refused.c))
             refused.appended refused.over;
-        told = full.0;
+        reported = full.0;
         sentence = full.1;
       }
 
-  wrote_some : (m : Meaning) (told : Option Answer) → WantsMemory m (fresh (length old)) new told
-      → TellsWritten new.refused (length made) told sentence_old sentence_new answer
+  wrote_some : (m : Meaning) (reported : Option Answer) → WantsMemory m (fresh (length old)) new reported
+      → TellsWritten new.refused (length made) reported sentence_old sentence_new answer
       → WroteSome m old room sentence_old sentence_new answer
-  wrote_some m told wants tells =
+  wrote_some m reported wants tells =
       let text = text_of wants.front in
       let some = subst (λ t. TellsWritten false (byte_count text) t sentence_old sentence_new answer)
-      wants.told
-      (told_text text false told wants.begun.appended wants.begun.same_flag tells) in record {
+      wants.reported
+      (reported_text text false reported wants.begun.appended wants.begun.same_flag tells) in record {
         front = wants.front;
         back = wants.back;
         split = wants.split;
         point = wants.point;
         put = put_text text wants.begun.appended;
-        told = out_of_memory (byte_count text) sentence_old sentence_new answer no_memory refl some;
+        reported = out_of_memory (byte_count text) sentence_old sentence_new answer no_memory refl some;
       }
 
   -- what a row means lies in the room, up to what was told
-  wrote : (told : Option Answer)
-      → TellsWritten new.refused (length made) told sentence_old sentence_new answer
-      → (m : Meaning) → Outcome m (fresh (length old)) new told
+  wrote : (reported : Option Answer)
+      → TellsWritten new.refused (length made) reported sentence_old sentence_new answer
+      → (m : Meaning) → Outcome m (fresh (length old)) new reported
       → Wrote m old room sentence_old sentence_new answer
-  wrote told tells m (inl finished) = inl (wrote_all m told finished tells)
-  wrote told tells m (inr (inl refused)) = inr (inl (wrote_full m told refused tells))
-  wrote told tells m (inr (inr wants)) = inr (inr (wrote_some m told wants tells))
+  wrote reported tells m (inl finished) = inl (wrote_all m reported finished tells)
+  wrote reported tells m (inr (inl refused)) = inr (inl (wrote_full m reported refused tells))
+  wrote reported tells m (inr (inr wants)) = inr (inr (wrote_some m reported wants tells))
 
   -- nothing lies in the room
   wrote_nothing : new ≡ fresh (length old) → room ≡ old
   wrote_nothing same =
-      (subst (λ bytes. Told bytes old room) (made_is [] (ap (λ w. w.text) same)) put).1
+      (subst (λ bytes. Reported bytes old room) (made_is [] (ap (λ w. w.text) same)) put).1
 
   -- a row that was written into the room is told
   pub writes : (fields items : List Field) (format : List ℕ) (written : Result (Unit {0}) Failure)
@@ -287,9 +290,9 @@ module _ (new : Written) (made old room sentence_old sentence_new : List ℕ) (a
   writes fields items format (Err (failure.Fault e)) is_text (inl none) tells =
       let same = ap (λ w. w.text) none.1 in
       let flag = ap (λ w. w.refused) none.1 in
-      let told = told_text [] false (Some (answer_of e)) same flag tells in
+      let reported = reported_text [] false (Some (answer_of e)) same flag tells in
       inr (
-        inl (out_of_memory 0 sentence_old sentence_new answer (answer_of e) none.0 told),
+        inl (out_of_memory 0 sentence_old sentence_new answer (answer_of e) none.0 reported),
         wrote_nothing none.1,
       )
   writes fields items format (Err (failure.Fault e)) is_text (inr row) tells =

@@ -7,11 +7,12 @@ use Rattle.std.proofs.lemmas.Option.{slice_get-map, slice_get_past, slice_get_re
 use Rattle.interpolator_syntax.specs.Faults.{Fault, fault, answer_of}
 use Rattle.interpolator_syntax.specs.declared.error.Error.{Error}
 use Rattle.interpolator.specs.Template.NodeChecks.{first_fault}
-use Rattle.interpolator_border.specs.Answers.{ToldBy, ToldFailure}
+use Rattle.interpolator_border.specs.Answers.{ReportedBy, ReportedFailure}
 use Rattle.interpolator_border.specs.Checks.{AloneAnswers, AreFaults, CheckAnswers, CheckedAlone}
 use Rattle.interpolator_border.specs.Checks.{Faults, FoundAt, IsFaultAt, alone_fault}
 use Rattle.interpolator_border.specs.declared.field.Field.{Field}
-use Rattle.interpolator_border.specs.declared.answer.{Answer.Answer as Told_answer, Failure.Failure}
+use Rattle.interpolator_border.specs.declared.answer.{Answer.Answer as Reported_answer}
+use Rattle.interpolator_border.specs.declared.answer.{Failure.Failure}
 use Rattle.interpolator_border.proofs.AnswerLemmas.{if_fault, out_of_memory}
 use Rattle.interpolator_border.specs.declared.answer.Failure.TheVariants as failure
 
@@ -49,30 +50,30 @@ none_first [] none = refl
 none_first (f ∷ fs) none = cc
 
 -- the first fault is told
-pub first_told : (fields items : List Field) (format : List ℕ) (errors : List Error)
+pub first_reported : (fields items : List Field) (format : List ℕ) (errors : List Error)
     → is_utf8 format ≡ true → Faults fields items format (AreFaults errors)
-    → (answer : Told_answer) (old new : List ℕ) (e : Error) → FoundAt errors 0 (Some e)
-    → ToldBy (answer_of e) 0 old new answer → CheckAnswers fields items format old new answer
-first_told fields items format errors utf8 finds answer old new e at told =
+    → (answer : Reported_answer) (old new : List ℕ) (e : Error) → FoundAt errors 0 (Some e)
+    → ReportedBy (answer_of e) 0 old new answer → CheckAnswers fields items format old new answer
+first_reported fields items format errors utf8 finds answer old new e at reported =
     inl (
       utf8,
       faults_more (λ fs are.
-          if_fault (λ a. ToldBy a 0 old new answer) _ (first_fault fs) (answer_of e)
-          (at fs are ∙ ap (option_map fault) (at_first fs)) told) finds,
+          if_fault (λ a. ReportedBy a 0 old new answer) _ (first_fault fs) (answer_of e)
+          (at fs are ∙ ap (option_map fault) (at_first fs)) reported) finds,
     )
 
 -- the first fault of a format by itself is told, or why it is not known
-pub alone_fails : (format old new : List ℕ) (answer : Told_answer) (why : Failure)
-    → CheckedAlone format (Err why) → ToldFailure why old new answer
+pub alone_fails : (format old new : List ℕ) (answer : Reported_answer) (why : Failure)
+    → CheckedAlone format (Err why) → ReportedFailure why old new answer
     → AloneAnswers format old new answer
-alone_fails format old new answer failure.NotUtf8 checked told = inr (inr (told, checked))
-alone_fails format old new answer failure.Lists checked told = absurd checked
-alone_fails format old new answer failure.Table checked told = absurd checked
-alone_fails format old new answer (failure.Fault e) (inl wants) told =
-    inr (inl (out_of_memory 0 old new answer (answer_of e) wants told))
-alone_fails format old new answer (failure.Fault e) (inr checked) told =
+alone_fails format old new answer failure.NotUtf8 checked reported = inr (inr (reported, checked))
+alone_fails format old new answer failure.Lists checked reported = absurd checked
+alone_fails format old new answer failure.Table checked reported = absurd checked
+alone_fails format old new answer (failure.Fault e) (inl wants) reported =
+    inr (inl (out_of_memory 0 old new answer (answer_of e) wants reported))
+alone_fails format old new answer (failure.Fault e) (inr checked) reported =
     inl (
       checked.0,
-      if_fault (λ a. ToldBy a 0 old new answer) _ (alone_fault format) (answer_of e) checked.1
-          told,
+      if_fault (λ a. ReportedBy a 0 old new answer) _ (alone_fault format) (answer_of e) checked.1
+          reported,
     )

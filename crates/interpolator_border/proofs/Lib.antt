@@ -5,6 +5,5 @@ mod EscapedLemmas
 mod HandSteps
 mod LevelLemmas
 mod MeasureLemmas
-mod NameLemmas
 mod TableLemmas
 mod TextLemmas

@@ -5,8 +5,8 @@ use Rattle.std.proofs.Common.{length-append, Bool, true, Result, Ok, Err, MatchR
 use Rattle.std.specs.Prelude.{◌||◌}
 use Rattle.std.proofs.lemmas.Str.{chars-nil, encodes-append, encodes-chars}
 use Rattle.std.proofs.lemmas.Grind.{common_steps}
-use Rattle.interpolator_render.specs.Written.{Appends, Buffered, Refuses, RefusesWhole, Written}
-use Rattle.interpolator_render.specs.Written.{as_writer, byte_count, plain}
+use Rattle.interpolator_render.specs.Writers.{Appends, Buffered, Refuses, RefusesWhole, Written}
+use Rattle.interpolator_render.specs.Writers.{as_writer, byte_count, plain}
 use Rattle.interpolator_render.specs.declared.text_write.Refusal.{Refusal}
 use Rattle.interpolator_render.proofs.WrittenLemmas.{refuses_all}
 

@@ -1,24 +1,28 @@
 -- What a caller that is not Rattle is told.
-use Rattle.std.specs.Prelude.{◌≡◌, ◌≤◌, ◌⊎◌, ◌<◌, ◌+◌, ◌++◌, ℕ, List, None, Some, Option, length, take, drop}
+use Rattle.std.specs.Prelude.{◌≡◌, ◌≤◌, ◌⊎◌, ◌<◌, ◌+◌, ◌++◌, ℕ, List, None, Some, Option, length}
+use Rattle.std.specs.Prelude.{take, drop}
 use Rattle.std.specs.Prelude.{Bool, Result, Ok, Err, MatchOption, true, false, option_map}
 use Rattle.std.specs.Prelude.{encode_utf8, encode_utf8_all, unwrap_or, codes, if◌then◌else◌, ◌∷◌}
 use Rattle.std.specs.Prelude.{Contains}
 use Rattle.std.specs.Str.{bytes_eq, chars, is_utf8}
-use Rattle.interpolator_syntax.specs.Faults.{Answer, Fault, fault, no_memory, answer_of, answer_place}
+use Rattle.interpolator_syntax.specs.Faults.{Answer, Fault, fault, no_memory, answer_of}
+use Rattle.interpolator_syntax.specs.Faults.{answer_place}
 use Rattle.interpolator_syntax.specs.Faults.{missing_trait_impl, fmt, parse, missing_value}
 use Rattle.interpolator_syntax.specs.Faults.{unsupported_option, ParseFault, unclosed, expected}
-use Rattle.interpolator_syntax.specs.Faults.{invalid_width, invalid_precision, fill, iter, range_bound}
+use Rattle.interpolator_syntax.specs.Faults.{invalid_width, invalid_precision, fill, iter}
+use Rattle.interpolator_syntax.specs.Faults.{range_bound}
 use Rattle.interpolator_syntax.specs.declared.error.NumberError.{NumberError}
 use Rattle.interpolator_syntax.specs.declared.error.NumberError.TheVariants as numbers
-use Rattle.interpolator_syntax.specs.{FaultTexts.answer_text, At.Placed, At.outermost, At.text_of}
-use Rattle.interpolator_render.specs.{Views.Shown, Written.Written, Written.byte_count}
+use Rattle.interpolator_syntax.specs.{FaultTexts.answer_text, Places.Placed, Places.outermost}
+use Rattle.interpolator_syntax.specs.{Places.text_of}
+use Rattle.interpolator_render.specs.{Views.Shown, Writers.Written, Writers.byte_count}
 use Rattle.interpolator_render.specs.{declared.view.Spec.Spec, declared.view.Trait.Trait}
 use Rattle.interpolator_eval.specs.Meaning.Meanings.{Meaning, means}
 use Rattle.interpolator_eval.specs.{Slots.Slots, Meaning.Environments.environment}
 use Rattle.interpolator_eval.specs.Meaning.Outcomes.{Outcome}
 use Rattle.interpolator_border.specs.Requests.{slot_code}
 use Rattle.interpolator_border.specs.Fields.{AreTrees, field_shows, found_in, lists_lie}
-use Rattle.interpolator_border.specs.declared.answer.Answer.{Answer as Told_answer}
+use Rattle.interpolator_border.specs.declared.answer.Answer.{Answer as Reported_answer}
 use Rattle.interpolator_border.specs.declared.answer.Failure.{Failure}
 use Rattle.interpolator_border.specs.declared.answer.Failure.TheVariants as failure
 use Rattle.interpolator_border.specs.declared.fault.Fault.{Fault as Fault_numbers}
@@ -80,7 +84,7 @@ fault_numbers a = record {
 }
 
 -- what is told of a fault, with so many bytes before it
-abbrev pub fault_answer : Answer → ℕ → Told_answer
+abbrev pub fault_answer : Answer → ℕ → Reported_answer
 fault_answer a written = record {
   code = code_of_answer a;
   detail = detail_of_answer a;
@@ -91,17 +95,17 @@ fault_answer a written = record {
 }
 
 -- what is told of a whole text of so many bytes
-abbrev pub text_answer : ℕ → Told_answer
+abbrev pub text_answer : ℕ → Reported_answer
 text_answer written =
     record { code = 0; detail = 0; place = 0; length = written; message = 0; row = 0 }
 
 -- what is told by a code and its sentence alone
-abbrev pub coded_answer : ℕ → List ℕ → Told_answer
+abbrev pub coded_answer : ℕ → List ℕ → Reported_answer
 coded_answer code sentence =
     record { code = code; detail = 0; place = 0; length = 0; message = length sentence; row = 0 }
 
 -- what is told by a code alone, where there is no room for a sentence
-abbrev pub bare_answer : ℕ → Told_answer
+abbrev pub bare_answer : ℕ → Reported_answer
 bare_answer code = record (text_answer 0) { code = code }
 
 -- the sentences of the codes that are no fault's; that of memory is a fault's text
@@ -119,57 +123,57 @@ table_sentence = codes "not as many cells as columns times rows"
 
 -- what is told of a room that is too small: the place of the first character that is not in it, and
 -- how many bytes are
-abbrev pub full_answer : (place written : ℕ) → Told_answer
+abbrev pub full_answer : (place written : ℕ) → Reported_answer
 full_answer place written =
     record (coded_answer 9 full_sentence) { place = place; length = written }
 
 -- ---- rooms and places
 
 -- as many as there are places for, and no other place is changed
-abbrev pub FillsFront : {A : Type 0} → (told old new : List A) → Type 0
-FillsFront told old new = new ≡ take (length old) told ++ drop (length told) old
+abbrev pub FillsFront : {A : Type 0} → (reported old new : List A) → Type 0
+FillsFront reported old new = new ≡ take (length old) reported ++ drop (length reported) old
 
 -- a text lies at the front of the room, if it fits, and nothing else in the room is changed
-abbrev pub Told : List ℕ → List ℕ → List ℕ → Type 0
-Told text old new =
+abbrev pub Reported : List ℕ → List ℕ → List ℕ → Type 0
+Reported text old new =
     (length text ≤ length old → take (length text) new ≡ text)
     × (drop (length text) new ≡ drop (length text) old)
     × (length old < length text → new ≡ old)
 
 -- a fault, with the bytes before it, and its sentence in the room if it fits there
-abbrev pub ToldFault : Answer → (written : ℕ) → (old new : List ℕ) → Told_answer → Type 0
-ToldFault a written old new answer =
-    (answer ≡ fault_answer a written) × Told (answer_text a) old new
+abbrev pub ReportedFault : Answer → (written : ℕ) → (old new : List ℕ) → Reported_answer → Type 0
+ReportedFault a written old new answer =
+    (answer ≡ fault_answer a written) × Reported (answer_text a) old new
 
 -- the same; or memory was wanted for the sentence, and that is told with the bytes before the fault
-abbrev pub ToldBy : Answer → (written : ℕ) → (old new : List ℕ) → Told_answer → Type 0
-ToldBy a written old new answer =
-    ToldFault no_memory written old new answer ⊎ ToldFault a written old new answer
+abbrev pub ReportedBy : Answer → (written : ℕ) → (old new : List ℕ) → Reported_answer → Type 0
+ReportedBy a written old new answer =
+    ReportedFault no_memory written old new answer ⊎ ReportedFault a written old new answer
 
 -- a fault alone, and its sentence in the room if it fits there
-abbrev pub ToldAlone : (old new : List ℕ) → Told_answer → Fault → Type 0
-ToldAlone old new answer f = ToldBy (fault f) 0 old new answer
+abbrev pub ReportedAlone : (old new : List ℕ) → Reported_answer → Fault → Type 0
+ReportedAlone old new answer f = ReportedBy (fault f) 0 old new answer
 
 -- a code alone, and its sentence in the room if it fits there
-abbrev pub ToldCode : ℕ → List ℕ → (old new : List ℕ) → Told_answer → Type 0
-ToldCode code sentence old new answer =
-    (answer ≡ coded_answer code sentence) × Told sentence old new
+abbrev pub ReportedCode : ℕ → List ℕ → (old new : List ℕ) → Reported_answer → Type 0
+ReportedCode code sentence old new answer =
+    (answer ≡ coded_answer code sentence) × Reported sentence old new
 
 -- memory was wanted
-abbrev pub ToldNoMemory : (old new : List ℕ) → Told_answer → Type 0
-ToldNoMemory old new answer = ToldFault no_memory 0 old new answer
+abbrev pub ReportedNoMemory : (old new : List ℕ) → Reported_answer → Type 0
+ReportedNoMemory old new answer = ReportedFault no_memory 0 old new answer
 
 -- something is not UTF-8
-abbrev pub ToldNotUtf8 : (old new : List ℕ) → Told_answer → Type 0
-ToldNotUtf8 old new answer = ToldCode 7 not_utf8_sentence old new answer
+abbrev pub ReportedNotUtf8 : (old new : List ℕ) → Reported_answer → Type 0
+ReportedNotUtf8 old new answer = ReportedCode 7 not_utf8_sentence old new answer
 
 -- a list lies where it may not
-abbrev pub ToldLists : (old new : List ℕ) → Told_answer → Type 0
-ToldLists old new answer = ToldCode 8 lists_sentence old new answer
+abbrev pub ReportedLists : (old new : List ℕ) → Reported_answer → Type 0
+ReportedLists old new answer = ReportedCode 8 lists_sentence old new answer
 
 -- there are not as many cells as there should be
-abbrev pub ToldTable : (old new : List ℕ) → Told_answer → Type 0
-ToldTable old new answer = ToldCode 10 table_sentence old new answer
+abbrev pub ReportedTable : (old new : List ℕ) → Reported_answer → Type 0
+ReportedTable old new answer = ReportedCode 10 table_sentence old new answer
 
 -- the code of why there is no text
 abbrev pub failure_code : Failure → ℕ
@@ -179,11 +183,11 @@ failure_code failure.Table = 10
 failure_code (failure.Fault e) = code_of_answer (answer_of e)
 
 -- why there is no text
-abbrev pub ToldFailure : Failure → (old new : List ℕ) → Told_answer → Type 0
-ToldFailure failure.NotUtf8 old new answer = ToldNotUtf8 old new answer
-ToldFailure failure.Lists old new answer = ToldLists old new answer
-ToldFailure failure.Table old new answer = ToldTable old new answer
-ToldFailure (failure.Fault e) old new answer = ToldBy (answer_of e) 0 old new answer
+abbrev pub ReportedFailure : Failure → (old new : List ℕ) → Reported_answer → Type 0
+ReportedFailure failure.NotUtf8 old new answer = ReportedNotUtf8 old new answer
+ReportedFailure failure.Lists old new answer = ReportedLists old new answer
+ReportedFailure failure.Table old new answer = ReportedTable old new answer
+ReportedFailure (failure.Fault e) old new answer = ReportedBy (answer_of e) 0 old new answer
 
 -- ---- a format over a row
 
@@ -205,15 +209,15 @@ pub record Means (shows : Shows) (fields items : List Field) (format : List ℕ)
 
 -- memory was wanted, the format is not UTF-8, or a list lies where it may not: the sentence is in the
 -- room if it fits there
-abbrev pub ToldAside : (fields items : List Field) → List ℕ → (old new : List ℕ) → Told_answer
+abbrev pub ReportedAside : (fields items : List Field) → List ℕ → (old new : List ℕ) → Reported_answer
     → Type 0
-ToldAside fields items format old new answer =
-    ToldNoMemory old new answer
-    ⊎ ((ToldNotUtf8 old new answer × (is_utf8 format ≡ false))
-    ⊎ (ToldLists old new answer × (lists_lie fields items ≡ false)))
+ReportedAside fields items format old new answer =
+    ReportedNoMemory old new answer
+    ⊎ ((ReportedNotUtf8 old new answer × (is_utf8 format ≡ false))
+    ⊎ (ReportedLists old new answer × (lists_lie fields items ≡ false)))
 
 -- the same by a code alone
-abbrev pub CodedAside : (fields items : List Field) → List ℕ → Told_answer → Type 0
+abbrev pub CodedAside : (fields items : List Field) → List ℕ → Reported_answer → Type 0
 CodedAside fields items format answer =
     (answer ≡ bare_answer 6)
     ⊎ (((answer ≡ bare_answer 7) × (is_utf8 format ≡ false))
@@ -246,39 +250,39 @@ WritesRow shows lie fields items format old new (Err (failure.Fault e)) =
 -- what is told of a fault beside a text of so many bytes that was written: that the room is too small,
 -- and where, if the writer refused; or the fault, with its sentence in the other room
 abbrev pub TellsFault : (refused : Bool) → (written : ℕ) → Answer → (old new : List ℕ)
-    → Told_answer → Type 0
+    → Reported_answer → Type 0
 TellsFault true written a old new answer =
-    (answer ≡ full_answer (unwrap_or (answer_place a) 0) written) × Told full_sentence old new
-TellsFault false written a old new answer = ToldBy a written old new answer
+    (answer ≡ full_answer (unwrap_or (answer_place a) 0) written) × Reported full_sentence old new
+TellsFault false written a old new answer = ReportedBy a written old new answer
 
 -- what is told beside a text of so many bytes that was written
 abbrev pub TellsWritten : (refused : Bool) → (written : ℕ) → Option Answer → (old new : List ℕ)
-    → Told_answer → Type 0
+    → Reported_answer → Type 0
 TellsWritten refused written None old new answer = (answer ≡ text_answer written) × (new ≡ old)
 TellsWritten refused written (Some a) old new answer = TellsFault refused written a old new answer
 
 -- the same by what a call returned
 abbrev pub TellsResult : (refused : Bool) → (written : ℕ) → Result (Unit {0}) Failure
-    → (old new : List ℕ) → Told_answer → Type 0
+    → (old new : List ℕ) → Reported_answer → Type 0
 TellsResult refused written (Ok _) old new answer =
     TellsWritten refused written None old new answer
 TellsResult refused written (Err (failure.Fault e)) old new answer =
     TellsWritten refused written (Some (answer_of e)) old new answer
-TellsResult refused written (Err why) old new answer = ToldFailure why old new answer
+TellsResult refused written (Err why) old new answer = ReportedFailure why old new answer
 
 -- a text fits into the room, and lies at its front; nothing else in the room is changed
 abbrev pub Put : List ℕ → (old new : List ℕ) → Type 0
-Put text old new = (byte_count text ≤ length old) × Told (encode_utf8_all text) old new
+Put text old new = (byte_count text ≤ length old) × Reported (encode_utf8_all text) old new
 
 module _ (m : Meaning) (old new : List ℕ) (sentence_old sentence_new : List ℕ)
-    (answer : Told_answer) where
+    (answer : Reported_answer) where
   -- all of the text before the first fault lies in the room; the fault is told, with its sentence in
   -- the other room, or that there is none
   pub record WroteAll : Type 0 where
     pub put : Put (text_of m.text) old new
     pub tells : MatchOption m.fault
         ((answer ≡ text_answer (byte_count (text_of m.text))) × (sentence_new ≡ sentence_old))
-        (λ f. ToldBy (fault f) (byte_count (text_of m.text)) sentence_old sentence_new answer)
+        (λ f. ReportedBy (fault f) (byte_count (text_of m.text)) sentence_old sentence_new answer)
 
   -- the room is too small for the text before the first fault: it has the longest beginning that fits,
   -- and the place of the character after that is told
@@ -290,8 +294,8 @@ module _ (m : Meaning) (old new : List ℕ) (sentence_old sentence_new : List �
     pub split : m.text ≡ front ++ ((c, place) ∷ back)
     pub put : Put (text_of front) old new
     pub over : length old < byte_count (text_of front) + length (encode_utf8 c)
-    pub told : answer ≡ full_answer place (byte_count (text_of front))
-    pub sentence : Told full_sentence sentence_old sentence_new
+    pub reported : answer ≡ full_answer place (byte_count (text_of front))
+    pub sentence : Reported full_sentence sentence_old sentence_new
 
   -- memory was wanted: the room has exactly the text before one of the memory points
   pub record WroteSome : Type 0 where
@@ -300,7 +304,7 @@ module _ (m : Meaning) (old new : List ℕ) (sentence_old sentence_new : List �
     pub split : m.text ≡ front ++ back
     pub point : Contains m.memory_points (length front)
     pub put : Put (text_of front) old new
-    pub told : ToldFault no_memory (byte_count (text_of front)) sentence_old sentence_new answer
+    pub reported : ReportedFault no_memory (byte_count (text_of front)) sentence_old sentence_new answer
 
   -- what lies in the room, and what is told
   abbrev pub Wrote : Type 0
@@ -308,11 +312,11 @@ module _ (m : Meaning) (old new : List ℕ) (sentence_old sentence_new : List �
 
 -- a format was written over a row, up to what was told; or why nothing was
 abbrev pub WriteAnswers : (fields items : List Field) → List ℕ → (old new : List ℕ)
-    → (sentence_old sentence_new : List ℕ) → Told_answer → Type 0
+    → (sentence_old sentence_new : List ℕ) → Reported_answer → Type 0
 WriteAnswers fields items format old new sentence_old sentence_new answer =
     ((is_utf8 format ≡ true)
     × Means field_shows fields items format (λ m. Wrote m old new sentence_old sentence_new answer))
-    ⊎ (ToldAside fields items format sentence_old sentence_new answer × (new ≡ old))
+    ⊎ (ReportedAside fields items format sentence_old sentence_new answer × (new ≡ old))
 
 -- ---- a whole text
 
@@ -326,14 +330,14 @@ FailsBy shows fields items format (failure.Fault e) =
     × Means shows fields items format (λ m. Some (answer_of e) ≡ option_map fault m.fault))
 
 -- a text is told, and in the room if it fits there
-abbrev pub ToldText : List ℕ → (old new : List ℕ) → Told_answer → Type 0
-ToldText text old new answer = (answer ≡ text_answer (length text)) × Told text old new
+abbrev pub ReportedText : List ℕ → (old new : List ℕ) → Reported_answer → Type 0
+ReportedText text old new answer = (answer ≡ text_answer (length text)) × Reported text old new
 
 -- the text of a format over a row, or its fault; or why there is none
 abbrev pub FormatAnswers : Shows → (fields items : List Field) → List ℕ → (old new : List ℕ)
-    → Told_answer → Type 0
+    → Reported_answer → Type 0
 FormatAnswers shows fields items format old new answer =
     ((is_utf8 format ≡ true)
     × Means shows fields items format (λ m. MatchOption m.fault
-    (ToldText (encode_utf8_all (text_of m.text)) old new answer) (ToldAlone old new answer)))
-    ⊎ ToldAside fields items format old new answer
+    (ReportedText (encode_utf8_all (text_of m.text)) old new answer) (ReportedAlone old new answer)))
+    ⊎ ReportedAside fields items format old new answer

@@ -2,14 +2,14 @@
 use Rattle.std.specs.Prelude.{◌≡◌, ◌⊎◌, ℕ, ◌+◌, List, map, length, true, false, Option, None, Some}
 use Rattle.std.specs.Str.{chars, is_utf8}
 use Rattle.interpolator_render.specs.declared.{view.Trait.Trait, view.Trait.TheVariants.Iter}
-use Rattle.interpolator_render.specs.{Lengths.usize_count, Written.byte_count}
+use Rattle.interpolator_render.specs.{Lengths.usize_count, Writers.byte_count}
 use Rattle.interpolator_syntax.specs.SpecTexts.{Kind, of_value, of_list}
-use Rattle.interpolator_syntax.specs.{Arguments.Argument, At.outermost, Groups.Group}
+use Rattle.interpolator_syntax.specs.{Arguments.Argument, Places.outermost, Groups.Group}
 use Rattle.interpolator.specs.Template.AllArguments.{arguments_of}
 use Rattle.interpolator_border.specs.Answers.{FillsFront, bare_answer, text_answer}
 use Rattle.interpolator_border.specs.Requests.{request_of}
-use Rattle.interpolator_border.specs.declared.answer.Answer.{Answer as Told_answer}
-use Rattle.interpolator_border.specs.declared.argument.Argument.{Argument as Told_argument}
+use Rattle.interpolator_border.specs.declared.answer.Answer.{Answer as Reported_answer}
+use Rattle.interpolator_border.specs.declared.argument.Argument.{Argument as Reported_argument}
 
 -- where a group begins, and where it ends; 0 without a group
 abbrev pub group_first : Option Group → ℕ
@@ -35,8 +35,8 @@ kind_join (of_value t) = None
 kind_join (of_list l) = l.join
 
 -- an argument, in numbers
-abbrev pub told_argument : Argument → Told_argument
-told_argument x = record {
+abbrev pub reported_argument : Argument → Reported_argument
+reported_argument x = record {
   name_first = x.name_place;
   name_end = usize_count (x.name_place + byte_count x.name);
   request = request_of (kind_slot x.kind) x.spec;
@@ -47,13 +47,13 @@ told_argument x = record {
 }
 
 -- those of a format
-abbrev pub told_arguments : List ℕ → List Told_argument
-told_arguments format = map told_argument (arguments_of (outermost (chars format)))
+abbrev pub reported_arguments : List ℕ → List Reported_argument
+reported_arguments format = map reported_argument (arguments_of (outermost (chars format)))
 
 -- the arguments, and how many they are; or memory was wanted, or the format is not UTF-8
-abbrev pub ArgumentAnswers : List ℕ → (old new : List Told_argument) → Told_answer → Type 0
+abbrev pub ArgumentAnswers : List ℕ → (old new : List Reported_argument) → Reported_answer → Type 0
 ArgumentAnswers format old new answer =
-    ((is_utf8 format ≡ true) × (answer ≡ text_answer (length (told_arguments format)))
-    × FillsFront (told_arguments format) old new)
+    ((is_utf8 format ≡ true) × (answer ≡ text_answer (length (reported_arguments format)))
+    × FillsFront (reported_arguments format) old new)
     ⊎ (((answer ≡ bare_answer 6) ⊎ ((answer ≡ bare_answer 7) × (is_utf8 format ≡ false)))
     × (new ≡ old))

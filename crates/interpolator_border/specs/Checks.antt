@@ -3,21 +3,22 @@ use Rattle.std.specs.Prelude.{◌≡◌, ◌⊎◌, ℕ, List, None, Some, Optio
 use Rattle.std.specs.Prelude.{Result, Ok, Err, MatchOption, option_map, slice_get, string_bytes}
 use Rattle.std.specs.{declared.string.String.String, declared.vec.Vec.Vec, Str.chars, Str.is_utf8}
 use Rattle.interpolator_syntax.specs.Faults.{Answer, Fault, fault, no_memory, answer_of}
-use Rattle.interpolator_syntax.specs.{At.outermost, declared.error.Error.Error}
+use Rattle.interpolator_syntax.specs.{Places.outermost, declared.error.Error.Error}
 use Rattle.interpolator_eval.specs.{Slots.Slots, Meaning.AskedNames.asked_names}
 use Rattle.interpolator_eval.specs.Meaning.Environments.{environment}
 use Rattle.interpolator_eval.specs.Meaning.Resembling.{ResemblesOn}
 use Rattle.interpolator.specs.Template.NodeChecks.{first_fault, text_faults}
 use Rattle.interpolator.specs.{Explained.explanation_of, declared.explaining.Source.Source}
 use Rattle.interpolator.specs.Template.NodeSamples.{faults_over}
-use Rattle.interpolator_border.specs.Answers.{CodedAside, FillsFront, Told, ToldAlone, ToldAside}
-use Rattle.interpolator_border.specs.Answers.{ToldNoMemory, ToldNotUtf8, fault_answer}
+use Rattle.interpolator_border.specs.Answers.{CodedAside, FillsFront, Reported, ReportedAlone}
+use Rattle.interpolator_border.specs.Answers.{ReportedAside}
+use Rattle.interpolator_border.specs.Answers.{ReportedNoMemory, ReportedNotUtf8, fault_answer}
 use Rattle.interpolator_border.specs.Answers.{fault_numbers, row_means, text_answer}
 use Rattle.interpolator_border.specs.Fields.{AreTrees, field_shows, found_in, lists_lie}
-use Rattle.interpolator_border.specs.declared.answer.Answer.{Answer as Told_answer}
+use Rattle.interpolator_border.specs.declared.answer.Answer.{Answer as Reported_answer}
 use Rattle.interpolator_border.specs.declared.answer.Failure.{Failure}
 use Rattle.interpolator_border.specs.declared.answer.Failure.TheVariants as failure
-use Rattle.interpolator_border.specs.declared.explaining.Source.{Source as Told_source}
+use Rattle.interpolator_border.specs.declared.explaining.Source.{Source as Reported_source}
 use Rattle.interpolator_border.specs.declared.fault.Fault.{Fault as Fault_numbers}
 use Rattle.interpolator_border.specs.declared.field.Field.{Field}
 
@@ -69,21 +70,21 @@ FindsBytes fields items format result =
     (is_utf8 format ≡ true) × Finds (lists_lie fields items) fields items format result
 
 -- there is no fault, and nothing is told
-abbrev pub ToldNone : (old new : List ℕ) → Told_answer → Type 0
-ToldNone old new answer = (answer ≡ text_answer 0) × (new ≡ old)
+abbrev pub ReportedNone : (old new : List ℕ) → Reported_answer → Type 0
+ReportedNone old new answer = (answer ≡ text_answer 0) × (new ≡ old)
 
 -- there is no fault; or there is this one, which is told with its sentence
-abbrev pub TellsFound : Option Fault → (old new : List ℕ) → Told_answer → Type 0
+abbrev pub TellsFound : Option Fault → (old new : List ℕ) → Reported_answer → Type 0
 TellsFound found old new answer =
-    MatchOption found (ToldNone old new answer) (ToldAlone old new answer)
+    MatchOption found (ReportedNone old new answer) (ReportedAlone old new answer)
 
 -- there is no fault, or the first is told; or why that is not known
 abbrev pub CheckAnswers : (fields items : List Field) → List ℕ → List ℕ → List ℕ
-    → Told_answer → Type 0
+    → Reported_answer → Type 0
 CheckAnswers fields items format old new answer =
     ((is_utf8 format ≡ true)
     × Faults fields items format (λ fs. TellsFound (first_fault fs) old new answer))
-    ⊎ ToldAside fields items format old new answer
+    ⊎ ReportedAside fields items format old new answer
 
 -- a format makes no fault over any row that resembles these examples, where each item stands for what
 -- its field says
@@ -99,7 +100,7 @@ pub record NeverFails (fields items : List Field) (format : List ℕ) : Type 0 w
 -- all faults in numbers, as many as there are places for, and how many they are; or why they are not
 -- known
 abbrev pub FaultsAnswers : (fields items : List Field) → List ℕ → (old new : List Fault_numbers)
-    → Told_answer → Type 0
+    → Reported_answer → Type 0
 FaultsAnswers fields items format old new answer =
     ((is_utf8 format ≡ true) × Faults fields items format (λ fs.
     (answer ≡ text_answer (length fs))
@@ -122,15 +123,15 @@ CheckedAlone format (Err (failure.Fault e)) =
 CheckedAlone format (Err _) = ⊥
 
 -- there is no fault, or the first is told; or memory was wanted, or the format is not UTF-8
-abbrev pub AloneAnswers : List ℕ → (old new : List ℕ) → Told_answer → Type 0
+abbrev pub AloneAnswers : List ℕ → (old new : List ℕ) → Reported_answer → Type 0
 AloneAnswers format old new answer =
     ((is_utf8 format ≡ true) × TellsFound (alone_fault format) old new answer)
-    ⊎ (ToldNoMemory old new answer ⊎ (ToldNotUtf8 old new answer × (is_utf8 format ≡ false)))
+    ⊎ (ReportedNoMemory old new answer ⊎ (ReportedNotUtf8 old new answer × (is_utf8 format ≡ false)))
 
 -- ---- a fault as a compiler shows it
 
 -- what is told of an answer to a format of this source
-pub record Pictured (of : Told_source) (format : List ℕ) (a : Answer) (picture : List ℕ)
+pub record Pictured (of : Reported_source) (format : List ℕ) (a : Answer) (picture : List ℕ)
     : Type 0 where
   pub source : Source
   pub name_is : source.name.now ≡ of.name.now
@@ -141,11 +142,11 @@ pub record Pictured (of : Told_source) (format : List ℕ) (a : Answer) (picture
   pub is : picture ≡ explanation_of source a
 
 -- the name or the text of a source is not UTF-8
-abbrev pub NoTexts : Told_source → Type 0
+abbrev pub NoTexts : Reported_source → Type 0
 NoTexts of = (is_utf8 of.name.now ≡ false) ⊎ (is_utf8 of.text.now ≡ false)
 
 -- the picture; or why there is none
-abbrev pub PictureMade : Told_source → (format : List ℕ) → Answer
+abbrev pub PictureMade : Reported_source → (format : List ℕ) → Answer
     → {Z : Type 0} → Result (String Z) Failure → Type 0
 PictureMade of format a (Ok picture) = Pictured of format a (string_bytes picture)
 PictureMade of format a (Err failure.NotUtf8) = NoTexts of ⊎ (is_utf8 format ≡ false)
@@ -153,27 +154,27 @@ PictureMade of format a (Err (failure.Fault e)) = answer_of e ≡ no_memory
 PictureMade of format a (Err _) = ⊥
 
 -- a fault is told with its picture
-pub record ToldPicture (of : Told_source) (format : List ℕ) (old new : List ℕ)
-    (answer : Told_answer) (a : Answer) : Type 0 where
+pub record ReportedPicture (of : Reported_source) (format : List ℕ) (old new : List ℕ)
+    (answer : Reported_answer) (a : Answer) : Type 0 where
   pub picture : List ℕ
   pub of_fault : Pictured of format a picture
-  pub told : answer ≡ record (fault_answer a 0) { message = length picture }
-  pub put : Told picture old new
+  pub reported : answer ≡ record (fault_answer a 0) { message = length picture }
+  pub put : Reported picture old new
 
 -- it is; or memory was wanted, or something is not UTF-8
-abbrev pub TellsPicture : Told_source → List ℕ → Answer → (old new : List ℕ) → Told_answer
+abbrev pub TellsPicture : Reported_source → List ℕ → Answer → (old new : List ℕ) → Reported_answer
     → Type 0
 TellsPicture of format a old new answer =
-    ToldPicture of format old new answer a
-    ⊎ (ToldNoMemory old new answer
-    ⊎ (ToldNotUtf8 old new answer × (NoTexts of ⊎ (is_utf8 format ≡ false))))
+    ReportedPicture of format old new answer a
+    ⊎ (ReportedNoMemory old new answer
+    ⊎ (ReportedNotUtf8 old new answer × (NoTexts of ⊎ (is_utf8 format ≡ false))))
 
 -- there is no fault of that number, counted from 0, or it is told with its picture; or why that is not
 -- known
-abbrev pub ExplainAnswers : Told_source → (fields items : List Field) → (which : ℕ) → List ℕ
-    → List ℕ → List ℕ → Told_answer → Type 0
+abbrev pub ExplainAnswers : Reported_source → (fields items : List Field) → (which : ℕ) → List ℕ
+    → List ℕ → List ℕ → Reported_answer → Type 0
 ExplainAnswers of fields items which format old new answer =
     ((is_utf8 format ≡ true) × Faults fields items format (λ fs.
-    MatchOption (slice_get fs which) (ToldNone old new answer)
-    (λ f. ToldPicture of format old new answer (fault f))))
-    ⊎ (ToldAside fields items format old new answer ⊎ (ToldNotUtf8 old new answer × NoTexts of))
+    MatchOption (slice_get fs which) (ReportedNone old new answer)
+    (λ f. ReportedPicture of format old new answer (fault f))))
+    ⊎ (ReportedAside fields items format old new answer ⊎ (ReportedNotUtf8 old new answer × NoTexts of))

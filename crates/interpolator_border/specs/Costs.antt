@@ -1,7 +1,7 @@
 -- How much a format can write.
 use Rattle.std.specs.Prelude.{◌≡◌, ◌⊎◌, ℕ, List, true, false}
 use Rattle.std.specs.Str.{chars, is_utf8}
-use Rattle.interpolator_syntax.specs.At.{outermost}
+use Rattle.interpolator_syntax.specs.Places.{outermost}
 use Rattle.interpolator.specs.Template.NodeCosts.{text_cost, usize_cost}
 use Rattle.interpolator.specs.declared.Cost.{Cost}
 use Rattle.interpolator_border.specs.declared.costs.CostAnswer.{CostAnswer}

@@ -4,8 +4,8 @@ use Rattle.std.specs.Prelude.{length, take, drop, slice_get, None, Some, true, f
 use Rattle.std.specs.Prelude.{Option, Bool, Result, MatchResult, IsSomeAnd, Ok, Err}
 use Rattle.std.specs.Prelude.{encode_utf8_all}
 use Rattle.std.specs.{List.list_all, Str.chars, Str.is_utf8, Borrow.Bor, declared.vec.Vec.Vec}
-use Rattle.interpolator_render.specs.Written.{Buffered, byte_count}
-use Rattle.interpolator_syntax.specs.At.{outermost, text_of}
+use Rattle.interpolator_render.specs.Writers.{Buffered, byte_count}
+use Rattle.interpolator_syntax.specs.Places.{outermost, text_of}
 use Rattle.interpolator_syntax.specs.Faults.{Answer, Fault, fault, no_memory, answer_of}
 use Rattle.interpolator_syntax.specs.{FaultTexts.answer_text, declared.error.Error.Error}
 use Rattle.interpolator_eval.specs.{Contexts.found_by_pairs, Meaning.Environments.environment}
@@ -14,10 +14,11 @@ use Rattle.interpolator_eval.specs.{Slots.slots_of, declared.slots.Formattable.F
 use Rattle.interpolator.specs.Prepared.Rows.{PreparedFormat, found_by_row, pair_names}
 use Rattle.interpolator.specs.{Template.NodeChecks.first_fault, Template.NodeSamples.faults_over}
 use Rattle.interpolator.specs.Template.Collecting.{AnswersFirst}
-use Rattle.interpolator_border.specs.Answers.{Told, ToldAlone, ToldLists, ToldNoMemory, ToldNotUtf8}
-use Rattle.interpolator_border.specs.Answers.{ToldTable, fault_answer, text_answer}
+use Rattle.interpolator_border.specs.Answers.{Reported, ReportedAlone, ReportedLists}
+use Rattle.interpolator_border.specs.Answers.{ReportedNoMemory, ReportedNotUtf8}
+use Rattle.interpolator_border.specs.Answers.{ReportedTable, fault_answer, text_answer}
 use Rattle.interpolator_border.specs.Fields.{all_within, field_shows, field_slots}
-use Rattle.interpolator_border.specs.declared.answer.Answer.{Answer as Told_answer}
+use Rattle.interpolator_border.specs.declared.answer.Answer.{Answer as Reported_answer}
 use Rattle.interpolator_border.specs.declared.answer.Failure.{Failure}
 use Rattle.interpolator_border.specs.declared.answer.Failure.TheVariants as failure
 use Rattle.interpolator_border.specs.{declared.field.Field.Field, declared.table.RowFault.RowFault}
@@ -119,32 +120,32 @@ module _ (names : List (List ℕ)) (format : List ℕ) (width : ℕ) (cells : Li
       × (ends_new ≡ rows_ends (length ends_old))) (FailsIn ends_old ends_new)
 
 -- a fault after so many rows, and its sentence in the room if it fits there
-abbrev pub ToldAtRow : Answer → (row : ℕ) → (old new : List ℕ) → Told_answer → Type 0
-ToldAtRow a row old new answer =
-    (answer ≡ record (fault_answer a 0) { row = row }) × Told (answer_text a) old new
+abbrev pub ReportedAtRow : Answer → (row : ℕ) → (old new : List ℕ) → Reported_answer → Type 0
+ReportedAtRow a row old new answer =
+    (answer ≡ record (fault_answer a 0) { row = row }) × Reported (answer_text a) old new
 
 module _ (names : List (List ℕ)) (format : List ℕ) (width : ℕ) (cells : List Field) where
   -- all rows are written: their texts one after the other, and where each ends
-  pub record AllRows (count : ℕ) (ends old new : List ℕ) (answer : Told_answer) : Type 0 where
+  pub record AllRows (count : ℕ) (ends old new : List ℕ) (answer : Reported_answer) : Type 0 where
     pub faultless : Faultless names format width cells count
     pub ends_are : ends ≡ rows_ends names format width cells count
-    pub told : answer ≡ text_answer (byte_count (rows_text names format width cells count))
-    pub put : Told (encode_utf8_all (rows_text names format width cells count)) old new
+    pub reported : answer ≡ text_answer (byte_count (rows_text names format width cells count))
+    pub put : Reported (encode_utf8_all (rows_text names format width cells count)) old new
 
   -- a row is not written, before which none has a fault: its fault is told, or that memory was wanted,
   -- and where each row before it ends; no other end is changed
-  pub record StopsInRow (ends_old ends_new old new : List ℕ) (answer : Told_answer) : Type 0 where
+  pub record StopsInRow (ends_old ends_new old new : List ℕ) (answer : Reported_answer) : Type 0 where
     pub row : ℕ
     pub within : row < length ends_old
     pub before : Faultless names format width cells row
     pub ends_before : take row ends_new ≡ rows_ends names format width cells row
     pub ends_after : drop row ends_new ≡ drop row ends_old
-    pub told : ToldAtRow no_memory row old new answer
+    pub reported : ReportedAtRow no_memory row old new answer
         ⊎ IsSomeAnd (row_means names format width cells row).fault
-        (λ f. ToldAtRow (fault f) row old new answer)
+        (λ f. ReportedAtRow (fault f) row old new answer)
 
   -- all rows are written, or one is not
-  abbrev pub TellsRows : (ends_old ends_new : List ℕ) → (old new : List ℕ) → Told_answer → Type 0
+  abbrev pub TellsRows : (ends_old ends_new : List ℕ) → (old new : List ℕ) → Reported_answer → Type 0
   TellsRows ends_old ends_new old new answer =
       AllRows (length ends_old) ends_new old new answer
       ⊎ StopsInRow ends_old ends_new old new answer
@@ -152,26 +153,26 @@ module _ (names : List (List ℕ)) (format : List ℕ) (width : ℕ) (cells : Li
 -- why no row is written: memory was wanted, the format or a name is not UTF-8, a list lies where it
 -- may not, or there are not as many cells as there should be
 abbrev pub RowsAside : (columns cells : List Field) → List ℕ → (count : ℕ) → (old new : List ℕ)
-    → Told_answer → Type 0
+    → Reported_answer → Type 0
 RowsAside columns cells format count old new answer =
-    ToldNoMemory old new answer
-    ⊎ ((ToldNotUtf8 old new answer
+    ReportedNoMemory old new answer
+    ⊎ ((ReportedNotUtf8 old new answer
     × ((is_utf8 format ≡ false) ⊎ (list_all has_text_name columns ≡ false)))
-    ⊎ ((ToldLists old new answer × ((all_within 0 columns ≡ false) ⊎ (all_within 0 cells ≡ false)))
-    ⊎ (ToldTable old new answer × (length cells ≢ count * length columns))))
+    ⊎ ((ReportedLists old new answer × ((all_within 0 columns ≡ false) ⊎ (all_within 0 cells ≡ false)))
+    ⊎ (ReportedTable old new answer × (length cells ≢ count * length columns))))
 
 -- no row is written, and no end is changed: the first fault of the format over the columns is told,
 -- or why that is not known
 abbrev pub TellsNoRow : (columns cells : List Field) → List ℕ → (count : ℕ) → (old new : List ℕ)
-    → Told_answer → Type 0
+    → Reported_answer → Type 0
 TellsNoRow columns cells format count old new answer =
     ((is_utf8 format ≡ true)
-    × ColumnFaults columns format (λ fs. IsSomeAnd (first_fault fs) (ToldAlone old new answer)))
+    × ColumnFaults columns format (λ fs. IsSomeAnd (first_fault fs) (ReportedAlone old new answer)))
     ⊎ RowsAside columns cells format count old new answer
 
 -- all rows are told, or up to one that is not written; or why none is
 abbrev pub RowsAnswers : (columns cells : List Field) → List ℕ → (ends_old ends_new : List ℕ)
-    → (old new : List ℕ) → Told_answer → Type 0
+    → (old new : List ℕ) → Reported_answer → Type 0
 RowsAnswers columns cells format ends_old ends_new old new answer =
     ((is_utf8 format ≡ true)
     × TellsRows (column_names columns) format (length columns) cells ends_old ends_new old new answer)

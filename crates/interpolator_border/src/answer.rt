@@ -1,7 +1,7 @@
 //! What a call returns.
 ghost use Rattle.std.specs.Prelude.{◌≡◌, ◌<◌, length};
-ghost use Rattle.interpolator_border.specs.Answers.{FillsFront, Told, ToldBy, ToldCode};
-ghost use Rattle.interpolator_border.specs.Answers.{ToldFailure, bare_answer, failure_code};
+ghost use Rattle.interpolator_border.specs.Answers.{FillsFront, Reported, ReportedBy, ReportedCode};
+ghost use Rattle.interpolator_border.specs.Answers.{ReportedFailure, bare_answer, failure_code};
 ghost use Rattle.interpolator_border.specs.Answers.{fault_answer, full_answer, full_sentence};
 ghost use Rattle.interpolator_border.specs.Answers.{text_answer};
 ghost use Rattle.interpolator_syntax.specs.Faults.{answer_of};
@@ -56,7 +56,7 @@ pub(crate) enum Failure {
 
 /// Copies a text to the front of the room, if it fits.
 pub(crate) fn put(room: &mut [u8], text: &[u8])
-    ensures { Told text.now room.old room.new }
+    ensures { Reported text.now room.old room.new }
 {
     if text.len() <= room.len() {
         let (front, _) = room.split_at_mut(text.len());
@@ -65,12 +65,12 @@ pub(crate) fn put(room: &mut [u8], text: &[u8])
 }
 
 /// Copies values into the places, as many as there are of both.
-pub(crate) fn put_front<T: Copy>(told: &[T], places: &mut [T])
-    ensures { FillsFront told.now places.old places.new }
+pub(crate) fn put_front<T: Copy>(reported: &[T], places: &mut [T])
+    ensures { FillsFront reported.now places.old places.new }
 {
-    let count = told.len().min(places.len());
+    let count = reported.len().min(places.len());
     let (front, _) = places.split_at_mut(count);
-    front.copy_from_slice(&told[..count]);
+    front.copy_from_slice(&reported[..count]);
 }
 
 /// Success, with a text of `length` bytes.
@@ -96,7 +96,7 @@ pub(crate) fn bare(code: u32) -> Answer
 
 /// A code, with its sentence.
 pub(crate) fn coded(code: u32, sentence: &str, room: &mut [u8]) -> Answer
-    ensures { ToldCode code sentence.now room.old room.new result }
+    ensures { ReportedCode code sentence.now room.old room.new result }
 {
     put(room, sentence.as_bytes());
     Answer {
@@ -108,7 +108,7 @@ pub(crate) fn coded(code: u32, sentence: &str, room: &mut [u8]) -> Answer
 
 /// The answer for a fault after `length` bytes, whose sentence has `message` bytes.
 fn fault_answer(error: &Error, length: usize, message: usize) -> Answer
-    ensures told { result
+    ensures reported { result
         ≡ record (fault_answer (answer_of error.now) length) { message = message } }
     ensures some { 0 < result.code }
 {
@@ -124,8 +124,8 @@ fn fault_answer(error: &Error, length: usize, message: usize) -> Answer
 }
 
 /// A fault, with the bytes before it and its sentence.
-pub(crate) fn told_fault(alloc: Global, error: &Error, length: usize, room: &mut [u8]) -> Answer
-    ensures fault { ToldBy (answer_of error.now) length room.old room.new result }
+pub(crate) fn reported_fault(alloc: Global, error: &Error, length: usize, room: &mut [u8]) -> Answer
+    ensures fault { ReportedBy (answer_of error.now) length room.old room.new result }
     ensures some { 0 < result.code }
 {
     match format!(in alloc; "{error}") {
@@ -144,15 +144,15 @@ pub(crate) fn told_fault(alloc: Global, error: &Error, length: usize, room: &mut
 /// not pay for it.
 #[cold]
 #[inline(never)]
-pub(crate) fn told_failure(alloc: Global, failure: &Failure, room: &mut [u8]) -> Answer
-    ensures failure { ToldFailure failure.now room.old room.new result }
+pub(crate) fn reported_failure(alloc: Global, failure: &Failure, room: &mut [u8]) -> Answer
+    ensures failure { ReportedFailure failure.now room.old room.new result }
     ensures some { 0 < result.code }
 {
     match failure {
         Failure::NotUtf8 => coded(NOT_UTF8, "not UTF-8", room),
         Failure::Lists => coded(LISTS, "a list lies where it may not", room),
         Failure::Table => coded(TABLE, "not as many cells as columns times rows", room),
-        Failure::Fault(error) => told_fault(alloc, error, 0, room),
+        Failure::Fault(error) => reported_fault(alloc, error, 0, room),
     }
 }
 
@@ -169,21 +169,21 @@ pub(crate) fn failure_code(failure: &Failure) -> u32
 }
 
 /// The room is too small from a place of the format on, after `length` bytes of the text.
-pub(crate) fn told_full(place: usize, length: usize, sentence: &mut [u8]) -> Answer
+pub(crate) fn reported_full(place: usize, length: usize, sentence: &mut [u8]) -> Answer
     ensures answer { result ≡ full_answer place length }
-    ensures room { Told full_sentence sentence.old sentence.new }
+    ensures room { Reported full_sentence sentence.old sentence.new }
 {
-    let told = coded(FULL, "the room is too small", sentence);
+    let reported = coded(FULL, "the room is too small", sentence);
     Answer {
         place,
         length,
-        ..told
+        ..reported
     }
 }
 
 /// A fault, with this text for its sentence.
 pub(crate) fn pictured(error: &Error, picture: &str, room: &mut [u8]) -> Answer
-    ensures room { Told picture.now room.old room.new }
+    ensures room { Reported picture.now room.old room.new }
     ensures answer { result
         ≡ record (fault_answer (answer_of error.now) 0) { message = length picture.now } }
 {

@@ -1,11 +1,11 @@
 //! The arguments of a format.
 ghost use Rattle.std.specs.Prelude.{◌≡◌, ◌+◌, IfErr, IfOk, length, map, option_map};
 ghost use Rattle.std.specs.Str.{chars};
-ghost use Rattle.interpolator_render.specs.{Lengths.usize_count, Written.byte_count};
+ghost use Rattle.interpolator_render.specs.{Lengths.usize_count, Writers.byte_count};
 ghost use Rattle.interpolator_syntax.specs.Faults.{answer_of, no_memory};
 ghost use Rattle.interpolator_syntax.specs.{Arguments.argument_of, Groups.group_of};
 ghost use Rattle.interpolator_border.specs.Arguments.{ArgumentAnswers, group_end, group_first};
-ghost use Rattle.interpolator_border.specs.Arguments.{told_argument, told_arguments};
+ghost use Rattle.interpolator_border.specs.Arguments.{reported_argument, reported_arguments};
 ghost use Rattle.interpolator_border.specs.Requests.{request_of};
 
 use crate::answer::{Answer, NOT_UTF8, bare, put_front, well};
@@ -65,7 +65,7 @@ fn group_end(group: Option<Group<'_>>) -> usize
 }
 
 /// What a value asks for, in numbers.
-fn told_value(argument: &Parsed<'_>, slot: Trait) -> Argument
+fn reported_value(argument: &Parsed<'_>, slot: Trait) -> Argument
     ensures { result ≡ record {
       name_first = argument.now.name_place;
       name_end = usize_count (argument.now.name_place
@@ -91,11 +91,11 @@ fn told_value(argument: &Parsed<'_>, slot: Trait) -> Argument
 }
 
 /// An argument, in numbers.
-fn told_argument(argument: &Parsed<'_>) -> Argument
-    ensures { result ≡ told_argument (argument_of argument.now) }
+fn reported_argument(argument: &Parsed<'_>) -> Argument
+    ensures { result ≡ reported_argument (argument_of argument.now) }
 {
     match argument.kind {
-        Kind::Value(slot) => told_value(argument, slot),
+        Kind::Value(slot) => reported_value(argument, slot),
         Kind::List {
             range: _,
             item,
@@ -105,32 +105,32 @@ fn told_argument(argument: &Parsed<'_>) -> Argument
             item_end: group_end(item),
             join_first: group_first(join),
             join_end: group_end(join),
-            ..told_value(argument, Trait::Iter)
+            ..reported_value(argument, Trait::Iter)
         },
     }
 }
 
 /// The arguments, in numbers.
-fn told_arguments(alloc: Global, arguments: &[Parsed<'_>]) -> Result<Vec<Argument>, AllocError>
-    ensures { IfOk result (λ told. told.items
-        ≡ map told_argument (map argument_of arguments.now)) }
+fn reported_arguments(alloc: Global, arguments: &[Parsed<'_>]) -> Result<Vec<Argument>, AllocError>
+    ensures { IfOk result (λ reported. reported.items
+        ≡ map reported_argument (map argument_of arguments.now)) }
 {
-    let mut told = Vec::with_capacity(alloc, arguments.len())?;
+    let mut reported = Vec::with_capacity(alloc, arguments.len())?;
     for argument in arguments {
-        told.push(told_argument(argument))?;
+        reported.push(reported_argument(argument))?;
     }
-    Ok(told)
+    Ok(reported)
 }
 
 /// The arguments of a text, in numbers.
 fn arguments_in(alloc: Global, text: &str) -> Result<Vec<Argument>, Error>
-    ensures ok { IfOk result (λ told. told.items ≡ told_arguments text.now) }
+    ensures ok { IfOk result (λ reported. reported.items ≡ reported_arguments text.now) }
     ensures refused { IfErr result (λ error. answer_of error ≡ no_memory) }
 {
     let template = Template::parse(alloc, text)?;
     let arguments = template.arguments(alloc)?;
-    let told = told_arguments(alloc, &arguments)?;
-    Ok(told)
+    let reported = reported_arguments(alloc, &arguments)?;
+    Ok(reported)
 }
 
 /// The arguments of a format in order, and after a list those of its groups. As many as fit are
@@ -142,9 +142,9 @@ pub fn arguments(alloc: Global, format: &[u8], places: &mut [Argument]) -> Answe
         return bare(NOT_UTF8);
     };
     match arguments_in(alloc, text) {
-        Ok(told) => {
-            put_front(&told, places);
-            well(told.len())
+        Ok(reported) => {
+            put_front(&reported, places);
+            well(reported.len())
         }
         Err(_) => bare(NO_MEMORY),
     }

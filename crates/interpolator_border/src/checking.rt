@@ -8,7 +8,7 @@ ghost use Rattle.interpolator_border.specs.Checks.{FoundAt, NeverFails};
 ghost use Rattle.interpolator_border.specs.Fields.{field_slots, lie_in_levels, lists_lie};
 
 use crate::answer::{
-    Answer, Failure, bare, failure_code, put_front, told_failure, told_fault, well,
+    Answer, Failure, bare, failure_code, put_front, reported_failure, reported_fault, well,
 };
 use crate::bytes::text_of;
 use crate::fault::{Fault, NO_MEMORY, all_numbers};
@@ -118,7 +118,7 @@ pub(crate) fn fault_at(found: &[Error], which: usize) -> Option<&Error>
 
 /// The first fault that a format has by itself or with a row of examples. After code 0 no row that
 /// resembles the examples makes a fault.
-#[tactic(auto, using(crate::proofs::CheckLemmas::first_told))]
+#[tactic(auto, using(crate::proofs::CheckLemmas::first_reported))]
 pub fn check<'a>(alloc: Global, format: &[u8], row: FieldRow<'a>, room: &mut [u8]) -> Answer
     ensures answer { CheckAnswers row.entry.fields.now row.entry.items.now format.now room.old
         room.new result }
@@ -128,10 +128,10 @@ pub fn check<'a>(alloc: Global, format: &[u8], row: FieldRow<'a>, room: &mut [u8
     a_checked_format_means_no_fault::<Field<'a>, Field<'a>>();
     match find_faults(alloc, format, row) {
         Ok(found) => match fault_at(&found, 0) {
-            Some(error) => told_fault(alloc, error, 0, room),
+            Some(error) => reported_fault(alloc, error, 0, room),
             None => well(0),
         },
-        Err(failure) => told_failure(alloc, &failure, room),
+        Err(failure) => reported_failure(alloc, &failure, room),
     }
 }
 
@@ -143,9 +143,9 @@ pub fn faults<'a>(alloc: Global, format: &[u8], row: FieldRow<'a>, places: &mut 
 {
     match find_faults(alloc, format, row) {
         Ok(found) => match all_numbers(alloc, &found) {
-            Ok(told) => {
-                put_front(&told, places);
-                well(told.len())
+            Ok(reported) => {
+                put_front(&reported, places);
+                well(reported.len())
             }
             Err(_) => bare(NO_MEMORY),
         },
@@ -170,6 +170,6 @@ pub fn check_alone(alloc: Global, format: &[u8], room: &mut [u8]) -> Answer
 {
     match check_text(alloc, format) {
         Ok(()) => well(0),
-        Err(failure) => told_failure(alloc, &failure, room),
+        Err(failure) => reported_failure(alloc, &failure, room),
     }
 }

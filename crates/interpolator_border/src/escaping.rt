@@ -1,6 +1,6 @@
 //! The whole text of a row, its values escaped.
 ghost use Rattle.std.specs.Prelude.{◌≡◌, ◌<◌, IfSome};
-ghost use Rattle.interpolator_border.specs.Answers.{FormatAnswers, Told, ToldCode};
+ghost use Rattle.interpolator_border.specs.Answers.{FormatAnswers, Reported, ReportedCode};
 ghost use Rattle.interpolator_border.specs.Escaped.{EscapedBy, TellsPlace, escape_numbered};
 ghost use Rattle.interpolator_border.specs.Escaped.{misplaced_answer, no_escape_sentence, why_code};
 ghost use Rattle.interpolator_border.specs.Fields.{field_shows};
@@ -8,7 +8,7 @@ ghost use Rattle.interpolator_escapes.specs.{Formats.escaped_shows, PlaceTexts.w
 
 use crate::answer::{Answer, coded};
 use crate::bytes::text_of;
-use crate::formatting::{format_text, told_no_memory, told_not_utf8};
+use crate::formatting::{format_text, reported_no_memory, reported_not_utf8};
 use crate::row::FieldRow;
 use interpolator::{Escape, Misplaced, PlaceError, Why};
 use interpolator_escapes::{
@@ -63,25 +63,25 @@ fn why_sentence(why: Why) -> &'static str
 /// A value is out of place.
 #[cold]
 #[inline(never)]
-fn told_misplaced(misplaced: Misplaced, room: &mut [u8]) -> Answer
+fn reported_misplaced(misplaced: Misplaced, room: &mut [u8]) -> Answer
     ensures answer { result ≡ misplaced_answer misplaced }
-    ensures room { Told (why_text misplaced.why) room.old room.new }
+    ensures room { Reported (why_text misplaced.why) room.old room.new }
 {
-    let told = coded(MISPLACED, why_sentence(misplaced.why), room);
+    let reported = coded(MISPLACED, why_sentence(misplaced.why), room);
     Answer {
         detail: why_code(misplaced.why),
         place: misplaced.place,
-        ..told
+        ..reported
     }
 }
 
 /// It is not known that all values stand.
-fn told_place(alloc: Global, error: &PlaceError, room: &mut [u8]) -> Answer
+fn reported_place(alloc: Global, error: &PlaceError, room: &mut [u8]) -> Answer
     ensures { TellsPlace error.now room.old room.new result }
 {
     match *error {
-        PlaceError::Misplaced(misplaced) => told_misplaced(misplaced, room),
-        PlaceError::NoMemory => told_no_memory(alloc, room),
+        PlaceError::Misplaced(misplaced) => reported_misplaced(misplaced, room),
+        PlaceError::NoMemory => reported_no_memory(alloc, room),
     }
 }
 
@@ -118,7 +118,7 @@ fn place_and_format<'a>(
 {
     match check_format(alloc, escape, text) {
         Ok(_) => format_escaped(alloc, escape, text, row, room),
-        Err(error) => told_place(alloc, &error, room),
+        Err(error) => reported_place(alloc, &error, room),
     }
 }
 
@@ -135,7 +135,7 @@ fn escaped_by<'a>(
 {
     match text_of(format) {
         Some(text) => place_and_format(alloc, escape, text, row, room),
-        None => told_not_utf8(alloc, room),
+        None => reported_not_utf8(alloc, room),
     }
 }
 
@@ -153,7 +153,7 @@ pub fn escaped<'a>(
         row.entry.items.now format.now room.old room.new result }
     ensures escaped { IfSome (escape_numbered escape) (λ e. EscapedBy e row.entry.fields.now
         row.entry.items.now format.now room.old room.new result) }
-    ensures unknown { 5 < escape → ToldCode 12 no_escape_sentence room.old room.new result }
+    ensures unknown { 5 < escape → ReportedCode 12 no_escape_sentence room.old room.new result }
 {
     if escape == 0 {
         return crate::formatting::format(alloc, format, row, room);

@@ -2,7 +2,7 @@
 ghost use Rattle.interpolator_syntax.specs.Faults.{answer_of};
 ghost use Rattle.interpolator_border.specs.Checks.{ExplainAnswers, PictureMade, TellsPicture};
 
-use crate::answer::{Answer, Failure, pictured, told_failure, well};
+use crate::answer::{Answer, Failure, pictured, reported_failure, well};
 use crate::bytes::text_of;
 use crate::checking::{fault_at, find_faults};
 use crate::row::FieldRow;
@@ -67,7 +67,7 @@ fn tell_picture(alloc: Global, located: Located<'_>, error: &Error, room: &mut [
 {
     match picture(alloc, located, error) {
         Ok(picture) => pictured(error, picture.as_str(), room),
-        Err(failure) => told_failure(alloc, &failure, room),
+        Err(failure) => reported_failure(alloc, &failure, room),
     }
 }
 
@@ -88,6 +88,6 @@ pub fn explain<'a>(
             Some(error) => tell_picture(alloc, located, error, room),
             None => well(0),
         },
-        Err(failure) => told_failure(alloc, &failure, room),
+        Err(failure) => reported_failure(alloc, &failure, room),
     }
 }

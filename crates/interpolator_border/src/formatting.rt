@@ -1,12 +1,12 @@
 //! The whole text of a row.
 ghost use Rattle.std.specs.Prelude.{IfOk, IsUtf8};
-ghost use Rattle.interpolator_border.specs.Answers.{FormatAnswers, ToldBy, ToldNotUtf8};
+ghost use Rattle.interpolator_border.specs.Answers.{FormatAnswers, ReportedBy, ReportedNotUtf8};
 ghost use Rattle.interpolator_border.specs.Fields.{field_shows};
 ghost use Rattle.interpolator_border.specs.Measures.{TellsText, TellsWhy, measured};
 ghost use Rattle.interpolator_eval.specs.Escaping.{shows_by};
 ghost use Rattle.interpolator_syntax.specs.Faults.{no_memory};
 
-use crate::answer::{Answer, Failure, put, told_failure, well};
+use crate::answer::{Answer, Failure, put, reported_failure, well};
 use crate::bytes::text_of;
 use crate::measured::Measured;
 use crate::row::FieldRow;
@@ -30,23 +30,23 @@ fn zeros(alloc: Global, count: usize) -> Result<Vec<u8>, AllocError>
 /// Says that memory was refused.
 #[cold]
 #[inline(never)]
-pub(crate) fn told_no_memory(alloc: Global, room: &mut [u8]) -> Answer
-    ensures { ToldBy no_memory 0 room.old room.new result }
+pub(crate) fn reported_no_memory(alloc: Global, room: &mut [u8]) -> Answer
+    ensures { ReportedBy no_memory 0 room.old room.new result }
 {
-    told_failure(alloc, &Failure::Fault(Error::NoMemory), room)
+    reported_failure(alloc, &Failure::Fault(Error::NoMemory), room)
 }
 
 /// Says that a format is not UTF-8.
 #[cold]
 #[inline(never)]
-pub(crate) fn told_not_utf8(alloc: Global, room: &mut [u8]) -> Answer
-    ensures { ToldNotUtf8 room.old room.new result }
+pub(crate) fn reported_not_utf8(alloc: Global, room: &mut [u8]) -> Answer
+    ensures { ReportedNotUtf8 room.old room.new result }
 {
-    told_failure(alloc, &Failure::NotUtf8, room)
+    reported_failure(alloc, &Failure::NotUtf8, room)
 }
 
 /// The answer for a text, which comes to the front of the room if it fits.
-fn told_text(alloc: Global, made: &Measured, room: &mut [u8]) -> Answer
+fn reported_text(alloc: Global, made: &Measured, room: &mut [u8]) -> Answer
     ensures { TellsText (measured made.now).text room.old room.new result }
 {
     let length = made.len();
@@ -58,20 +58,20 @@ fn told_text(alloc: Global, made: &Measured, room: &mut [u8]) -> Answer
             put(room, text.as_bytes());
             well(length)
         }
-        None => told_no_memory(alloc, room),
+        None => reported_no_memory(alloc, room),
     }
 }
 
 /// The answer for a text that is not whole. A writer that refused lacked memory.
 #[cold]
 #[inline(never)]
-fn told_why(alloc: Global, failure: &Failure, refused: bool, room: &mut [u8]) -> Answer
+fn reported_why(alloc: Global, failure: &Failure, refused: bool, room: &mut [u8]) -> Answer
     ensures { TellsWhy refused failure.now room.old room.new result }
 {
     if refused {
-        return told_failure(alloc, &Failure::Fault(Error::NoMemory), room);
+        return reported_failure(alloc, &Failure::Fault(Error::NoMemory), room);
     }
-    told_failure(alloc, failure, room)
+    reported_failure(alloc, failure, room)
 }
 
 /// The text of a format with a row, its values by the escaper, or the fault's sentence, at the front of
@@ -89,12 +89,12 @@ pub(crate) fn format_text<'a, E: Escaper>(
 {
     let first = text.len().saturating_add(text.len().min(MOST_MORE));
     let Ok(places) = zeros(alloc, first.min(room.len())) else {
-        return told_no_memory(alloc, room);
+        return reported_no_memory(alloc, room);
     };
     let mut out = Measured::new(places, room.len());
     match write_row::<Measured, E>(alloc, &mut out, text, row) {
-        Ok(()) => told_text(alloc, &out, room),
-        Err(failure) => told_why(alloc, &failure, out.refused(), room),
+        Ok(()) => reported_text(alloc, &out, room),
+        Err(failure) => reported_why(alloc, &failure, out.refused(), room),
     }
 }
 
@@ -105,6 +105,6 @@ pub fn format<'a>(alloc: Global, format: &[u8], row: FieldRow<'a>, room: &mut [u
 {
     match text_of(format) {
         Some(text) => format_text::<Unescaped>(alloc, text, row, room),
-        None => told_not_utf8(alloc, room),
+        None => reported_not_utf8(alloc, room),
     }
 }

@@ -19,7 +19,6 @@ mod field;
 mod formatting;
 mod levels;
 mod measured;
-mod names;
 mod offsets;
 mod request;
 mod row;

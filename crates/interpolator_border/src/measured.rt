@@ -2,7 +2,7 @@
 ghost use Rattle.std.specs.Prelude.{◌≡◌, ◌<◌, ◌∷◌, [], ◌++◌, false, true, length};
 ghost use Rattle.std.specs.Prelude.{encode_utf8, IfSome, IsUtf8, MatchResult};
 ghost use Rattle.std.specs.Str.{chars};
-ghost use Rattle.interpolator_render.specs.Written.{byte_count, plain};
+ghost use Rattle.interpolator_render.specs.Writers.{byte_count, plain};
 
 use crate::taken::Taken;
 use interpolator::{Refusal, TextBuffer, TextWrite};
@@ -37,7 +37,7 @@ pub(crate) struct Measured {
 
 impl Measured {
     ghost use Rattle.interpolator_border.specs.Measures.{measured};
-    ghost use Rattle.interpolator_render.specs.Written.{Appends, Refuses};
+    ghost use Rattle.interpolator_render.specs.Writers.{Appends, Refuses};
 
     /// A writer that has taken nothing, and keeps at most `left` bytes, the first of them in these
     /// places.
@@ -137,7 +137,7 @@ impl Measured {
 
 impl Measured {
     ghost use Rattle.interpolator_border.specs.Measures.{measured};
-    ghost use Rattle.interpolator_render.specs.Written.{RefusesWhole};
+    ghost use Rattle.interpolator_render.specs.Writers.{RefusesWhole};
 
     /// Refuses a run of copies that does not fit, if counting it would take too long.
     fn reserve_count(&mut self, bytes: usize) -> Result<(), Refusal>
@@ -153,7 +153,7 @@ impl Measured {
 
 impl TextWrite for Measured {
     ghost use Rattle.interpolator_border.specs.Measures.{measured};
-    ghost use Rattle.interpolator_render.specs.Written.{Appends, Refuses};
+    ghost use Rattle.interpolator_render.specs.Writers.{Appends, Refuses};
 
     ghost written = { λ m. measured m };
 

@@ -5,9 +5,12 @@ ghost use Rattle.interpolator_eval.specs.Slots.{slots_of};
 ghost use Rattle.interpolator_border.specs.Fields.{found_in, last_named};
 
 use crate::field::Field;
-use crate::names::{SHORT, same_name};
 use crate::slots::field_slots;
 use interpolator::{Context, Formattable};
+use interpolator_eval::same_bytes;
+
+/// The most bytes of a name that is compared without a call.
+const SHORT: usize = 16;
 
 /// A row: its fields, and the items of the lists among them.
 #[derive(Clone, Copy)]
@@ -48,7 +51,7 @@ fn last_field<'s, 'a>(fields: &'s [Field<'a>], name: &str) -> Option<&'s Field<'
     let mut left = fields.len();
     while left > 0 {
         left -= 1;
-        if same_name(fields[left].name, name.as_bytes()) {
+        if same_bytes(fields[left].name, name.as_bytes()) {
             return Some(&fields[left]);
         }
     }

@@ -6,11 +6,11 @@ ghost use Rattle.interpolator_border.specs.Fields.{field_slots};
 ghost use Rattle.interpolator_border.specs.Tables.{Appended, MadeRows, PairsMade, Prepares};
 ghost use Rattle.interpolator_border.specs.Tables.{RowsAnswers, TellsRows, cell_at, values_mean};
 
-use crate::answer::{Answer, Failure, put, told_failure, told_fault, well};
+use crate::answer::{Answer, Failure, put, reported_failure, reported_fault, well};
 use crate::bytes::text_of;
 use crate::cells::CellRow;
 use crate::field::Field;
-use crate::formatting::{MOST_MORE, told_no_memory};
+use crate::formatting::{MOST_MORE, reported_no_memory};
 use crate::levels::all_within;
 use crate::slots::field_slots;
 use interpolator::{Error, Formattable, Pairs, Prepared, Template, TextBuffer, TextWrite};
@@ -184,7 +184,7 @@ fn rows_of<'a>(
         }
         Err(wrong) => Answer {
             row: wrong.row,
-            ..told_fault(alloc, &wrong.error, 0, room)
+            ..reported_fault(alloc, &wrong.error, 0, room)
         },
     }
 }
@@ -204,18 +204,18 @@ pub fn rows<'a>(
         room.old room.new result }
 {
     if !all_within(0, table.columns) || !all_within(0, table.cells) {
-        return told_failure(alloc, &Failure::Lists, room);
+        return reported_failure(alloc, &Failure::Lists, room);
     }
     if !is_table(table.columns.len(), ends.len(), table.cells.len()) {
-        return told_failure(alloc, &Failure::Table, room);
+        return reported_failure(alloc, &Failure::Table, room);
     }
     let line = match prepare(alloc, format, table.columns) {
         Ok(line) => line,
-        Err(failure) => return told_failure(alloc, &failure, room),
+        Err(failure) => return reported_failure(alloc, &failure, room),
     };
     match buffer_with(alloc, first_bytes(format.len(), ends.len(), room.len())) {
         Ok(out) => rows_of(alloc, out, &line, table, ends, room),
-        Err(_) => told_no_memory(alloc, room),
+        Err(_) => reported_no_memory(alloc, room),
     }
 }
 

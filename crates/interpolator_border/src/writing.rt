@@ -8,7 +8,7 @@ ghost use Rattle.interpolator_border.specs.Fields.{lists_lie};
 ghost use Rattle.interpolator_eval.specs.{Escaping.shows_by, Slots.slots_of};
 ghost use Rattle.interpolator_syntax.specs.Faults.{answer_of};
 
-use crate::answer::{Answer, Failure, put, told_failure, told_fault, told_full, well};
+use crate::answer::{Answer, Failure, put, reported_failure, reported_fault, reported_full, well};
 use crate::bytes::text_of;
 use crate::field::Field;
 use crate::levels::{Known, LEVELS, all_lie_within, next_level, settled};
@@ -127,7 +127,7 @@ pub(crate) fn write_row<'a, W: TextWrite, E: Escaper>(
 }
 
 /// The answer for a fault after the bytes of the text that were written.
-fn told_beside(
+fn reported_beside(
     alloc: Global,
     error: &Error,
     refused: bool,
@@ -137,13 +137,13 @@ fn told_beside(
     ensures { TellsFault refused length (answer_of error.now) sentence.old sentence.new result }
 {
     if refused {
-        return told_full(error.place().unwrap_or(0), length, sentence);
+        return reported_full(error.place().unwrap_or(0), length, sentence);
     }
-    told_fault(alloc, error, length, sentence)
+    reported_fault(alloc, error, length, sentence)
 }
 
 /// The answer beside the bytes of the text that were written.
-fn told_written(
+fn reported_written(
     alloc: Global,
     written: &Result<(), Failure>,
     refused: bool,
@@ -154,8 +154,8 @@ fn told_written(
 {
     match written {
         Ok(()) => well(length),
-        Err(Failure::Fault(error)) => told_beside(alloc, error, refused, length, sentence),
-        Err(failure) => told_failure(alloc, failure, sentence),
+        Err(Failure::Fault(error)) => reported_beside(alloc, error, refused, length, sentence),
+        Err(failure) => reported_failure(alloc, failure, sentence),
     }
 }
 
@@ -171,12 +171,12 @@ fn write_text<'a>(
         sentence.new result }
 {
     let Ok(mut out) = Bounded::with_room(alloc, room.len()) else {
-        return told_failure(alloc, &Failure::Fault(Error::NoMemory), sentence);
+        return reported_failure(alloc, &Failure::Fault(Error::NoMemory), sentence);
     };
     let written = write_row::<Bounded, Unescaped>(alloc, &mut out, text, row);
     let made = out.as_str();
     put(room, made.as_bytes());
-    told_written(alloc, &written, out.refused(), made.len(), sentence)
+    reported_written(alloc, &written, out.refused(), made.len(), sentence)
 }
 
 /// Writes the text of a format with a row into a room, up to its first fault, whose sentence comes
@@ -193,6 +193,6 @@ pub fn write<'a>(
 {
     match text_of(format) {
         Some(text) => write_text(alloc, text, row, room, sentence),
-        None => told_failure(alloc, &Failure::NotUtf8, sentence),
+        None => reported_failure(alloc, &Failure::NotUtf8, sentence),
     }
 }

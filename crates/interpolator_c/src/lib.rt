@@ -2,7 +2,7 @@
 #![tactic(auto)]
 
 ghost use Rattle.std.specs.Prelude.{◌≡◌, ◌<◌, IfSome};
-ghost use Rattle.interpolator_border.specs.Answers.{FormatAnswers, ToldCode, WriteAnswers};
+ghost use Rattle.interpolator_border.specs.Answers.{FormatAnswers, ReportedCode, WriteAnswers};
 ghost use Rattle.interpolator_border.specs.Checks.{AloneAnswers, CheckAnswers, ExplainAnswers};
 ghost use Rattle.interpolator_border.specs.Checks.{FaultsAnswers, NeverFails};
 ghost use Rattle.interpolator_border.specs.Escaped.{EscapedBy, escape_numbered, no_escape_sentence};
@@ -43,7 +43,7 @@ pub extern "C" fn interpolator_escaped<'a>(
         → FormatAnswers field_shows fields.now items.now format.now room.old room.new result }
     ensures escaped { IfSome (escape_numbered escape) (λ e. EscapedBy e fields.now items.now
         format.now room.old room.new result) }
-    ensures unknown { 5 < escape → ToldCode 12 no_escape_sentence room.old room.new result }
+    ensures unknown { 5 < escape → ReportedCode 12 no_escape_sentence room.old room.new result }
 {
     interpolator_border::escaped(alloc, escape, format, FieldRow { fields, items }, room)
 }

@@ -1,5 +1,6 @@
 -- A format without controls, whose values are escaped as those of a line, means none.
-use Rattle.std.proofs.Common.{◌≡◌, ℕ, ◌<◌, Bool, true, false, List, [], ◌∷◌, ◌++◌, length, refl, sym}
+use Rattle.std.proofs.Common.{◌≡◌, ℕ, ◌<◌, Bool, true, false, List, [], ◌∷◌, ◌++◌, length, refl}
+use Rattle.std.proofs.Common.{sym}
 use Rattle.std.proofs.Common.{◌∙◌, subst, arith, Option, Some, None, Result, Ok, is_some, replicate}
 use Rattle.std.proofs.Common.{filter, flat_map}
 use Rattle.std.specs.Prelude.{⊤}
@@ -16,7 +17,8 @@ use Rattle.interpolator_syntax.specs.Nodes.{target_value, target_list}
 use Rattle.interpolator_syntax.specs.Pieces.{argument_from, argument_or_broken, argument_step}
 use Rattle.interpolator_syntax.specs.Tokens.{Token, literals, doubled, lone_close, argument}
 use Rattle.interpolator_syntax.specs.Tokens.{first_token, past_token}
-use Rattle.interpolator_syntax.specs.{Arguments.Argument, Arguments.argument_at, At.At, At.text_of}
+use Rattle.interpolator_syntax.specs.{Arguments.Argument, Arguments.argument_at, Places.At}
+use Rattle.interpolator_syntax.specs.{Places.text_of}
 use Rattle.interpolator_syntax.specs.{Faults.Fault, Groups.Group, Groups.inside, SpecTexts.Kind}
 use Rattle.interpolator_syntax.specs.SpecTexts.{plain_spec}
 use Rattle.interpolator_syntax.proofs.GrammarArgumentLemmas.{broken_is}

@@ -24,27 +24,27 @@ at_below test (suc n) p t h = elim (eq-zero-or-pos (n - p)) [
 ]
 
 -- what is tested: more doubt, or none that may begin one
-told : (x y : Bool) → T (not x || not y) → x ≡ true → y ≡ false
-told false y t h = absurd (cc)
-told true true t h = absurd t
-told true false t h = refl
+reported : (x y : Bool) → T (not x || not y) → x ≡ true → y ≡ false
+reported false y t h = absurd (cc)
+reported true true t h = absurd t
+reported true false t h = refl
 
-abbrev told_test : Escape → ℕ → Bool
-told_test escape n = not (leb (doubt escape n) (most_plain escape)) || not (may_begin_escaped escape n)
+abbrev reported_test : Escape → ℕ → Bool
+reported_test escape n = not (leb (doubt escape n) (most_plain escape)) || not (may_begin_escaped escape n)
 
 by_test : (escape : Escape) (byte : ℕ) → byte < 256 → doubt escape byte ≤ most_plain escape
-    → T (told_test escape byte) → may_begin_escaped escape byte ≡ false
+    → T (reported_test escape byte) → may_begin_escaped escape byte ≡ false
 by_test escape byte low h t =
-    told (leb (doubt escape byte) (most_plain escape)) (may_begin_escaped escape byte) t
+    reported (leb (doubt escape byte) (most_plain escape)) (may_begin_escaped escape byte) t
     (le-leb _ _ h)
 
 pub doubted : (escape : Escape) (byte : ℕ) → byte < 256 → doubt escape byte ≤ most_plain escape
     → may_begin_escaped escape byte ≡ false
-doubted Line byte low h = by_test Line byte low h (at_below (told_test Line) 256 byte tt low)
-doubted Html byte low h = by_test Html byte low h (at_below (told_test Html) 256 byte tt low)
-doubted Csv byte low h = by_test Csv byte low h (at_below (told_test Csv) 256 byte tt low)
-doubted Json byte low h = by_test Json byte low h (at_below (told_test Json) 256 byte tt low)
-doubted Shell byte low h = by_test Shell byte low h (at_below (told_test Shell) 256 byte tt low)
+doubted Line byte low h = by_test Line byte low h (at_below (reported_test Line) 256 byte tt low)
+doubted Html byte low h = by_test Html byte low h (at_below (reported_test Html) 256 byte tt low)
+doubted Csv byte low h = by_test Csv byte low h (at_below (reported_test Csv) 256 byte tt low)
+doubted Json byte low h = by_test Json byte low h (at_below (reported_test Json) 256 byte tt low)
+doubted Shell byte low h = by_test Shell byte low h (at_below (reported_test Shell) 256 byte tt low)
 
 -- one byte more of no greater doubt
 pub one_more : (escape : Escape) (bytes : List ℕ) (i most now after : ℕ)
@@ -54,11 +54,11 @@ pub one_more : (escape : Escape) (bytes : List ℕ) (i most now after : ℕ)
 one_more escape bytes i most now after low e big plain h k l =
     let least : most ≤ after = rw big (le-max_left most now) in
     let same : now ≤ after = rw big (le-max_right most now) in
-    let told : doubt escape (get_or bytes i 0) ≤ most_plain escape = subst (λ d. d ≤ most_plain escape) e (omega (arith, same, h)) in
+    let reported : doubt escape (get_or bytes i 0) ≤ most_plain escape = subst (λ d. d ≤ most_plain escape) e (omega (arith, same, h)) in
     elim (cases_lt k i) [
       | inl before ↦ plain (omega (arith, least, h)) k before
       | inr later ↦
           let here : i ≡ k = omega (arith, later, l) in
           subst (λ j. may_begin_escaped escape (get_or bytes j 0) ≡ false) here
-          (doubted escape (get_or bytes i 0) low told)
+          (doubted escape (get_or bytes i 0) low reported)
     ]

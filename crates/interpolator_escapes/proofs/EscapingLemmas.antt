@@ -2,7 +2,7 @@
 use Rattle.std.proofs.Common.{◌≡◌, ℕ, ◌<◌, List, [], ◌∷◌, length, Result, refl, sym, ap, arith, ◌∙◌}
 use Rattle.std.proofs.Common.{true, false, nat_lt, ◌==◌, ◌||◌, zero, suc, Option, Some, None}
 use Rattle.std.proofs.lemmas.Bool.Decides.{nat_tests}
-use Rattle.interpolator_render.specs.Written.{Written, Origin, Layer}
+use Rattle.interpolator_render.specs.Writers.{Written, Origin, Layer}
 use Rattle.interpolator_render.specs.Texts.{ViewText, Renders, view_text}
 use Rattle.interpolator_render.specs.declared.view.RenderFault.{RenderFault}
 use Rattle.interpolator_render.specs.{declared.view.Trait.Trait, declared.view.Spec.Spec}

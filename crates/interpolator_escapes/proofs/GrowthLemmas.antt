@@ -19,10 +19,10 @@ use Rattle.interpolator_syntax.specs.Nodes.{Node, node, Branch, no_branch, branc
 use Rattle.interpolator_syntax.specs.Nodes.{Forest, no_nodes, nodes_and, nodes, text_content}
 use Rattle.interpolator_syntax.specs.Nodes.{argument_content, fault_content, target_value}
 use Rattle.interpolator_syntax.specs.Nodes.{target_list}
-use Rattle.interpolator_syntax.specs.{At.At, At.text_of, Faults.Fault, SpecTexts.plain_spec}
+use Rattle.interpolator_syntax.specs.{Places.At, Places.text_of, Faults.Fault, SpecTexts.plain_spec}
 use Rattle.interpolator_syntax.specs.declared.piece_kind.PieceKind.{PieceKind}
 use Rattle.interpolator_syntax.specs.declared.piece_kind.PieceKind.TheVariants as kinds
-use Rattle.interpolator_syntax.specs.{declared.range.Range.Range, At.placed_at}
+use Rattle.interpolator_syntax.specs.{declared.range.Range.Range, Places.placed_at}
 use Rattle.interpolator_eval.specs.Slots.{Slots, values_of, items, slot_at}
 use Rattle.interpolator_eval.specs.Meaning.Choices.{chosen_items}
 use Rattle.interpolator_eval.specs.Meaning.Environments.{Environment, slots_under, bind}

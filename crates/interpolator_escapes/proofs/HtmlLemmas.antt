@@ -53,35 +53,35 @@ phase_of (raw_opened e) = phases.RawOpened
 phase_of (raw_closing e n) = phases.RawClosing
 phase_of lost = phases.Lost
 
-phase_told : (p : Phase) (q : Quotes) (k : ValueKind) (e n : List ℕ)
+phase_recovered : (p : Phase) (q : Quotes) (k : ValueKind) (e n : List ℕ)
     → phase_of (html_state_in p q k e n) ≡ p
 unfolding phase_of
-phase_told phases.InText q k e n = refl
-phase_told phases.InValue q k e n = refl
-phase_told phases.TextReference q k e n = refl
-phase_told phases.ValueReference q k e n = refl
-phase_told phases.Opened q k e n = refl
-phase_told phases.Closing q k e n = refl
-phase_told phases.Marked q k e n = refl
-phase_told phases.MarkedDash q k e n = refl
-phase_told phases.Declared q k e n = refl
-phase_told phases.Comment q k e n = refl
-phase_told phases.CommentDash q k e n = refl
-phase_told phases.CommentDashes q k e n = refl
-phase_told phases.NameBegins q k e n = refl
-phase_told phases.NameEnds q k e n = refl
-phase_told phases.Spaced q k e n = refl
-phase_told phases.InName q k e n = refl
-phase_told phases.AfterName q k e n = refl
-phase_told phases.BeforeValue q k e n = refl
-phase_told phases.InBareValue q k e n = refl
-phase_told phases.InRaw q k e n = refl
-phase_told phases.RawOpened q k e n = refl
-phase_told phases.RawClosing q k e n = refl
-phase_told phases.Lost q k e n = refl
+phase_recovered phases.InText q k e n = refl
+phase_recovered phases.InValue q k e n = refl
+phase_recovered phases.TextReference q k e n = refl
+phase_recovered phases.ValueReference q k e n = refl
+phase_recovered phases.Opened q k e n = refl
+phase_recovered phases.Closing q k e n = refl
+phase_recovered phases.Marked q k e n = refl
+phase_recovered phases.MarkedDash q k e n = refl
+phase_recovered phases.Declared q k e n = refl
+phase_recovered phases.Comment q k e n = refl
+phase_recovered phases.CommentDash q k e n = refl
+phase_recovered phases.CommentDashes q k e n = refl
+phase_recovered phases.NameBegins q k e n = refl
+phase_recovered phases.NameEnds q k e n = refl
+phase_recovered phases.Spaced q k e n = refl
+phase_recovered phases.InName q k e n = refl
+phase_recovered phases.AfterName q k e n = refl
+phase_recovered phases.BeforeValue q k e n = refl
+phase_recovered phases.InBareValue q k e n = refl
+phase_recovered phases.InRaw q k e n = refl
+phase_recovered phases.RawOpened q k e n = refl
+phase_recovered phases.RawClosing q k e n = refl
+phase_recovered phases.Lost q k e n = refl
 
 -- readers in the same state are in the same phase
 pub same_phases : (a b : HtmlReader) → html_state a ≡ html_state b → a.phase ≡ b.phase
 same_phases a b h =
-    sym (phase_told a.phase a.quotes a.kind a.element.items a.name.items)
-    ∙ (ap phase_of h ∙ phase_told b.phase b.quotes b.kind b.element.items b.name.items)
+    sym (phase_recovered a.phase a.quotes a.kind a.element.items a.name.items)
+    ∙ (ap phase_of h ∙ phase_recovered b.phase b.quotes b.kind b.element.items b.name.items)

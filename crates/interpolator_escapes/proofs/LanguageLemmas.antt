@@ -2,7 +2,7 @@
 use Rattle.std.proofs.Common.{◌≡◌, true, false}
 use Rattle.interpolator_render.specs.{declared.view.Spec.Spec, declared.view.Trait.Trait}
 use Rattle.interpolator_render.specs.{declared.view.Trait.TheVariants.Display, Views.Shown}
-use Rattle.interpolator_syntax.specs.{At.At, SpecTexts.plain_spec}
+use Rattle.interpolator_syntax.specs.{Places.At, SpecTexts.plain_spec}
 use Rattle.interpolator_escapes.specs.Languages.{language, PairedIn, StandsIn}
 use Rattle.interpolator_escapes.specs.declared.escape.Escape.TheVariants.{Line, Html, Csv, Json}
 use Rattle.interpolator_escapes.specs.declared.escape.Escape.TheVariants.{Shell}

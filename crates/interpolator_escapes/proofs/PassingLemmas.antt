@@ -3,7 +3,7 @@ use Rattle.std.proofs.Common.{◌≡◌, ℕ, ◌<◌, Bool, true, false, List, 
 use Rattle.std.proofs.Common.{Ok, Err, refl, sym, ap, ◌∙◌, arith, append_assoc, append-nil}
 use Rattle.std.proofs.Common.{length-append, take, drop, flat_map, inr, take-append-drop}
 use Rattle.std.proofs.{lemmas.List.length-drop, lemmas.Grind.flat_map-append}
-use Rattle.interpolator_render.specs.Written.{Written, Appends, AppendsBeginning}
+use Rattle.interpolator_render.specs.Writers.{Written, Appends, AppendsBeginning}
 use Rattle.interpolator_render.specs.Texts.{ViewText, has_text, view_text, Renders}
 use Rattle.interpolator_render.specs.declared.view.RenderFault.{RenderFault}
 use Rattle.interpolator_render.specs.declared.view.RenderFault.TheVariants.{Refused}

@@ -174,20 +174,20 @@ range_of (forms.Broken fault) h = absurd (cc)
 
 module _ {S : Type 0} (step : S → ℕ → S × List Token) (is_place : S → Trait → Spec → Bool) (bs : List ℕ)
     (x : Piece) (s : S) where
-  abbrev Told : S → Result (Unit {0}) PlaceError → Type 0
-  Told t answer = NodePlaced step is_place s (node_of bs x) t answer
+  abbrev Reported : S → Result (Unit {0}) PlaceError → Type 0
+  Reported t answer = NodePlaced step is_place s (node_of bs x) t answer
 
   abbrev place_of : ℕ
   place_of = (out-Piece x).place
 
-  pub text_told : (t : S) (cs : List ℕ) (answer : Result (Unit {0}) PlaceError)
+  pub text_reported : (t : S) (cs : List ℕ) (answer : Result (Unit {0}) PlaceError)
       → (detail_of x).form ≡ forms.Text → Some cs ≡ stored_part bs x
-      → Placed (t ≡ state_after step s cs) (λ _. ⊥) answer → Told t answer
-  text_told t cs answer form part h = rw (node_of_out bs x, form, ← part) h
+      → Placed (t ≡ state_after step s cs) (λ _. ⊥) answer → Reported t answer
+  text_reported t cs answer form part h = rw (node_of_out bs x, form, ← part) h
 
-  pub broken_told : (fault : ArgumentFault) → (detail_of x).form ≡ forms.Broken fault
-      → Told s (Ok tt)
-  broken_told fault form = rw (node_of_out bs x, form) refl
+  pub broken_reported : (fault : ArgumentFault) → (detail_of x).form ≡ forms.Broken fault
+      → Reported s (Ok tt)
+  broken_reported fault form = rw (node_of_out bs x, form) refl
 
   -- the node, if it holds a value or a list
   abbrev holding : (name : List ℕ) → Spec → Target → Node
@@ -204,19 +204,19 @@ module _ {S : Type 0} (step : S → ℕ → S × List Token) (is_place : S → T
   value_answer name spec w (Err errors.NoMemory) h = tt
 
   module _ (held : IsSome (content_of bs x)) where
-    pub value_told : (w : Trait) (spec : Spec) (answer : Result (Unit {0}) PlaceError)
+    pub value_reported : (w : Trait) (spec : Spec) (answer : Result (Unit {0}) PlaceError)
         → (detail_of x).form ≡ forms.Value w → spec ≡ (detail_of x).spec
         → Placed (is_place s w spec ≡ true) (ValueFails step is_place place_of s w spec) answer
-        → Told s answer
-    value_told w spec answer form same h =
+        → Reported s answer
+    value_reported w spec answer form same h =
         let n = named _ _ (rw form at held) in
         rw (node_of_out bs x, form, n.1)
         (value_answer n.0 (detail_of x).spec w answer (rw same at h))
 
-    pub plain_told : (answer : Result (Unit {0}) PlaceError) → (detail_of x).form ≡ forms.Plain
+    pub plain_reported : (answer : Result (Unit {0}) PlaceError) → (detail_of x).form ≡ forms.Plain
         → Placed (is_place s Display plain_spec ≡ true)
-        (ValueFails step is_place place_of s Display plain_spec) answer → Told s answer
-    plain_told answer form h =
+        (ValueFails step is_place place_of s Display plain_spec) answer → Reported s answer
+    plain_reported answer form h =
         let n = named _ _ (rw form at held) in
         rw (node_of_out bs x, form, n.1) (value_answer n.0 plain_spec Display answer h)
 
@@ -233,10 +233,10 @@ module _ {S : Type 0} (step : S → ℕ → S × List Token) (is_place : S → T
           (target_list range) (detail_of x).spec_end))
       list_of range form =
           let n = named _ _ (rw form at held) in
-          let told : content_of bs x
+          let reported : content_of bs x
           ≡ stored_content bs place_of (detail_of x).from (detail_of x).to (detail_of x).spec_end
           (detail_of x).spec (forms.List range) = rw form refl in
-          (n.0, told ∙ n.1)
+          (n.0, reported ∙ n.1)
 
       list_node : (name : List ℕ) × (range : Option Range)
           × (holding name (detail_of x).spec (target_list range) ≡ node_of bs x)
@@ -247,27 +247,27 @@ module _ {S : Type 0} (step : S → ℕ → S × List Token) (is_place : S → T
           let of = λ (content : Option Content). node y.place y.end y.kind content item join in
           (n.0, r.0, sym (node_of_out bs x ∙ ap of n.1))
 
-      pub item_told : (e : PlaceError) → ItemPlaced step is_place place_of s item (Err e)
-          → Told s (Err e)
-      item_told e h =
+      pub item_reported : (e : PlaceError) → ItemPlaced step is_place place_of s item (Err e)
+          → Reported s (Err e)
+      item_reported e h =
           let n = list_node in
           subst (λ y. NodePlaced step is_place s y s (Err e)) n.2
           (item_stops step is_place s place_of (out-Piece x).end (out-Piece x).kind
           (suc place_of) n.0 (detail_of x).spec n.1 (detail_of x).spec_end item join e h)
 
-      pub join_told : (e : PlaceError) → ItemStands step is_place s item
-          → JoinPlaced step is_place place_of s join (Err e) → Told s (Err e)
-      join_told e i h =
+      pub join_reported : (e : PlaceError) → ItemStands step is_place s item
+          → JoinPlaced step is_place place_of s join (Err e) → Reported s (Err e)
+      join_reported e i h =
           let n = list_node in
           subst (λ y. NodePlaced step is_place s y s (Err e)) n.2
           (join_stops step is_place s place_of (out-Piece x).end (out-Piece x).kind
           (suc place_of) n.0 (detail_of x).spec n.1 (detail_of x).spec_end item join e i h)
 
-      pub fill_told : (answer : Result (Unit {0}) PlaceError) (spec : Spec)
+      pub fill_reported : (answer : Result (Unit {0}) PlaceError) (spec : Spec)
           → spec ≡ (detail_of x).spec → ItemStands step is_place s item
           → JoinStands step is_place s join → FillPlaced step is_place place_of s spec answer
-          → Told s answer
-      fill_told answer spec same i j h =
+          → Reported s answer
+      fill_reported answer spec same i j h =
           let n = list_node in
           let fills = subst (λ y. FillPlaced step is_place place_of s y answer) same h in
           subst (λ y. NodePlaced step is_place s y s answer) n.2

@@ -4,7 +4,7 @@ use Rattle.std.proofs.Common.{Some, None, Result, Ok, Err, if◌then◌else◌, 
 use Rattle.interpolator_render.specs.declared.view.Trait.{Trait}
 use Rattle.interpolator_render.specs.declared.view.Trait.TheVariants.{Display}
 use Rattle.interpolator_render.specs.{declared.view.Spec.Spec, Texts.view_text, Views.Shown}
-use Rattle.interpolator_syntax.specs.At.{At, text_of}
+use Rattle.interpolator_syntax.specs.Places.{At, text_of}
 use Rattle.interpolator_syntax.specs.Nodes.{Node, node, Branch, no_branch, branch, as_forest}
 use Rattle.interpolator_syntax.specs.Nodes.{Forest, no_nodes, nodes_and, nodes, text_content}
 use Rattle.interpolator_syntax.specs.Nodes.{argument_content, fault_content, target_value}

@@ -9,7 +9,7 @@ use Rattle.interpolator_render.specs.Views.{decimal_number, float_number, one_ch
 use Rattle.interpolator_render.specs.Views.{plain_text, nothing_implemented, failure}
 use Rattle.interpolator_render.specs.declared.{view.Trait.Trait, view.Trait.TheVariants.Debug}
 use Rattle.interpolator_render.specs.declared.view.Spec.{Spec}
-use Rattle.interpolator_syntax.specs.{At.text_of, Faults.Fault}
+use Rattle.interpolator_syntax.specs.{Places.text_of, Faults.Fault}
 use Rattle.interpolator_syntax.specs.declared.piece_kind.PieceKind.{PieceKind}
 use Rattle.interpolator_syntax.specs.declared.piece_kind.PieceKind.TheVariants as kinds
 use Rattle.interpolator_eval.specs.Meaning.Meanings.{Meaning, chain, or_fault, view_means}

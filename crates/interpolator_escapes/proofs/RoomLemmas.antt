@@ -9,8 +9,8 @@ use Rattle.std.proofs.lemmas.Str.{IsCharBoundary-at_seam, IsUtf8-past_char, leng
 use Rattle.std.proofs.lemmas.Str.{len_utf8_bounds}
 use Rattle.std.proofs.{Math.Seq.take-append-add, lemmas.Grind.flat_map-append, lemmas.Bool.cases_lt}
 use Rattle.interpolator_render.specs.declared.text_write.Refusal.{Refusal}
-use Rattle.interpolator_render.specs.Written.{Written, Appends, AppendsBeginning, Writes, Puts}
-use Rattle.interpolator_render.specs.Written.{byte_count}
+use Rattle.interpolator_render.specs.Writers.{Written, Appends, AppendsBeginning, Writes, Puts}
+use Rattle.interpolator_render.specs.Writers.{byte_count}
 use Rattle.interpolator_render.proofs.LayoutLemmas.{byte_count-chars, writes_second, appends_none}
 use Rattle.interpolator_render.proofs.LayoutLemmas.{writes_from_puts, stops_in_first}
 use Rattle.interpolator_render.proofs.LayoutLemmas.{byte_count-append}

@@ -6,7 +6,7 @@ use Rattle.interpolator_render.specs.declared.view.Trait.{Trait}
 use Rattle.interpolator_render.specs.declared.view.Trait.TheVariants.{Display}
 use Rattle.interpolator_render.specs.{declared.view.Spec.Spec, Views.Shown}
 use Rattle.interpolator_syntax.specs.SpecTexts.{spec_from_sign, spec_after, plain_spec}
-use Rattle.interpolator_syntax.specs.{Arguments.argument_at, At.outermost, At.text_of}
+use Rattle.interpolator_syntax.specs.{Arguments.argument_at, Places.outermost, Places.text_of}
 use Rattle.interpolator_syntax.specs.{Groups.group_at, Lists.list_at, Nodes.nodes}
 use Rattle.interpolator_syntax.specs.{Pieces.argument_from, Ranges.range_at, Tokens.first_token}
 use Rattle.interpolator_eval.specs.Slots.{Slots, values_of, items, slot_at}

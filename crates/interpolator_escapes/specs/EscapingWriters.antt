@@ -1,6 +1,6 @@
 -- What a writer that escapes its text has taken.
 use Rattle.std.specs.Prelude.{None, Some}
-use Rattle.interpolator_render.specs.Written.{Written}
+use Rattle.interpolator_render.specs.Writers.{Written}
 use Rattle.interpolator_escapes.specs.{Passing.layers, Rooms.way_of}
 use Rattle.interpolator_escapes.specs.declared.escaping.Escaping.{Escaping}
 

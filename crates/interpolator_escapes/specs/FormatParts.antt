@@ -12,7 +12,7 @@ use Rattle.interpolator_syntax.specs.Nodes.{Node, node, Branch, no_branch, branc
 use Rattle.interpolator_syntax.specs.Nodes.{Forest, no_nodes, nodes_and, nodes, Content}
 use Rattle.interpolator_syntax.specs.Nodes.{text_content, argument_content, fault_content, Target}
 use Rattle.interpolator_syntax.specs.Nodes.{target_value, target_list}
-use Rattle.interpolator_syntax.specs.{At.At, SpecTexts.plain_spec}
+use Rattle.interpolator_syntax.specs.{Places.At, SpecTexts.plain_spec}
 use Rattle.interpolator_eval.specs.Slots.{Slots, values_of, items, slot_at}
 use Rattle.interpolator_eval.specs.Meaning.Choices.{chosen_items}
 use Rattle.interpolator_eval.specs.Meaning.Environments.{Environment, slots_under, bind}

@@ -10,7 +10,7 @@ use Rattle.interpolator_syntax.specs.Nodes.{Node, node, Branch, no_branch, branc
 use Rattle.interpolator_syntax.specs.Nodes.{Forest, no_nodes, nodes_and, nodes, text_content}
 use Rattle.interpolator_syntax.specs.Nodes.{argument_content, fault_content, target_value}
 use Rattle.interpolator_syntax.specs.Nodes.{target_list}
-use Rattle.interpolator_syntax.specs.{At.At, At.text_of, SpecTexts.plain_spec}
+use Rattle.interpolator_syntax.specs.{Places.At, Places.text_of, SpecTexts.plain_spec}
 use Rattle.interpolator_escapes.specs.Readers.{Token, structure_of, state_after, read}
 use Rattle.interpolator_escapes.specs.Wholes.{escaped_text, is_whole, whole_text, whole_view}
 use Rattle.interpolator_escapes.specs.{Escapes.escape_of, declared.escape.Escape.Escape}

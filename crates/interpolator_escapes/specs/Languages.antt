@@ -1,7 +1,7 @@
 -- The reader of each escape, and what it reads.
 use Rattle.std.specs.Prelude.{ℕ, Bool, List, ⊤}
 use Rattle.interpolator_render.specs.{declared.view.Spec.Spec, declared.view.Trait.Trait}
-use Rattle.interpolator_syntax.specs.At.{At}
+use Rattle.interpolator_syntax.specs.Places.{At}
 use Rattle.interpolator_escapes.specs.Csv.{CsvState, field_start, csv_step, is_csv_place}
 use Rattle.interpolator_escapes.specs.Html.{HtmlState, html_start, html_step, is_html_place}
 use Rattle.interpolator_escapes.specs.Json.{JsonState, between, json_step, is_json_place}

@@ -5,8 +5,8 @@ use Rattle.std.specs.Coded.{Unit-prop}
 use native.Mathlib.Bridge.{le_prop}
 use Rattle.interpolator_render.specs.declared.view.RenderFault.{RenderFault}
 use Rattle.interpolator_render.specs.declared.view.RenderFault.TheVariants.{Refused}
-use Rattle.interpolator_render.specs.Written.{Written, Origin, Layer, GoesOver, byte_count}
-use Rattle.interpolator_render.specs.Written.{first_size}
+use Rattle.interpolator_render.specs.Writers.{Written, Origin, Layer, GoesOver, byte_count}
+use Rattle.interpolator_render.specs.Writers.{first_size}
 
 -- a writer that has not refused has got all of this text, after what it had at first
 abbrev pub HasWhole : (start text : List ℕ) → Written → Type 0

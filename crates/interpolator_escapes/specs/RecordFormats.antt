@@ -10,7 +10,7 @@ use Rattle.interpolator_syntax.specs.Nodes.{Node, node, Branch, no_branch, branc
 use Rattle.interpolator_syntax.specs.Nodes.{Forest, no_nodes, nodes_and, nodes, text_content}
 use Rattle.interpolator_syntax.specs.Nodes.{argument_content, fault_content, target_value}
 use Rattle.interpolator_syntax.specs.Nodes.{target_list}
-use Rattle.interpolator_syntax.specs.{At.At, SpecTexts.plain_spec}
+use Rattle.interpolator_syntax.specs.{Places.At, SpecTexts.plain_spec}
 use Rattle.interpolator_escapes.specs.Csv.{CsvState, field_start, bare, quoted, quote_seen}
 use Rattle.interpolator_escapes.specs.Csv.{csv_step, ends_field}
 use Rattle.interpolator_escapes.specs.FormatParts.{as_it_is, parts_of, view_parts}

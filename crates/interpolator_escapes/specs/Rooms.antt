@@ -3,7 +3,7 @@ use Rattle.std.specs.Prelude.{◌≡◌, ℕ, ◌+◌, ◌≤◌, List, ◌++◌
 use Rattle.interpolator_escapes.specs.declared.escape.Escape.{Escape}
 use Rattle.interpolator_escapes.specs.declared.escape.Escape.TheVariants.{Line, Html, Csv, Json}
 use Rattle.interpolator_escapes.specs.declared.escape.Escape.TheVariants.{Shell}
-use Rattle.interpolator_render.specs.Written.{Written, Appends, byte_count}
+use Rattle.interpolator_render.specs.Writers.{Written, Appends, byte_count}
 
 -- a row of 320 bytes begins with a text of so many
 pub record HoldsText (row : List ℕ) (filled : ℕ) : Type 0 where

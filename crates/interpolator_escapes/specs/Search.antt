@@ -23,7 +23,7 @@ first_mark marks count = if marks == 0 then count else trailing_zeros w64 marks
 
 -- 255, if a test holds
 abbrev pub doubt_if : Bool → ℕ → ℕ
-doubt_if is_told other = if is_told then 255 else other
+doubt_if is_reported other = if is_reported then 255 else other
 
 -- how far a byte is to be doubted, in few steps
 abbrev pub doubt : Escape → ℕ → ℕ

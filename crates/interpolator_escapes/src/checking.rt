@@ -1,7 +1,7 @@
 //! Whether the values of a format stand in places of an escape.
 ghost use Rattle.std.specs.Prelude.{◌≡◌, ◌<◌, IfOk, length};
 ghost use Rattle.std.specs.Str.{chars};
-ghost use Rattle.interpolator_syntax.specs.{At.outermost, Nodes.nodes};
+ghost use Rattle.interpolator_syntax.specs.{Places.outermost, Nodes.nodes};
 ghost use Rattle.interpolator_pieces.specs.Stored.{nodes_of};
 ghost use Rattle.interpolator_escapes.specs.Placing.{EndsFor, FailsFor, IfMisplaced, StandsFor};
 

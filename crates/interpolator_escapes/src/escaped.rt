@@ -2,7 +2,7 @@
 ghost use Rattle.std.specs.Prelude.{◌≡◌, ◌+◌, ◌≤◌, ◌<◌, ◌∷◌, ◌++◌, [], length, take, drop, IsUtf8};
 ghost use Rattle.std.specs.Prelude.{MatchResult, OnOk};
 ghost use Rattle.std.specs.{List.flat_map, Str.chars, Str.IsCharBoundary};
-ghost use Rattle.interpolator_render.specs.Written.{AppendsBeginning, Puts, Writes, byte_count};
+ghost use Rattle.interpolator_render.specs.Writers.{AppendsBeginning, Puts, Writes, byte_count};
 ghost use Rattle.interpolator_escapes.specs.Escapes.{escape_of, escaped, json_escape};
 ghost use Rattle.interpolator_escapes.specs.Rooms.{HasPlace, Moves, way_of};
 ghost use Rattle.interpolator_escapes.specs.Wholes.{json_null, json_string};
@@ -248,7 +248,7 @@ fn put_runs<W: TextWrite>(out: &mut W, escape: Escape, text: &str) -> Result<(),
 
 /// Writes a text escaped as a string of JSON, and the quote after it.
 #[tactic(auto, using(interpolator_render::proofs::LayoutLemmas::run_outcomes))]
-fn put_to_quote<W: TextWrite>(out: &mut W, text: &str) -> Result<(), Refusal>
+fn put_string_to_quote<W: TextWrite>(out: &mut W, text: &str) -> Result<(), Refusal>
     ensures { Writes (W.written out.old) (flat_map json_escape (chars text.now) ++ 34 ∷ []) result
         (W.written out.new) }
 {
@@ -261,7 +261,7 @@ pub(crate) fn put_json_string<W: TextWrite>(out: &mut W, text: &str) -> Result<(
     ensures { Writes (W.written out.old) (json_string (chars text.now)) result (W.written out.new) }
 {
     put_char(out, '"')?;
-    put_to_quote(out, text)
+    put_string_to_quote(out, text)
 }
 
 /// Writes `null`.

@@ -36,7 +36,7 @@ pub(crate) struct Escaping<'o, W: TextWrite> {
 
 impl<'o, W: TextWrite> Escaping<'o, W> {
     ghost use Rattle.interpolator_escapes.specs.EscapingWriters.{escaping_written};
-    ghost use Rattle.interpolator_render.specs.Written.{Appends};
+    ghost use Rattle.interpolator_render.specs.Writers.{Appends};
 
     /// A writer over `out` that has taken nothing.
     pub(crate) fn over(out: &'o mut W, escape: Escape) -> Escaping<'o, W>
@@ -116,7 +116,7 @@ fn or_refused(rendered: Result<(), RenderFault>, is_refused: bool) -> Result<(),
 
 impl<W: TextWrite> TextWrite for Escaping<'_, W> {
     ghost use Rattle.interpolator_escapes.specs.EscapingWriters.{escaping_written};
-    ghost use Rattle.interpolator_render.specs.Written.{Appends, Refuses};
+    ghost use Rattle.interpolator_render.specs.Writers.{Appends, Refuses};
 
     ghost written = { λ w. escaping_written W.written w };
 

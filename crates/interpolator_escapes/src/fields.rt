@@ -3,7 +3,7 @@ ghost use Rattle.std.specs.Prelude.{◌≡◌, ◌∷◌, ◌++◌, [], true};
 ghost use Rattle.std.specs.{List.flat_map, Str.chars};
 ghost use Rattle.interpolator_render.specs.Texts.{Renders, has_text, view_text};
 ghost use Rattle.interpolator_render.specs.Views.{IsInRange, shown_by};
-ghost use Rattle.interpolator_render.specs.Written.{Puts, Writes};
+ghost use Rattle.interpolator_render.specs.Writers.{Puts, Writes};
 ghost use Rattle.interpolator_escapes.specs.Fields.{field_text, field_view, record_view};
 ghost use Rattle.interpolator_escapes.specs.{Escapes.csv_escape, Plain.is_debug};
 ghost use Rattle.interpolator_escapes.specs.Records.{quoted_field};
@@ -25,7 +25,7 @@ fn put_quote<W: TextWrite>(out: &mut W) -> Result<(), Refusal>
 
 /// Writes a text with its quotes doubled, and the quote after it.
 #[tactic(auto, using(interpolator_render::proofs::LayoutLemmas::run_outcomes))]
-fn put_to_quote<W: TextWrite>(out: &mut W, text: &str) -> Result<(), Refusal>
+fn put_field_to_quote<W: TextWrite>(out: &mut W, text: &str) -> Result<(), Refusal>
     ensures { Writes (W.written out.old) (flat_map csv_escape (chars text.now) ++ 34 ∷ []) result
         (W.written out.new) }
 {
@@ -39,7 +39,7 @@ fn put_quoted<W: TextWrite>(out: &mut W, text: &str) -> Result<(), Refusal>
         (W.written out.new) }
 {
     put_quote(out)?;
-    put_to_quote(out, text)
+    put_field_to_quote(out, text)
 }
 
 /// Writes a text as a whole field.

@@ -1,7 +1,7 @@
 //! Characters, laid escaped.
 ghost use Rattle.std.specs.Prelude.{◌≡◌, ◌<◌, ◌≤◌, ◌∷◌, ◌+◌, ◌++◌, length};
 ghost use Rattle.std.specs.Str.{chars};
-ghost use Rattle.interpolator_render.specs.Written.{byte_count};
+ghost use Rattle.interpolator_render.specs.Writers.{byte_count};
 ghost use Rattle.interpolator_escapes.specs.Escapes.{escape_of, line_escape, html_escape};
 ghost use Rattle.interpolator_escapes.specs.Escapes.{csv_escape, json_escape, shell_escape};
 ghost use Rattle.interpolator_escapes.specs.Escapes.{hex_digit, two_digits, four_digits};

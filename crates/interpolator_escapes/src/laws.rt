@@ -2,7 +2,7 @@
 ghost use Rattle.std.specs.Prelude.{◌≡◌, ℕ, List, [], ◌∷◌, ◌++◌, codes, None, Some, length, map};
 ghost use Rattle.std.specs.Prelude.{◌≤◌, ◌*◌};
 ghost use Rattle.std.specs.List.{filter};
-ghost use Rattle.interpolator_syntax.specs.At.{At, outermost, text_of};
+ghost use Rattle.interpolator_syntax.specs.Places.{At, outermost, text_of};
 ghost use Rattle.interpolator_eval.specs.Slots.{Slots, items};
 ghost use Rattle.interpolator_eval.specs.Meaning.Environments.{Environment, slots_under};
 ghost use Rattle.interpolator_eval.specs.Meaning.Meanings.{means};

@@ -1,6 +1,6 @@
 //! The law of formats that a check accepts.
 ghost use Rattle.std.specs.Prelude.{◌≡◌, None};
-ghost use Rattle.interpolator_syntax.specs.At.{At};
+ghost use Rattle.interpolator_syntax.specs.Places.{At};
 ghost use Rattle.interpolator_eval.specs.{Meaning.Environments.Environment, Meaning.Meanings.means};
 ghost use Rattle.interpolator_escapes.specs.Formats.{escaped_shows, shows_nothing};
 ghost use Rattle.interpolator_escapes.specs.Placing.{StandsFor, structure_for};

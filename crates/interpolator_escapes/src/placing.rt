@@ -4,7 +4,7 @@ ghost use Rattle.std.specs.Str.{chars};
 ghost use Rattle.interpolator_render.specs.Padding.{fill_of};
 ghost use Rattle.interpolator_render.specs.declared.view.Trait.TheVariants.{Display};
 ghost use Rattle.interpolator_syntax.specs.Nodes.{as_forest, nodes};
-ghost use Rattle.interpolator_syntax.specs.{At.outermost, SpecTexts.plain_spec};
+ghost use Rattle.interpolator_syntax.specs.{Places.outermost, SpecTexts.plain_spec};
 ghost use Rattle.interpolator_pieces.specs.Stored.{branch_of, detail_of, forest_whole, node_of};
 ghost use Rattle.interpolator_pieces.specs.Stored.{node_whole, nodes_of};
 ghost use Rattle.interpolator_pieces.specs.StoredLists.{is_list_form};
@@ -117,7 +117,7 @@ fn place_fill<R: Reader>(reader: &R, spec: &Spec, place: usize) -> Result<(), Pl
 #[cycle(placing)]
 fn place_all<R: Reader>(reader: &mut R, text: &str, pieces: &[Piece]) -> Result<(), PlaceError>
     requires whole { forest_whole (as_forest (nodes_of text.now pieces.now)) ≡ true }
-    ensures told { ForestPlaced R.step R.places (R.state reader.old)
+    ensures reported { ForestPlaced R.step R.places (R.state reader.old)
         (as_forest (nodes_of text.now pieces.now)) (R.state reader.new) result }
     ensures within { IfMisplaced result (λ m. m.place < length text.now) }
 {
@@ -131,7 +131,7 @@ fn place_all<R: Reader>(reader: &mut R, text: &str, pieces: &[Piece]) -> Result<
 #[cycle(placing)]
 fn place_piece<R: Reader>(reader: &mut R, text: &str, piece: &Piece) -> Result<(), PlaceError>
     requires whole { node_whole (node_of text.now piece.now) ≡ true }
-    ensures told { NodePlaced R.step R.places (R.state reader.old) (node_of text.now piece.now)
+    ensures reported { NodePlaced R.step R.places (R.state reader.old) (node_of text.now piece.now)
         (R.state reader.new) result }
     ensures within { IfMisplaced result (λ m. m.place < length text.now) }
 {
@@ -150,7 +150,7 @@ fn place_list<R: Reader>(reader: &R, text: &str, piece: &Piece) -> Result<(), Pl
     requires whole { node_whole (node_of text.now piece.now) ≡ true }
     requires list { is_list_form (detail_of piece.now).form ≡ true }
     requires within { (out-Piece piece.now).place < length text.now }
-    ensures told { NodePlaced R.step R.places (R.state reader.now) (node_of text.now piece.now)
+    ensures reported { NodePlaced R.step R.places (R.state reader.now) (node_of text.now piece.now)
         (R.state reader.now) result }
     ensures within { IfMisplaced result (λ m. m.place < length text.now) }
 {
@@ -164,7 +164,7 @@ fn place_list<R: Reader>(reader: &R, text: &str, piece: &Piece) -> Result<(), Pl
 fn place_item<R: Reader>(reader: &R, text: &str, piece: &Piece) -> Result<(), PlaceError>
     requires whole { node_whole (node_of text.now piece.now) ≡ true }
     requires within { (out-Piece piece.now).place < length text.now }
-    ensures told { ItemPlaced R.step R.places (out-Piece piece.now).place (R.state reader.now)
+    ensures reported { ItemPlaced R.step R.places (out-Piece piece.now).place (R.state reader.now)
         (branch_of text.now (out-Piece piece.now).item) result }
     ensures within { IfMisplaced result (λ m. m.place < length text.now) }
 {
@@ -183,7 +183,7 @@ fn place_item<R: Reader>(reader: &R, text: &str, piece: &Piece) -> Result<(), Pl
 fn place_join<R: Reader>(reader: &R, text: &str, piece: &Piece) -> Result<(), PlaceError>
     requires whole { node_whole (node_of text.now piece.now) ≡ true }
     requires within { (out-Piece piece.now).place < length text.now }
-    ensures told { JoinPlaced R.step R.places (out-Piece piece.now).place (R.state reader.now)
+    ensures reported { JoinPlaced R.step R.places (out-Piece piece.now).place (R.state reader.now)
         (branch_of text.now (out-Piece piece.now).join) result }
     ensures within { IfMisplaced result (λ m. m.place < length text.now) }
 {
@@ -198,7 +198,7 @@ fn place_join<R: Reader>(reader: &R, text: &str, piece: &Piece) -> Result<(), Pl
 }
 
 /// Where a reader is that began as `start`.
-fn ending_of<R: Reader>(start: &R, reader: &R) -> Ending
+fn ending_between<R: Reader>(start: &R, reader: &R) -> Ending
     ensures { IsEnding R.step R.places (R.state start.now) (R.state reader.now) result }
 {
     if reader.is_at(start) {
@@ -241,5 +241,5 @@ pub fn check_stands<R: Reader>(
 {
     let mut reader = start.copied()?;
     place_all(&mut reader, text, pieces)?;
-    Ok(ending_of(start, &reader))
+    Ok(ending_between(start, &reader))
 }

@@ -1,6 +1,6 @@
 //! Laws of formats of whole fields.
 ghost use Rattle.std.specs.Prelude.{◌≡◌, ◌∷◌, List, None, Some, codes, map};
-ghost use Rattle.interpolator_syntax.specs.At.{At, outermost, text_of};
+ghost use Rattle.interpolator_syntax.specs.Places.{At, outermost, text_of};
 ghost use Rattle.interpolator_eval.specs.Slots.{Slots, items};
 ghost use Rattle.interpolator_eval.specs.Meaning.Environments.{Environment, slots_under};
 ghost use Rattle.interpolator_eval.specs.Meaning.Meanings.{means};

@@ -3,7 +3,7 @@ ghost use Rattle.std.specs.Prelude.{◌≡◌, ◌<◌, IfOk, length, true};
 ghost use Rattle.std.specs.Str.{chars};
 ghost use Rattle.interpolator_render.specs.declared.view.Trait.TheVariants.{Display};
 ghost use Rattle.interpolator_syntax.specs.Nodes.{as_forest, nodes};
-ghost use Rattle.interpolator_syntax.specs.{At.outermost, SpecTexts.plain_spec};
+ghost use Rattle.interpolator_syntax.specs.{Places.outermost, SpecTexts.plain_spec};
 ghost use Rattle.interpolator_pieces.specs.Stored.{branch_of, detail_of, forest_whole, node_of};
 ghost use Rattle.interpolator_pieces.specs.Stored.{node_whole, nodes_of};
 ghost use Rattle.interpolator_pieces.specs.StoredLists.{is_list_form};
@@ -248,7 +248,7 @@ fn after_join(start: Spot, end: Spot, text: &str, piece: &Piece) -> Result<Spot,
 }
 
 /// Where a record is that began where a field does.
-fn ending_of(spot: Spot) -> Ending
+fn ending_of_spot(spot: Spot) -> Ending
     ensures { result ≡ spot_ending (spot_of spot) }
 {
     match spot {
@@ -279,7 +279,7 @@ pub fn check_record_pieces(text: &str, pieces: &[Piece]) -> Result<Ending, Place
     ensures { result ≡ record_answer (after_record (outermost (chars text.now))) }
 {
     match after_pieces(Spot::InState(CsvReader::FieldStart), text, pieces) {
-        Ok(spot) => Ok(ending_of(spot)),
+        Ok(spot) => Ok(ending_of_spot(spot)),
         Err(misplaced) => Err(PlaceError::Misplaced(misplaced)),
     }
 }

@@ -1,7 +1,7 @@
 //! A room on the stack, where texts are laid one after another before they are written.
 ghost use Rattle.std.specs.Prelude.{◌≡◌, ◌+◌, ◌≤◌, ◌<◌, ◌∷◌, ◌++◌, [], length, take, drop};
 ghost use Rattle.std.specs.Str.{chars, IsCharBoundary};
-ghost use Rattle.interpolator_render.specs.Written.{byte_count};
+ghost use Rattle.interpolator_render.specs.Writers.{byte_count};
 ghost use Rattle.interpolator_escapes.specs.Rooms.{HasPlace};
 
 use crate::search::BLOCK;

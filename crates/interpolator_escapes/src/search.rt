@@ -60,12 +60,12 @@ fn doubt(escape: Escape, byte: u8) -> u8
     }
 }
 
-/// The greatest doubt of a byte that is told at once, and else this one.
+/// The greatest doubt of a byte that is certainly escaped, and else this one.
 #[inline(always)]
-fn doubt_if(is_told: bool, other: u8) -> u8
-    ensures { result ≡ doubt_if is_told other }
+fn doubt_if(is_certain: bool, other: u8) -> u8
+    ensures { result ≡ doubt_if is_certain other }
 {
-    if is_told { 255 } else { other }
+    if is_certain { 255 } else { other }
 }
 
 /// Returns the greatest doubt of a byte that begins no character that may be escaped.

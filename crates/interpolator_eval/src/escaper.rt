@@ -1,4 +1,5 @@
 //! How the text of a value is written: as it is, or escaped for the place where it stands.
+ghost use Rattle.std.specs.Prelude.{◌≡◌, true};
 ghost use Rattle.std.specs.Str.{chars};
 ghost use Rattle.interpolator_render.specs.Texts.{Renders, view_text};
 ghost use Rattle.interpolator_render.specs.Views.{IsInRange, Shown, shown_by, some_text};
@@ -14,6 +15,15 @@ use interpolator_render::{RenderFault, Spec, TextWrite, Trait, View, render, ren
 pub trait Escaper {
     // what is shown in place of what a view shows, under a trait and a spec
     ghost shown: { Shown → Trait → Spec → Shown };
+
+    /// Whether each view that is displayed plainly is written as it is. A list then writes a number
+    /// together with the text before it.
+    #[inline(always)]
+    fn writes_as_it_is() -> bool
+        ensures { result ≡ true → (x : Shown) → shown x Display plain_spec ≡ x }
+    {
+        false
+    }
 
     /// Writes a view under a trait and a spec.
     fn put<W: TextWrite>(
@@ -46,6 +56,11 @@ pub struct Unescaped;
 
 impl Escaper for Unescaped {
     ghost shown = { λ shown _ _. shown };
+
+    #[inline(always)]
+    fn writes_as_it_is() -> bool {
+        true
+    }
 
     #[inline(always)]
     fn put<W: TextWrite>(

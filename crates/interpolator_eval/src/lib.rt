@@ -39,7 +39,7 @@ pub use evaluate::source::FormatSource;
 pub use evaluate::uncounted::write_uncounted;
 pub use evaluate::value::{LookUp, chosen_list, slot_of, write_plain_value, write_value};
 pub use field_names::is_name;
-pub use names::same_name;
+pub use names::{same_bytes, same_name};
 pub use pairs::Pairs;
 pub use piece_count::PieceCount;
 pub use rows::{items_of, rows_of};

@@ -83,9 +83,9 @@ fn same_ends<const N: usize>(own: &[u8], name: &[u8]) -> bool
     has_ends::<N>(own, name, front_of::<N>(name), back_of::<N>(name))
 }
 
-/// Returns whether two names are the same.
+/// Returns whether the bytes of two names are the same.
 #[inline(always)]
-pub fn same_name(own: &str, name: &str) -> bool
+pub fn same_bytes(own: &[u8], name: &[u8]) -> bool
     ensures { result ≡ bytes_eq name.now own.now }
 {
     let count = name.len();
@@ -94,14 +94,22 @@ pub fn same_name(own: &str, name: &str) -> bool
     } else if count == 0 {
         true
     } else if count <= 2 {
-        same_ends::<1>(own.as_bytes(), name.as_bytes())
+        same_ends::<1>(own, name)
     } else if count <= 4 {
-        same_ends::<2>(own.as_bytes(), name.as_bytes())
+        same_ends::<2>(own, name)
     } else if count <= 8 {
-        same_ends::<4>(own.as_bytes(), name.as_bytes())
+        same_ends::<4>(own, name)
     } else if count <= SHORT {
-        same_ends::<8>(own.as_bytes(), name.as_bytes())
+        same_ends::<8>(own, name)
     } else {
         own == name
     }
+}
+
+/// Returns whether two names are the same.
+#[inline(always)]
+pub fn same_name(own: &str, name: &str) -> bool
+    ensures { result ≡ bytes_eq name.now own.now }
+{
+    same_bytes(own.as_bytes(), name.as_bytes())
 }

@@ -8,9 +8,9 @@ use Rattle.interpolator_examples.specs.declared.levels.Level.TheVariants as leve
 
 -- one word for display and another, without quotes, for debug; nothing for any other trait
 abbrev pub word_shows : List ℕ → List ℕ → Trait → Shown
-word_shows shown told Display = some_text (chars shown)
-word_shows shown told Debug = plain_text (chars told)
-word_shows shown told _ = nothing_implemented
+word_shows shown reported Display = some_text (chars shown)
+word_shows shown reported Debug = plain_text (chars reported)
+word_shows shown reported _ = nothing_implemented
 
 -- its name
 abbrev pub level_shows : Level → Trait → Shown

@@ -3,7 +3,7 @@ use Rattle.std.specs.Prelude.{ℕ, List, [], ◌++◌, Option, Some, None, encod
 use Rattle.std.specs.Prelude.{if◌then◌else◌}
 use Rattle.std.specs.{Str.bytes_eq, Str.chars, Io.KnownBytes.Appends}
 use Rattle.interpolator.specs.Slots.{Slots, empty_slots, with_display}
-use Rattle.interpolator.specs.{At.outermost, At.text_of, Meaning.Environments.environment}
+use Rattle.interpolator.specs.{Places.outermost, Places.text_of, Meaning.Environments.environment}
 use Rattle.interpolator.specs.{Meaning.Meanings.means, Views.unsigned_number}
 use Rattle.interpolator_examples.specs.declared.users.log_file.Record.{Record}
 use Rattle.interpolator_examples.specs.declared.users.log_file.Records.{Records}

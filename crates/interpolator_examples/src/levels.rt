@@ -35,14 +35,14 @@ impl Value for Level {
 }
 
 /// A level, written by a format.
-fn told(alloc: Global, level: Level, format: &str) -> Result<String, Error> {
+fn reported(alloc: Global, level: Level, format: &str) -> Result<String, Error> {
     Pairs(&[("level", Formattable::integer(&level))]).format(alloc, format)
 }
 
 pub fn show(page: &mut Page) {
     let alloc = page.alloc;
     for level in [Level::Info, Level::Warn] {
-        page.put_made("level", told(alloc, level, "[{level:<5}] {level:?}"));
+        page.put_made("level", reported(alloc, level, "[{level:<5}] {level:?}"));
     }
-    page.put_made("level under x", told(alloc, Level::Warn, "{level:x}"));
+    page.put_made("level under x", reported(alloc, Level::Warn, "{level:x}"));
 }

@@ -1,7 +1,11 @@
 -- The shortest digits by computation are those of a choice at a scale.
-use Rattle.std.proofs.Common.{◌≡◌, ◌≢◌, ◌⊎◌, ◌↔◌, ℕ, zero, suc, ◌<◌, ◌≤◌, ◌-◌, ◌+◌, ◌*◌, ◌/◌, ◌%◌, ◌^◌, Bool, true, false, if◌then◌else◌, ◌==◌}
-use Rattle.std.proofs.Common.{refl, sym, ap, ◌∙◌, arith, eq-zero-or-pos, inl, inr, subst, pow-add, mul_assoc}
-use Rattle.std.proofs.Math.Nat.{max-eq_left, max-eq_right, mul_comm, mul_right_comm, mul-le-mul_right, mul-pos, mul-mod_left, div-lt_iff_lt-mul, le-div_iff_mul-le, pow-le-pow_right}
+use Rattle.std.proofs.Common.{◌≡◌, ◌≢◌, ◌⊎◌, ◌↔◌, ℕ, zero, suc, ◌<◌, ◌≤◌, ◌-◌, ◌+◌, ◌*◌, ◌/◌, ◌%◌}
+use Rattle.std.proofs.Common.{◌^◌, Bool, true, false, if◌then◌else◌, ◌==◌}
+use Rattle.std.proofs.Common.{refl, sym, ap, ◌∙◌, arith, eq-zero-or-pos, inl, inr, subst, pow-add}
+use Rattle.std.proofs.Common.{mul_assoc}
+use Rattle.std.proofs.Math.Nat.{max-eq_left, max-eq_right, mul_comm, mul_right_comm}
+use Rattle.std.proofs.Math.Nat.{mul-le-mul_right, mul-pos, mul-mod_left, div-lt_iff_lt-mul}
+use Rattle.std.proofs.Math.Nat.{le-div_iff_mul-le, pow-le-pow_right}
 use Rattle.std.proofs.lemmas.Bool.{le-leb, lt-leb}
 use Rattle.std.specs.Prelude.{max, nat_lt, ◌&&◌}
 use lib.Pow.{pow_pos}
@@ -12,14 +16,18 @@ use lib.Ieee.Order.{drop}
 use native.Mathlib.Nat.{eq_of_mul-eq-mul_right}
 use Rattle.interpolator_digits.proofs.ExponentLemmas.{pow_some}
 use Rattle.interpolator_floats.proofs.BoundLemmas.{dropped_least, dropped_most, slack}
-use Rattle.interpolator_floats.proofs.DecideLemmas.{bounds_narrow, inside, low_choice, low_next, near_choice, near_high, near_low, near_most, slack_odd, some_count, tens_choice, within}
+use Rattle.interpolator_floats.proofs.DecideLemmas.{bounds_narrow, inside, low_choice, low_next}
+use Rattle.interpolator_floats.proofs.DecideLemmas.{near_choice, near_high, near_low, near_most}
+use Rattle.interpolator_floats.proofs.DecideLemmas.{slack_odd, some_count, tens_choice, within}
 use Rattle.interpolator_floats.proofs.ReadLemmas.{slack-le}
 use Rattle.interpolator_floats.proofs.ShortestLemmas.{value_unscaled}
 use Rattle.interpolator_floats.proofs.UnitLemmas.{step_some, unit_some}
 use Rattle.interpolator_floats.specs.Floats.{IsChoice}
 use Rattle.interpolator_floats.specs.Shortest.{HasMantissa, IsScale, units_down, units_up}
 use Rattle.interpolator_floats.specs.declared.shortest.Shortest.{Shortest}
-use Rattle.interpolator_floats.specs.ShortestDigits.{IsTrimmed, chosen, chosen_at, digits_of, digits_of_steps, greatest, is_fine, shortest, trimmed}
+use Rattle.interpolator_floats.specs.ShortestDigits.{IsTrimmed, chosen, chosen_at, digits_of}
+use Rattle.interpolator_floats.specs.ShortestDigits.{digits_of_steps, greatest, is_fine, shortest}
+use Rattle.interpolator_floats.specs.ShortestDigits.{trimmed}
 
 pub greatest_is : (test : ℕ → Bool) (most j : ℕ) → j ≤ most → test j ≡ true → ((i : ℕ) → j < i → test i ≡ false) → greatest test most ≡ j
 unfolding greatest
@@ -318,10 +326,10 @@ shortest_of_zero f x sign m power z v = shortest_of_steps f x sign 0 (none x (su
     none : (x : Float) → HasValue x sign 0 (2 ^ 1074) → HasValue x sign 0 (2 ^ low f)
     none nan v = absurd v
     none (inf t) v = absurd v
-    none (fin t m e) v = (v.0, gone (m * lib.Ieee.up e) v.1)
+    none (fin t m e) v = (v.0, visited (m * lib.Ieee.up e) v.1)
       where
-        gone : (u : ℕ) → u * 2 ^ 1074 ≡ 0 * down e → u * 2 ^ low f ≡ 0 * down e
-        gone u h = elim (eq-zero-or-pos u) [
+        visited : (u : ℕ) → u * 2 ^ 1074 ≡ 0 * down e → u * 2 ^ low f ≡ 0 * down e
+        visited u h = elim (eq-zero-or-pos u) [
           | inl y ↦ ap (λ t. t * 2 ^ low f) y ∙ omega arith
           | inr p ↦ absurd (omega (arith, h, mul-pos p (pow_pos 1074)))
         ]

@@ -8,7 +8,7 @@ use Rattle.interpolator_render.specs.{Views.Shown, declared.view.Spec.Spec}
 use Rattle.interpolator_render.specs.declared.view.Trait.{Trait}
 use Rattle.interpolator_syntax.specs.Nodes.{Node, node, Branch, no_branch, branch, Forest, no_nodes}
 use Rattle.interpolator_syntax.specs.Nodes.{nodes_and, as_forest, nodes}
-use Rattle.interpolator_syntax.specs.{At.At, Faults.Fault, Faults.missing_value}
+use Rattle.interpolator_syntax.specs.{Places.At, Faults.Fault, Faults.missing_value}
 use Rattle.interpolator_eval.specs.Meaning.Environments.{Environment, environment}
 use Rattle.interpolator_eval.specs.{Slots.Slots, Meaning.AskedNames.asked_names}
 use Rattle.interpolator_eval.specs.Meaning.Meanings.{means}
@@ -143,7 +143,7 @@ first_of f (x ∷ xs) h = by_faults (first_of f xs) (node_faults x) refl
       back = k.back;
       split = ap (λ ys. x ∷ ys) k.split;
       none_before = rw (e) k.none_before;
-      told = k.told;
+      reported = k.reported;
     }
     by_faults rest (g ∷ gs) e = record {
       front = [];
@@ -151,7 +151,7 @@ first_of f (x ∷ xs) h = by_faults (first_of f xs) (node_faults x) refl
       back = xs;
       split = refl;
       none_before = refl;
-      told = rw e (rw e at h);
+      reported = rw e (rw e at h);
     }
 
 pub first_faulty : (a : At) (f : Fault) → first_fault (text_faults a) ≡ Some f

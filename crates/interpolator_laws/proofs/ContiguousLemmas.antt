@@ -10,11 +10,12 @@ use Rattle.interpolator_syntax.specs.Nodes.{piece_node, token_node, nodes}
 use Rattle.interpolator_syntax.specs.Splits.{node_place, node_end, Contiguous, GroupsInside}
 use Rattle.interpolator_syntax.specs.Splits.{GroupInside, HasGroups}
 use Rattle.interpolator_syntax.specs.{ArgumentGrammar.Asks, ArgumentGrammar.request_in}
-use Rattle.interpolator_syntax.specs.{Arguments.Argument, Arguments.argument_at, At.At, At.size}
-use Rattle.interpolator_syntax.specs.{At.strip, Classes.close_brace, Faults.Fault, Groups.Group}
+use Rattle.interpolator_syntax.specs.{Arguments.Argument, Arguments.argument_at, Places.At}
+use Rattle.interpolator_syntax.specs.{Places.size}
+use Rattle.interpolator_syntax.specs.{Places.strip, Classes.close_brace, Faults.Fault, Groups.Group}
 use Rattle.interpolator_syntax.specs.{Pieces.argument_from, Pieces.argument_or_broken}
 use Rattle.interpolator_syntax.specs.{Pieces.argument_step, SpecGrammar.kind}
-use Rattle.interpolator_syntax.specs.declared.piece_kind.PieceKind as told
+use Rattle.interpolator_syntax.specs.declared.piece_kind.PieceKind as reported
 use Rattle.interpolator_syntax.specs.declared.piece_kind.PieceKind.TheVariants.{Closed, Unclosed}
 use Rattle.interpolator_syntax.proofs.LocalityLemmas.{takes_reaches, size-append}
 use Rattle.interpolator_syntax.proofs.SizeLemmas.{GroupIfIn, KindIn, argument_in}
@@ -59,7 +60,7 @@ Reaches a = Contiguous a.place (as_forest (nodes a)) (a.place + size a.text)
 abbrev ShorterReach : At → Type 0
 ShorterReach a = (b : At) → length b.text < length a.text → Reaches b
 
-module _ (p end : ℕ) (kind : told.PieceKind) (has : HasGroups kind) (b : At) (start : p < b.place)
+module _ (p end : ℕ) (kind : reported.PieceKind) (has : HasGroups kind) (b : At) (start : p < b.place)
     (more : ShorterReach b) where
   one_inside : (o : Option Group) → GroupIfIn o b → GroupBefore end o
       → GroupInside p end kind (group_branch nodes o)
@@ -74,7 +75,7 @@ kind_later : (k : Kind) (m n : ℕ) → m ≤ n → KindBefore m k → KindBefor
 kind_later k m n h before = grind (arith, group_later)
 
 module _ (p : ℕ) (b : At) (start : p < b.place) (more : ShorterReach b) where
-  kind_inside : (end : ℕ) (kind : told.PieceKind) → HasGroups kind → (x : Argument) (q : At)
+  kind_inside : (end : ℕ) (kind : reported.PieceKind) → HasGroups kind → (x : Argument) (q : At)
       → argument_at b ≡ Ok (x, q) → q.place ≤ end
       → GroupInside p end kind (item_branch nodes x.kind)
       × GroupInside p end kind (join_branch nodes x.kind)

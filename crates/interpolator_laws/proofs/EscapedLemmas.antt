@@ -5,7 +5,7 @@ use Rattle.std.specs.{Prelude.IfOk, Prelude.string_bytes, declared.string.String
 use Rattle.interpolator_render.specs.{declared.view.Trait.Trait, declared.view.Spec.Spec}
 use Rattle.interpolator_render.specs.Views.{Shown}
 use Rattle.interpolator_syntax.specs.Faults.{fault, answer_of, no_memory, result_answer}
-use Rattle.interpolator_syntax.specs.{At.outermost, At.text_of, declared.error.Error.Error}
+use Rattle.interpolator_syntax.specs.{Places.outermost, Places.text_of, declared.error.Error.Error}
 use Rattle.interpolator_eval.specs.Meaning.Meanings.{Meaning, means}
 use Rattle.interpolator_eval.specs.{Meaning.Environments.Environment, Meaning.Outcomes.Formats}
 use Rattle.interpolator_escapes.specs.declared.escape.Escape.TheVariants.{Line, Html, Csv, Json}
@@ -34,18 +34,18 @@ module _ {Z : Type 0} where
       → Formats m r → Formats k s → SameAnswer r s
   same_answer m k (Ok text) (Ok other) e h j = inr (inr refl)
   same_answer m k (Ok text) (Err error) e h (inl out) = inr (inl (ap Some out))
-  same_answer m k (Ok text) (Err error) e h (inr told) =
+  same_answer m k (Ok text) (Err error) e h (inr reported) =
       let none : k.fault ≡ None = e ∙ h.0 in
-      let nothing : Some (answer_of error) ≡ None = told ∙ ap (option_map fault) none in
+      let nothing : Some (answer_of error) ≡ None = reported ∙ ap (option_map fault) none in
       absurd (cc)
   same_answer m k (Err error) s e (inl out) j = inl (ap Some out)
-  same_answer m k (Err error) (Ok text) e (inr told) j =
+  same_answer m k (Err error) (Ok text) e (inr reported) j =
       let none : m.fault ≡ None = sym e ∙ j.0 in
-      let nothing : Some (answer_of error) ≡ None = told ∙ ap (option_map fault) none in
+      let nothing : Some (answer_of error) ≡ None = reported ∙ ap (option_map fault) none in
       absurd (cc)
-  same_answer m k (Err error) (Err other) e (inr told) (inl out) = inr (inl (ap Some out))
-  same_answer m k (Err error) (Err other) e (inr told) (inr other_told) =
-      inr (inr (told ∙ sym (other_told ∙ ap (option_map fault) e)))
+  same_answer m k (Err error) (Err other) e (inr reported) (inl out) = inr (inl (ap Some out))
+  same_answer m k (Err error) (Err other) e (inr reported) (inr other_reported) =
+      inr (inr (reported ∙ sym (other_reported ∙ ap (option_map fault) e)))
 
 module _ {X : Type 0} (shows : X → Trait → Spec → Shown) (e : Environment X)
     (P : List ℕ → Type 0) where

@@ -6,7 +6,7 @@ use Rattle.interpolator_syntax.specs.Nodes.{Node, node, Branch, no_branch, branc
 use Rattle.interpolator_syntax.specs.Nodes.{nodes_and, as_forest, nodes, Content}
 use Rattle.interpolator_syntax.specs.Splits.{Contiguous, GroupsInside, GroupInside, HasGroups}
 use Rattle.interpolator_syntax.specs.Splits.{node_place, node_end}
-use Rattle.interpolator_syntax.specs.{At.At, declared.piece_kind.PieceKind.PieceKind}
+use Rattle.interpolator_syntax.specs.{Places.At, declared.piece_kind.PieceKind.PieceKind}
 use Rattle.interpolator_pieces.specs.NodePlaces.{has_place, innermost, InForest, InGroups, InBranch}
 use Rattle.interpolator_pieces.specs.NodePlaces.{node_has, argument_in, argument_among, IsInnermost}
 use Rattle.interpolator_syntax.proofs.CaseLemmas.{some_same}

@@ -13,7 +13,7 @@ use Rattle.interpolator_syntax.specs.Nodes.{nodes_and, as_forest, nodes, Content
 use Rattle.interpolator_syntax.specs.Nodes.{argument_content, fault_content, Target, target_value}
 use Rattle.interpolator_syntax.specs.Nodes.{target_list}
 use Rattle.interpolator_syntax.specs.declared.{piece_kind.PieceKind.PieceKind, range.Range.Range}
-use Rattle.interpolator_syntax.specs.{At.At, SpecTexts.plain_spec}
+use Rattle.interpolator_syntax.specs.{Places.At, SpecTexts.plain_spec}
 use Rattle.interpolator_eval.specs.Slots.{Slots, SlotsList, listed, no_slots, slots_and, values_of}
 use Rattle.interpolator_eval.specs.Slots.{items, slot_at, slots_listed}
 use Rattle.interpolator_eval.specs.Meaning.AskedNames.{asked_names, context_names, content_names}

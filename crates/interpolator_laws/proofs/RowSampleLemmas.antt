@@ -4,9 +4,9 @@ use Rattle.std.proofs.Common.{map, arith, Option, Some, None, option_map, rules,
 use Rattle.std.proofs.Common.{option_and_then, reverse, bytes_eq, encode_utf8_all}
 use Rattle.std.proofs.{lemmas.List.reverse-append, lemmas.List.Folds.find-append}
 use Rattle.std.specs.{Option.option_or, Prelude.⊤}
-use Rattle.interpolator_render.specs.{Views.Shown, Written.Written, declared.view.Spec.Spec}
+use Rattle.interpolator_render.specs.{Views.Shown, Writers.Written, declared.view.Spec.Spec}
 use Rattle.interpolator_render.specs.declared.view.Trait.{Trait}
-use Rattle.interpolator_syntax.specs.{At.At, Faults.Answer, Faults.no_memory}
+use Rattle.interpolator_syntax.specs.{Places.At, Faults.Answer, Faults.no_memory}
 use Rattle.interpolator_eval.specs.Meaning.Environments.{Environment, environment}
 use Rattle.interpolator_eval.specs.Meaning.Outcomes.{Outcome, OnlyRefused}
 use Rattle.interpolator_eval.specs.{Contexts.found_by_pairs, Meaning.AskedNames.asked_names}

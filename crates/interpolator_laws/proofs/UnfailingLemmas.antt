@@ -1,6 +1,6 @@
 -- What writing a meaning without a fault can return.
 use Rattle.std.proofs.Common.{◌≡◌, arith, [], Option, Some, None, Result, IfErr, String}
-use Rattle.interpolator_render.specs.Written.{Written}
+use Rattle.interpolator_render.specs.Writers.{Written}
 use Rattle.interpolator_syntax.specs.Faults.{Answer, no_memory, answer_of}
 use Rattle.interpolator_syntax.specs.declared.error.Error.{Error}
 use Rattle.interpolator_eval.specs.Meaning.Meanings.{Meaning}

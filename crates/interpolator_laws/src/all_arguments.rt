@@ -1,7 +1,7 @@
 //! Laws of the arguments of a format and of its groups, each the contract of a small function.
 
 ghost use Rattle.std.specs.Prelude.{◌≡◌, [], ◌∷◌, map, codes};
-ghost use Rattle.interpolator_syntax.specs.{At.At, At.outermost, Pieces.pieces};
+ghost use Rattle.interpolator_syntax.specs.{Places.At, Places.outermost, Pieces.pieces};
 ghost use Rattle.interpolator_eval.specs.Meaning.AskedNames.{asked_names, without_empty};
 ghost use Rattle.interpolator_pieces.specs.AllArguments.{arguments_of, names_of, pieces_arguments};
 

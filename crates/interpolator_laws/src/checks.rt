@@ -3,7 +3,8 @@
 
 ghost use Rattle.std.specs.Prelude.{◌≡◌, ◌↔◌, ℕ, List, Option, None, Some, Contains, codes};
 ghost use Rattle.interpolator_syntax.specs.Faults.{Fault, parse, unclosed, missing_value};
-ghost use Rattle.interpolator_syntax.specs.{At.At, At.outermost, Nodes.as_forest, Nodes.nodes};
+ghost use Rattle.interpolator_syntax.specs.{Places.At, Places.outermost, Nodes.as_forest};
+ghost use Rattle.interpolator_syntax.specs.{Nodes.nodes};
 ghost use Rattle.interpolator_eval.specs.Meaning.Environments.{Environment, environment};
 ghost use Rattle.interpolator_eval.specs.{Slots.Slots, Meaning.AskedNames.asked_names};
 ghost use Rattle.interpolator_eval.specs.Meaning.Meanings.{means};

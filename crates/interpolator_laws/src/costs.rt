@@ -7,7 +7,7 @@ ghost use lib.Ieee.Exact.{HasValue};
 ghost use Rattle.interpolator_render.specs.Lengths.{IsBodyWithin, IsFloatWithin, most_decimal};
 ghost use Rattle.interpolator_render.specs.Lengths.{most_text};
 ghost use Rattle.interpolator_render.specs.{Forms.float_body, declared.view.Trait.Trait};
-ghost use Rattle.interpolator_syntax.specs.At.{At, outermost};
+ghost use Rattle.interpolator_syntax.specs.Places.{At, outermost};
 ghost use Rattle.interpolator_syntax.specs.{Faults.missing_value, declared.range.Range.Range};
 ghost use Rattle.interpolator_eval.specs.Meaning.Limits.{IsWithin, most_chosen};
 ghost use Rattle.interpolator_eval.specs.Meaning.{AskedNames.asked_names, Choices.chosen_items};
@@ -36,7 +36,7 @@ pub fn a_format_costs_no_more_than_it_is_said_to<V: Value>()
     ensures buffered { (limits : Limits) (e : Environment V) (a : At)
         → IsWithin V.shows limits.text limits.items e (asked_names a)
         → (text_work V.shows e a).held ≤ (text_cost limits a).buffered }
-    ensures told { (limits : Limits) (e : Environment V) (a : At)
+    ensures reported { (limits : Limits) (e : Environment V) (a : At)
         → IsWithin V.shows limits.text limits.items e (asked_names a)
         → (usize_cost (text_cost limits a)).characters ≢ 2 ^ 64 - 1
         → length (means V.shows e a).text ≤ (usize_cost (text_cost limits a)).characters }

@@ -1,7 +1,8 @@
 //! Laws of how deep a format is, each the contract of a small function.
 
 ghost use Rattle.std.specs.Prelude.{◌≡◌, ◌+◌, ◌*◌, ◌≤◌, codes, length};
-ghost use Rattle.interpolator_syntax.specs.{At.At, At.outermost, Nodes.as_forest, Nodes.nodes};
+ghost use Rattle.interpolator_syntax.specs.{Places.At, Places.outermost, Nodes.as_forest};
+ghost use Rattle.interpolator_syntax.specs.{Nodes.nodes};
 ghost use Rattle.interpolator_pieces.specs.NodeExtents.{forest_depth};
 
 /// A format with deeply nested groups is long: if it is `d` deep, it has at least `d * (d + 4)`

@@ -2,7 +2,7 @@
 
 ghost use Rattle.std.specs.Prelude.{◌≡◌, ◌⊎◌, List, [], ◌∷◌, Some, IfOk, codes, map, string_bytes};
 ghost use Rattle.std.specs.{List.filter, Str.chars};
-ghost use Rattle.interpolator_syntax.specs.At.{outermost, text_of};
+ghost use Rattle.interpolator_syntax.specs.Places.{outermost, text_of};
 ghost use Rattle.interpolator_syntax.specs.Faults.{no_memory, result_answer};
 ghost use Rattle.interpolator_eval.specs.Slots.{Slots, items};
 ghost use Rattle.interpolator_eval.specs.{Meaning.Environments.environment, Meaning.Meanings.means};

@@ -1,7 +1,7 @@
 //! Laws of formats that mean a text and nothing else, each the contract of a small function.
 
 ghost use Rattle.std.specs.Prelude.{List, ℕ};
-ghost use Rattle.interpolator_syntax.specs.{At.At, At.outermost, Pieces.pieces};
+ghost use Rattle.interpolator_syntax.specs.{Places.At, Places.outermost, Pieces.pieces};
 ghost use Rattle.interpolator_eval.specs.{Meaning.Environments.Environment, Meaning.Meanings.means};
 ghost use Rattle.interpolator.specs.Escaping.{braces_doubled, ArePlain, SaysAlone};
 

@@ -1,7 +1,7 @@
 //! Laws of the argument that has a place of a format, each the contract of a small function.
 
 ghost use Rattle.std.specs.Prelude.{◌≡◌, ℕ, None, Some, false, codes};
-ghost use Rattle.interpolator_syntax.specs.At.{At, outermost};
+ghost use Rattle.interpolator_syntax.specs.Places.{At, outermost};
 ghost use Rattle.interpolator_syntax.specs.Nodes.{Node, as_forest, nodes};
 ghost use Rattle.interpolator_pieces.specs.NodePlaces.{argument_among, node_has};
 ghost use Rattle.interpolator_pieces.specs.NodePlaces.{InForest, IsInnermost};

@@ -5,7 +5,7 @@ ghost use Rattle.std.specs.Prelude.{IsSome, None, Some, codes, false};
 ghost use Rattle.std.specs.{Borrow.Bor, List.zip, Str.chars};
 ghost use Rattle.interpolator_render.specs.declared.view.Trait.TheVariants as traits;
 ghost use Rattle.interpolator_syntax.specs.Nodes.{Node, as_forest, nodes};
-ghost use Rattle.interpolator_syntax.specs.{At.At, At.outermost, Faults.result_answer};
+ghost use Rattle.interpolator_syntax.specs.{Places.At, Places.outermost, Faults.result_answer};
 ghost use Rattle.interpolator_syntax.specs.{Faults.no_memory, SpecTexts.plain_spec};
 ghost use Rattle.interpolator_eval.specs.Meaning.Meanings.{forest_means, means};
 ghost use Rattle.interpolator_eval.specs.Meaning.Outcomes.{Outcome, OnlyRefused};

@@ -9,7 +9,7 @@ ghost use Rattle.interpolator_render.specs.Views.{decimal_number, float_number};
 ghost use Rattle.interpolator_render.specs.{Texts.view_text, declared.view.Bits.Bits};
 ghost use Rattle.interpolator_render.specs.{declared.view.Spec.Spec, declared.view.Trait.Trait};
 ghost use Rattle.interpolator_render.specs.declared.view.Trait.TheVariants as traits;
-ghost use Rattle.interpolator_syntax.specs.At.{At, outermost};
+ghost use Rattle.interpolator_syntax.specs.Places.{At, outermost};
 ghost use Rattle.interpolator_syntax.specs.Faults.{fault_place, fmt, missing_trait_impl};
 ghost use Rattle.interpolator_syntax.specs.Faults.{missing_value, parse, unclosed, iter, answer_of};
 ghost use Rattle.interpolator_syntax.specs.Faults.{result_answer, no_memory};

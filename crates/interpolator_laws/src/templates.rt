@@ -4,7 +4,8 @@ ghost use Rattle.std.specs.Prelude.{◌≡◌, ◌↔◌, ◌+◌, [], ◌∷◌
 ghost use Rattle.std.specs.Prelude.{List, None, Some, Ok, IsTrue, codes};
 ghost use Rattle.interpolator_render.specs.declared.view.Trait.TheVariants as traits;
 ghost use Rattle.std.specs.Str.{chars};
-ghost use Rattle.interpolator_syntax.specs.{At.At, At.size, At.outermost, Faults.result_answer};
+ghost use Rattle.interpolator_syntax.specs.{Places.At, Places.size, Places.outermost};
+ghost use Rattle.interpolator_syntax.specs.{Faults.result_answer};
 ghost use Rattle.interpolator_syntax.specs.{Groups.Group, SpecTexts.plain_spec};
 ghost use Rattle.interpolator_eval.specs.Meaning.Environments as environments;
 ghost use Rattle.interpolator_eval.specs.Meaning.Environments.{environment};
@@ -17,7 +18,8 @@ ghost use Rattle.interpolator_syntax.specs.Nodes.{group_branch, nodes};
 ghost use Rattle.interpolator_pieces.specs.Stored.{forest_whole};
 ghost use Rattle.interpolator_syntax.specs.Splits.{nodes_alone, join_literals, split_again};
 ghost use Rattle.interpolator_syntax.specs.Splits.{NoTwoLiterals, Contiguous};
-ghost use Rattle.interpolator_syntax.specs.declared.piece_kind.PieceKind.TheVariants.{Literal, Doubled};
+ghost use Rattle.interpolator_syntax.specs.declared.piece_kind.PieceKind.TheVariants.{Literal};
+ghost use Rattle.interpolator_syntax.specs.declared.piece_kind.PieceKind.TheVariants.{Doubled};
 ghost use Rattle.interpolator_syntax.specs.declared.piece_kind.PieceKind.TheVariants.{Closed};
 
 use interpolator::Template;

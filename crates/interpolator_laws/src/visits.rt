@@ -1,7 +1,7 @@
 //! Laws of the walk over the pieces of a format, each the contract of a small function.
 
 ghost use Rattle.std.specs.Prelude.{◌≡◌, flat_map};
-ghost use Rattle.interpolator_syntax.specs.{At.At, Nodes.as_forest, Nodes.nodes};
+ghost use Rattle.interpolator_syntax.specs.{Places.At, Nodes.as_forest, Nodes.nodes};
 ghost use Rattle.interpolator_eval.specs.Meaning.AskedNames.{asked_names};
 ghost use Rattle.interpolator_pieces.specs.NodeChecks.{text_faults, visit_faults};
 ghost use Rattle.interpolator_pieces.specs.NodeExtents.{forest_depth, forest_extent, visit_depth};

@@ -6,7 +6,7 @@ use Rattle.std.specs.{Char.len_utf8, Prelude.option_map}
 use Rattle.interpolator_syntax.specs.Arguments.{Argument, argument_at, named_argument, request_of}
 use Rattle.interpolator_syntax.specs.Arguments.{argument_of, kind_of, taken_read}
 use Rattle.interpolator_syntax.specs.Tokens.{Token, first_token, past_token, argument, token_of}
-use Rattle.interpolator_syntax.specs.{At.At, At.at, At.strip, Classes.close_brace}
+use Rattle.interpolator_syntax.specs.{Places.At, Places.at, Places.strip, Classes.close_brace}
 use Rattle.interpolator_syntax.specs.{PieceGrammar.literal_pieces, PieceGrammar.token_pieces}
 use Rattle.interpolator_syntax.specs.{Pieces.Piece, Pieces.pieces, Pieces.argument_from}
 use Rattle.interpolator_syntax.specs.declared.argument.Argument as code_argument

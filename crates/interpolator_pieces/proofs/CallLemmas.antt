@@ -1,8 +1,8 @@
 -- What a call owes that writes a format follows from its outcome.
 use Rattle.std.proofs.Common.{arith, ℕ, List, length, Option, None, Some, chars, IsUtf8}
-use Rattle.interpolator_render.specs.{Views.Shown, Written.Written, declared.view.Spec.Spec}
+use Rattle.interpolator_render.specs.{Views.Shown, Writers.Written, declared.view.Spec.Spec}
 use Rattle.interpolator_render.specs.declared.view.Trait.{Trait}
-use Rattle.interpolator_syntax.specs.{At.outermost, Faults.Answer}
+use Rattle.interpolator_syntax.specs.{Places.outermost, Faults.Answer}
 use Rattle.interpolator_syntax.proofs.CharacterLemmas.{size-chars}
 use Rattle.interpolator_eval.specs.{Slots.Slots, Meaning.Environments.environment}
 use Rattle.interpolator_eval.specs.{Meaning.Meanings.means, Meaning.Outcomes.Outcome}

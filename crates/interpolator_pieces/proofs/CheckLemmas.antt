@@ -3,7 +3,7 @@ use Rattle.std.proofs.Common.{suc, arith, ◌≡◌, refl, ℕ, true, List, [], 
 use Rattle.std.proofs.Common.{option_map, Result, Ok, inl, inr, flat_map}
 use Rattle.interpolator_syntax.specs.Faults.{Fault, Answer, fault, result_answer}
 use Rattle.interpolator_syntax.specs.Nodes.{Content, argument_content, target_list}
-use Rattle.interpolator_syntax.specs.{At.At, declared.error.Error.Error}
+use Rattle.interpolator_syntax.specs.{Places.At, declared.error.Error.Error}
 use Rattle.interpolator_pieces.specs.NodeChecks.{fault_list, first_fault, form_fault}
 use Rattle.interpolator_pieces.specs.NodeChecks.{stored_own_fault, stored_end_fault, visit_faults}
 use Rattle.interpolator_pieces.specs.NodeChecks.{text_faults, own_fault}
@@ -18,8 +18,8 @@ use Rattle.interpolator_pieces.proofs.{StoredLemmas.node_of_out, WholePieceLemma
 
 -- ---- the first of some faults
 
-abbrev pub told : List Fault → Option Answer
-told xs = option_map fault (first_fault xs)
+abbrev pub reported : List Fault → Option Answer
+reported xs = option_map fault (first_fault xs)
 
 -- ---- the faults of one stored piece, when it is entered and when it is left
 
@@ -47,27 +47,27 @@ module _ (bs : List ℕ) (x : Piece) (whole : node_whole (node_of bs x) ≡ true
   pub left_faults : visit_faults (leave level (node_of bs x)) ≡ fault_list (stored_end_fault x)
   left_faults = grind (arith, node_of_out, fits_text)
 
-  pub own_told : option_map fault (stored_own_fault x)
-      ≡ told (visit_faults (enter level (node_of bs x)))
-  own_told = grind (arith, entered_faults)
+  pub own_reported : option_map fault (stored_own_fault x)
+      ≡ reported (visit_faults (enter level (node_of bs x)))
+  own_reported = grind (arith, entered_faults)
 
-  pub end_told : option_map fault (stored_end_fault x)
-      ≡ told (visit_faults (leave level (node_of bs x)))
-  end_told = grind (arith, left_faults)
+  pub end_reported : option_map fault (stored_end_fault x)
+      ≡ reported (visit_faults (leave level (node_of bs x)))
+  end_reported = grind (arith, left_faults)
 
 -- ---- the first fault of a text
 
 module _ {V : Type 0} (step : V → Visit → V → Result (Unit {0}) Error → Type 0)
     (tells : (old new : V) (x : Visit) (answer : Result (Unit {0}) Error) → step old x new answer
-    → result_answer answer ≡ told (visit_faults x)) where
-  visits_told : (old new : V) (xs : List Visit) (answer : Result (Unit {0}) Error)
-      → Walks step old xs new answer → result_answer answer ≡ told (flat_map visit_faults xs)
-  visits_told old new [] answer h = grind arith
-  visits_told old new (x ∷ xs) answer (inl h) = grind (arith, tells old new x answer h.0)
-  visits_told old new (x ∷ xs) answer (inr (mid, (s, h))) =
-      grind (arith, tells old mid x (Ok tt) s, visits_told mid new xs answer h)
+    → result_answer answer ≡ reported (visit_faults x)) where
+  visits_reported : (old new : V) (xs : List Visit) (answer : Result (Unit {0}) Error)
+      → Walks step old xs new answer → result_answer answer ≡ reported (flat_map visit_faults xs)
+  visits_reported old new [] answer h = grind arith
+  visits_reported old new (x ∷ xs) answer (inl h) = grind (arith, tells old new x answer h.0)
+  visits_reported old new (x ∷ xs) answer (inr (mid, (s, h))) =
+      grind (arith, tells old mid x (Ok tt) s, visits_reported mid new xs answer h)
 
-  pub text_told : (a : At) (old new : V) (answer : Result (Unit {0}) Error)
-      → Walks step old (text_visits a) new answer → result_answer answer ≡ told (text_faults a)
-  text_told a old new answer h =
-      rw (← text_tells a) (visits_told old new (text_visits a) answer h)
+  pub text_reported : (a : At) (old new : V) (answer : Result (Unit {0}) Error)
+      → Walks step old (text_visits a) new answer → result_answer answer ≡ reported (text_faults a)
+  text_reported a old new answer h =
+      rw (← text_tells a) (visits_reported old new (text_visits a) answer h)

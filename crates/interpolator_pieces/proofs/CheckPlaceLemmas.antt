@@ -2,7 +2,7 @@
 use Rattle.std.proofs.Common.{◌≡◌, ℕ, zero, suc, ◌+◌, ◌<◌, ◌≤◌, List, [], ◌∷◌, ◌++◌, length, arith}
 use Rattle.std.proofs.Common.{subst, Some, None, option_map}
 use Rattle.std.specs.{Prelude.⊤, Prelude.Contains, Prelude.slice_index_or, Str.chars, Str.IsUtf8}
-use Rattle.interpolator_syntax.specs.At.{At, size, outermost}
+use Rattle.interpolator_syntax.specs.Places.{At, size, outermost}
 use Rattle.interpolator_syntax.specs.Faults.{Fault, fault, fault_place, PlaceWithin}
 use Rattle.interpolator_syntax.specs.Nodes.{Node, node, Branch, no_branch, branch, Forest, no_nodes}
 use Rattle.interpolator_syntax.specs.Nodes.{nodes_and, as_forest, nodes, Content}

@@ -91,12 +91,12 @@ module _ {X : Type 0} (shows : X → Trait → Spec → Shown) (s : Sample X) wh
         grind (arith, node_of_out bs x, fits_text bs x whole, own, last)
 
   -- an item format is checked with each item that there may be
-  pub item_told : (bs : List ℕ) (o : Option Content) (group : Option (Vec Piece)) (v : Vec Piece)
+  pub item_reported : (bs : List ℕ) (o : Option Content) (group : Option (Vec Piece)) (v : Vec Piece)
       (xs : List Piece) (inner : Sample X) (old new : FaultCollector) (r : Option Answer) → IsSome o
       → group ≡ Some v → xs ≡ v.items → inner ≡ bind_each s (items_of_content s o)
       → Collects (forest_faults_in shows inner (as_forest (nodes_of bs xs))) old new r
       → Collects (item_of shows s o (branch_of bs group)) old new r
-  item_told bs o group v xs inner old new r h is same e told = grind arith
+  item_reported bs o group v xs inner old new r h is same e reported = grind arith
 
   -- ---- the parts of one piece, one after the other
 
@@ -147,9 +147,9 @@ module _ {X : Type 0} (shows : X → Trait → Spec → Shown) (s : Sample X) wh
           join_ends new q h = grind (arith, of_all, collects_after, collects_before)
 
           -- all its faults are reported
-          pub last_told : (joined new : FaultCollector) (r : Option Answer)
+          pub last_reported : (joined new : FaultCollector) (r : Option Answer)
               → Collects Join looked joined None → Collects Last joined new r → Collects All old new r
-          last_told joined new r join h = grind (arith, of_all, collects_after)
+          last_reported joined new r join h = grind (arith, of_all, collects_after)
 
     -- ---- no fault at all
 

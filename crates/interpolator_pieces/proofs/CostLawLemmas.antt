@@ -13,7 +13,8 @@ use Rattle.interpolator_syntax.specs.Nodes.{Node, node, Branch, no_branch, branc
 use Rattle.interpolator_syntax.specs.Nodes.{nodes_and, as_forest, nodes, Content, text_content}
 use Rattle.interpolator_syntax.specs.Nodes.{argument_content, fault_content, Target, target_value}
 use Rattle.interpolator_syntax.specs.Nodes.{target_list}
-use Rattle.interpolator_syntax.specs.{At.At, At.placed_from, Faults.Fault, Faults.missing_value}
+use Rattle.interpolator_syntax.specs.{Places.At, Places.placed_from, Faults.Fault}
+use Rattle.interpolator_syntax.specs.{Faults.missing_value}
 use Rattle.interpolator_syntax.specs.{SpecTexts.plain_spec, declared.piece_kind.PieceKind.PieceKind}
 use Rattle.interpolator_syntax.specs.declared.range.Range.{Range}
 use Rattle.interpolator_eval.specs.Slots.{Slots, SlotsList, no_slots, slots_and, values_of, items}
@@ -248,8 +249,8 @@ module _ {X : Type 0} (shows : X → Trait → Spec → Shown) (limits : Limits)
   text_at_most e a h = search (rules, forest_at_most)
 
 -- a count that is reported below the greatest `usize` is exact
-pub told_exactly : (n count : ℕ) → n ≤ count → usize_count count ≢ 2 ^ 64 - 1 → n ≤ usize_count count
-told_exactly n count h k = grind arith
+pub reported_exactly : (n count : ℕ) → n ≤ count → usize_count count ≢ 2 ^ 64 - 1 → n ≤ usize_count count
+reported_exactly n count h k = grind arith
 
 -- ---- no memory
 

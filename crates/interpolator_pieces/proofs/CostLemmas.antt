@@ -51,19 +51,19 @@ module _ (limits : Limits) where
   capped_content h item join = grind (arith, capped_padded, capped_items)
 
   module _ (item join : Cost) where
-    abbrev told : Content → Cost
-    told h = usize_cost (content_cost limits h item join)
+    abbrev reported : Content → Cost
+    reported h = usize_cost (content_cost limits h item join)
 
     -- what an argument costs, by its form
-    abbrev pub Told : Spec → Form → Option Content → Type 0
-    Told spec forms.Plain held =
-        option_map told held ≡ Some (usize_cost (value_cost limits Display plain_spec))
-    Told spec (forms.Value t) held =
-        option_map told held ≡ Some (usize_cost (value_cost limits t spec))
-    Told spec (forms.List range) held =
-        option_map told held ≡ Some (usize_cost (list_cost limits (range) spec item join))
-    Told spec _ held = ⊤
+    abbrev pub Reported : Spec → Form → Option Content → Type 0
+    Reported spec forms.Plain held =
+        option_map reported held ≡ Some (usize_cost (value_cost limits Display plain_spec))
+    Reported spec (forms.Value t) held =
+        option_map reported held ≡ Some (usize_cost (value_cost limits t spec))
+    Reported spec (forms.List range) held =
+        option_map reported held ≡ Some (usize_cost (list_cost limits (range) spec item join))
+    Reported spec _ held = ⊤
 
-    pub form_told : (bs : List ℕ) (x : Piece) → IsSome (content_of bs x)
-        → Told (detail_of x).spec (detail_of x).form (content_of bs x)
-    form_told bs x held = grind arith
+    pub form_reported : (bs : List ℕ) (x : Piece) → IsSome (content_of bs x)
+        → Reported (detail_of x).spec (detail_of x).form (content_of bs x)
+    form_reported bs x held = grind arith

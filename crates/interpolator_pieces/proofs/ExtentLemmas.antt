@@ -6,7 +6,7 @@ use Rattle.interpolator_pieces.specs.Stored.{node_of, node_whole}
 use Rattle.interpolator_pieces.specs.{declared.walk.Level.Level, declared.piece.Piece.Piece}
 use Rattle.interpolator_pieces.proofs.{VisitLemmas.gathers_greatest, StoredLemmas.node_of_out}
 use Rattle.interpolator_pieces.proofs.WholePieceLemmas.{fits_text}
-use Rattle.interpolator_syntax.specs.At.{At}
+use Rattle.interpolator_syntax.specs.Places.{At}
 
 -- ---- one piece
 

@@ -16,7 +16,7 @@ pub mod WholeLemmas
 pub mod WholePieceLemmas
 -- of this crate alone
 mod CostLemmas
-mod DepthLemmas
+mod NodeDepthLemmas
 mod ListTextLemmas
 mod ParseLemmas
 mod PartLemmas

@@ -1,6 +1,6 @@
 -- A newline after what a format means.
 use Rattle.std.proofs.Common.{refl, ℕ, arith, Option, None, Some}
-use Rattle.interpolator_render.specs.Written.{Written}
+use Rattle.interpolator_render.specs.Writers.{Written}
 use Rattle.interpolator_syntax.specs.Faults.{Answer, PlaceWithin}
 use Rattle.interpolator_eval.specs.{Meaning.Meanings.Meaning, Meaning.Outcomes.Outcome}
 use Rattle.interpolator_pieces.specs.Lines.{newline_means, line_means}

@@ -1,7 +1,7 @@
 -- The pieces of a format from its first list on.
 use Rattle.std.proofs.Common.{◌≡◌, ◌∙◌, sym, ap, refl, arith, ℕ, ◌+◌, List, [], length, true, Some}
 use Rattle.std.proofs.Common.{IsSome, append-nil, chars, IsUtf8, ◌⊎◌, inl, inr}
-use Rattle.interpolator_syntax.specs.{At.outermost, At.size, Nodes.as_forest, Nodes.nodes}
+use Rattle.interpolator_syntax.specs.{Places.outermost, Places.size, Nodes.as_forest, Nodes.nodes}
 use Rattle.interpolator_syntax.proofs.CharacterLemmas.{size-chars}
 use Rattle.interpolator_syntax.proofs.LocalityLemmas.{size-append, stands}
 use Rattle.interpolator_eval.specs.Meaning.ScannedLists.{ListAt, text_forest}

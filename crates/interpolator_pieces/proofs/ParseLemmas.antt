@@ -5,7 +5,7 @@ use Rattle.std.proofs.Common.{option_map, chars, IsUtf8}
 use Rattle.std.specs.Global.{Vec}
 use Rattle.interpolator_render.specs.declared.view.Trait.{Trait}
 use Rattle.interpolator_render.specs.declared.view.Trait.TheVariants as traits
-use Rattle.interpolator_syntax.specs.At.{At, at, size, strip, all_after, outermost}
+use Rattle.interpolator_syntax.specs.Places.{At, at, size, strip, all_after, outermost}
 use Rattle.interpolator_syntax.specs.Arguments.{Argument, argument_at, named_argument, request_of}
 use Rattle.interpolator_syntax.specs.Arguments.{kind_of_request, taken_read, argument_after}
 use Rattle.interpolator_syntax.specs.Arguments.{plain_argument, list_of}
@@ -34,7 +34,7 @@ use Rattle.interpolator_pieces.specs.Stored.{node_of, nodes_of, branch_of, store
 use Rattle.interpolator_pieces.specs.Stored.{bare_detail, detail_content}
 use Rattle.interpolator_pieces.specs.declared.piece.Form.TheVariants as forms
 use Rattle.interpolator_pieces.specs.declared.piece.Piece.{Piece}
-use Rattle.interpolator_syntax.specs.declared.piece_kind.PieceKind as told
+use Rattle.interpolator_syntax.specs.declared.piece_kind.PieceKind as reported
 use Rattle.interpolator_syntax.specs.declared.piece_kind.PieceKind.TheVariants.{Literal, Doubled}
 use Rattle.interpolator_syntax.specs.declared.piece_kind.PieceKind.TheVariants.{LoneClose, Closed}
 use Rattle.interpolator_syntax.proofs.NodeLemmas.{nodes_first, nodes_none}
@@ -59,12 +59,12 @@ ending_is p a x q o e = grind (arith, at_same, takes_reaches, argument_takes)
 -- ---- texts
 
 -- the node of a piece without a detail
-abbrev BareNode : List ℕ → (place end : ℕ) → told.PieceKind → Node
+abbrev BareNode : List ℕ → (place end : ℕ) → reported.PieceKind → Node
 BareNode bs place end kind =
     node place end kind (detail_content bs place (bare_detail place end kind)) no_branch no_branch
 
 -- the kind of a text that the scan hands on
-abbrev TextKind : Token → told.PieceKind → Type 0
+abbrev TextKind : Token → reported.PieceKind → Type 0
 TextKind (literals cs) kind = kind ≡ Literal
 TextKind (doubled c) kind = kind ≡ Doubled
 TextKind lone_close kind = kind ≡ LoneClose
@@ -79,7 +79,7 @@ module _ (bs : List ℕ) (u : IsUtf8 bs) (a : At) (w : Within (outermost (chars 
       part_lies bs a.place (written_text x) to u
       (within_then _ a _ w (front_within a (written_text x) h.more h.begins)) t
 
-  text_node : (x : Token) (kind : told.PieceKind) (b : At) → TextKind x kind
+  text_node : (x : Token) (kind : reported.PieceKind) (b : At) → TextKind x kind
       → first_token a ≡ Some (x, b)
       → BareNode bs a.place b.place kind ≡ token_node nodes a.place x b
   text_node (doubled c) kind b k e =
@@ -134,7 +134,7 @@ module _ (place : ℕ) (b : At) (n : ArgumentName) (x : code_request.Request) (e
       → rest ≡ (argument_from b.place b).rest
   rest_is rest e = grind (arith, step_is, ending_is)
 
-  module _ (old new : List Piece) (piece : Piece) (rest : At) (kind : told.PieceKind)
+  module _ (old new : List Piece) (piece : Piece) (rest : At) (kind : reported.PieceKind)
       (ends : rest ≡ ending_rest (at end) (strip close_brace (at end)))
       (is : kind ≡ ending_kind (strip close_brace (at end)))
       (added : new ≡ old ++ (piece ∷ [])) where
@@ -252,7 +252,7 @@ module _ (text a : At) (stored : List Piece) (reading : Reading text stored a) w
 
   -- a text that the scan hands on is stored as a piece that is written as it is
   pub text_reads :
-      (x : Token) (b : At) (new : List Piece) (piece : Piece) (kind : told.PieceKind)
+      (x : Token) (b : At) (new : List Piece) (piece : Piece) (kind : reported.PieceKind)
       → first_token a ≡ Some (x, b) → TextKind x kind → new ≡ stored ++ (piece ∷ [])
       → ((bs : List ℕ) → node_of bs piece ≡ BareNode bs a.place b.place kind)
       → Reading text new b

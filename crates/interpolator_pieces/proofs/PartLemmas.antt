@@ -6,7 +6,7 @@ use Rattle.std.proofs.Common.{length-append}
 use Rattle.std.proofs.lemmas.Str.{IsCharBoundary-at_seam, encodes-chars, encodes-append}
 use Rattle.std.proofs.lemmas.Str.{chars-encodes, scalars-chars}
 use Rattle.std.proofs.{Math.Utf8.scalars, Math.Seq.take-append_seam, Math.Seq.drop-append_seam}
-use Rattle.interpolator_syntax.specs.At.{size, outermost}
+use Rattle.interpolator_syntax.specs.Places.{size, outermost}
 use Rattle.interpolator_syntax.proofs.{CharacterLemmas.length-encodes, LocalityLemmas.stands}
 use Rattle.interpolator_pieces.specs.Stored.{may_cut, part, name_part, Within}
 

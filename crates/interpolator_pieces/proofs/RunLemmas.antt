@@ -7,12 +7,12 @@ use Rattle.std.proofs.{lemmas.Bool.Decides.nat_tests, lemmas.List.drop-map}
 use Rattle.std.specs.Bool.{MatchBool, ◌==◌}
 use Rattle.interpolator_render.specs.declared.view.Trait.{Trait}
 use Rattle.interpolator_render.specs.declared.view.Trait.TheVariants as traits
-use Rattle.interpolator_render.specs.{declared.view.Spec.Spec, Views.Shown, Written.Written}
+use Rattle.interpolator_render.specs.{declared.view.Spec.Spec, Views.Shown, Writers.Written}
 use Rattle.interpolator_syntax.specs.Faults.{Answer, fault, argument_fault_of}
 use Rattle.interpolator_syntax.specs.Nodes.{Content, text_content, argument_content, fault_content}
 use Rattle.interpolator_syntax.specs.Nodes.{no_nodes, Target, target_value, target_list, as_forest}
 use Rattle.interpolator_syntax.specs.Nodes.{nodes}
-use Rattle.interpolator_syntax.specs.{At.At, At.outermost, SpecTexts.plain_spec}
+use Rattle.interpolator_syntax.specs.{Places.At, Places.outermost, SpecTexts.plain_spec}
 use Rattle.interpolator_syntax.specs.declared.argument_fault.ArgumentFault.{ArgumentFault}
 use Rattle.interpolator_syntax.specs.declared.range.Range.{Range}
 use Rattle.interpolator_eval.specs.Meaning.Meanings.{Meaning, and_closed, forest_means}
@@ -144,7 +144,7 @@ module _ (m : Meaning) (s t : Written) (end : ℕ) (kind : PieceKind) where
   -- if all was written, a closed argument adds nothing, and an unclosed one its fault
   pub closed_done : (r : Option Answer) → r ≡ option_map fault (unclosed_fault_of kind end)
       → Outcome m s t None → Outcome (and_closed kind end m) s t r
-  closed_done r told o = grind (arith, and_then, ended)
+  closed_done r reported o = grind (arith, and_then, ended)
 
 -- ---- the pieces of a whole text
 

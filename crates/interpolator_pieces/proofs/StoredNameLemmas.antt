@@ -1,7 +1,8 @@
 -- The names that stored pieces use: that of one piece, and those of a text.
 use Rattle.std.proofs.Common.{arith, ◌≡◌, ℕ, Bool, true, List, ◌++◌, Some, IsSome, Result, Ok}
 use Rattle.std.specs.declared.string.String.{String}
-use Rattle.interpolator_syntax.specs.{declared.argument_fault.ArgumentFault.ArgumentFault, At.At}
+use Rattle.interpolator_syntax.specs.{declared.argument_fault.ArgumentFault.ArgumentFault}
+use Rattle.interpolator_syntax.specs.{Places.At}
 use Rattle.interpolator_eval.specs.Meaning.AskedNames.{context_names, content_names, asked_names}
 use Rattle.interpolator_pieces.specs.Stored.{detail_of, content_of, node_of, node_whole}
 use Rattle.interpolator_pieces.specs.{NodeNames.visit_asks, NodeNames.name_texts, Visits.Visit}

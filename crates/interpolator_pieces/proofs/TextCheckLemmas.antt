@@ -3,7 +3,7 @@ use Rattle.std.proofs.Common.{◌≡◌, ◌≤◌, refl, arith, ℕ, List, [], 
 use Rattle.std.proofs.Common.{append-nil, Option, None, Some, Result, Ok, Err, IfOk}
 use Rattle.interpolator_render.specs.declared.view.Trait.{Trait}
 use Rattle.interpolator_syntax.specs.Tokens.{Token, argument, first_token, past_token}
-use Rattle.interpolator_syntax.specs.{At.At, At.at, At.strip, Arguments.Argument}
+use Rattle.interpolator_syntax.specs.{Places.At, Places.at, Places.strip, Arguments.Argument}
 use Rattle.interpolator_syntax.specs.{Arguments.argument_at, Classes.close_brace, Faults.Fault}
 use Rattle.interpolator_syntax.specs.{Faults.Answer, Lists.ListRequest, Nodes.nodes}
 use Rattle.interpolator_syntax.specs.{Nodes.piece_node, Nodes.token_node, Pieces.argument_from}
@@ -13,19 +13,19 @@ use Rattle.interpolator_syntax.proofs.TokenLemmas.{scan_shorter}
 use Rattle.interpolator_eval.proofs.MeaningLemmas.ScanLemmas.{text_next, text_none}
 use Rattle.interpolator_pieces.specs.NodeChecks.{brace_faults, list_faults, node_faults}
 use Rattle.interpolator_pieces.specs.NodeChecks.{text_faults}
-use Rattle.interpolator_pieces.proofs.CheckLemmas.{told}
+use Rattle.interpolator_pieces.proofs.CheckLemmas.{reported}
 
 -- ---- the first of some faults
 
 -- none is the first only of none
-pub none_told : (xs : List Fault) → told xs ≡ None → xs ≡ []
-none_told [] h = refl
-none_told (x ∷ xs) h = absurd (cc)
+pub none_reported : (xs : List Fault) → reported xs ≡ None → xs ≡ []
+none_reported [] h = refl
+none_reported (x ∷ xs) h = absurd (cc)
 
 -- what is the first of some is that of these and others
-pub first_told : (xs ys : List Fault) (q : Answer) → told xs ≡ Some q → told (xs ++ ys) ≡ Some q
-first_told [] ys q h = absurd (cc)
-first_told (x ∷ xs) ys q h = h
+pub first_reported : (xs ys : List Fault) (q : Answer) → reported xs ≡ Some q → reported (xs ++ ys) ≡ Some q
+first_reported [] ys q h = absurd (cc)
+first_reported (x ∷ xs) ys q h = h
 
 -- ---- a text
 
@@ -92,6 +92,6 @@ module _ (a : At) (p : ℕ) where
     value_faults t value = grind (arith, here_is)
 
     -- one that is a list
-    pub list_told : (l : ListRequest) → x.kind ≡ of_list l
+    pub list_reported : (l : ListRequest) → x.kind ≡ of_list l
         → Faults ≡ list_faults x.spec q.place l ++ brace_faults q.place (strip close_brace q)
-    list_told l list = grind (arith, here_is, append_assoc, append-nil)
+    list_reported l list = grind (arith, here_is, append_assoc, append-nil)

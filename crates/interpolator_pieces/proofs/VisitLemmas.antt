@@ -2,7 +2,7 @@
 use Rattle.std.proofs.Common.{◌≡◌, refl, arith, ℕ, ◌+◌, List, [], ◌∷◌, ◌++◌, Result, Ok, inl, inr}
 use Rattle.std.proofs.Common.{append_assoc, Bool, true, append-nil, flat_map, max}
 use Rattle.std.proofs.{lemmas.Grind.flat_map-append, Math.Nat.max-zero}
-use Rattle.interpolator_syntax.specs.At.{At}
+use Rattle.interpolator_syntax.specs.Places.{At}
 use Rattle.interpolator_syntax.specs.Nodes.{Node, node, Branch, no_branch, branch, Forest, no_nodes}
 use Rattle.interpolator_syntax.specs.Nodes.{nodes_and, as_forest, nodes}
 use Rattle.interpolator_eval.specs.Meaning.AskedNames.{node_asks, branch_asks, forest_asks}
@@ -68,23 +68,23 @@ mutual
 
 -- their faults
 mutual
-  node_told : (level : Level) (x : Node) → node_whole x ≡ true
+  node_reported : (level : Level) (x : Node) → node_whole x ≡ true
       → flat_map visit_faults (node_visits level x) ≡ node_faults x
-  node_told level (node place end kind held item join) h =
-      let first = branch_told (inner true level) item in
-      let last = branch_told (inner level.in_item level) join in
+  node_reported level (node place end kind held item join) h =
+      let first = branch_reported (inner true level) item in
+      let last = branch_reported (inner level.in_item level) join in
       grind (arith, flat_map-append, append-nil, both, first, last)
 
-  branch_told : (level : Level) (x : Branch) → branch_whole x ≡ true
+  branch_reported : (level : Level) (x : Branch) → branch_whole x ≡ true
       → flat_map visit_faults (branch_visits level x) ≡ branch_faults x
-  branch_told level no_branch h = refl
-  branch_told level (branch xs) h = forest_told level xs h
+  branch_reported level no_branch h = refl
+  branch_reported level (branch xs) h = forest_reported level xs h
 
-  pub forest_told : (level : Level) (xs : Forest) → forest_whole xs ≡ true
+  pub forest_reported : (level : Level) (xs : Forest) → forest_whole xs ≡ true
       → flat_map visit_faults (forest_visits level xs) ≡ forest_faults xs
-  forest_told level no_nodes h = refl
-  forest_told level (nodes_and x xs) h =
-      grind (arith, flat_map-append, both, node_told level x, forest_told level xs)
+  forest_reported level no_nodes h = refl
+  forest_reported level (nodes_and x xs) h =
+      grind (arith, flat_map-append, both, node_reported level x, forest_reported level xs)
 
 -- the greatest of two runs of visits
 greatest-append : (asks : Visit → ℕ) (xs ys : List Visit)
@@ -139,7 +139,7 @@ pub text_asks : (a : At) → flat_map visit_asks (text_visits a) ≡ asked_names
 text_asks a = forest_names outermost_spot (as_forest (nodes a))
 
 pub text_tells : (a : At) → flat_map visit_faults (text_visits a) ≡ text_faults a
-text_tells a = forest_told outermost_spot (as_forest (nodes a)) (nodes_whole a)
+text_tells a = forest_reported outermost_spot (as_forest (nodes a)) (nodes_whole a)
 
 pub text_extent : (a : At)
     → greatest visit_extent (text_visits a) ≡ forest_extent (as_forest (nodes a))

@@ -2,7 +2,7 @@
 use Rattle.std.proofs.Common.{◌≡◌, ℕ, ◌<◌, true, length, refl, Option, Some, None, arith}
 use Rattle.interpolator_syntax.specs.Tokens.{Token, first_token, past_token, argument}
 use Rattle.interpolator_syntax.specs.Nodes.{as_forest, group_branch, piece_node, token_node, nodes}
-use Rattle.interpolator_syntax.specs.{At.At, Groups.Group, Pieces.argument_from}
+use Rattle.interpolator_syntax.specs.{Places.At, Groups.Group, Pieces.argument_from}
 use Rattle.interpolator_pieces.specs.Stored.{node_whole, branch_whole, forest_whole}
 use Rattle.interpolator_syntax.proofs.TokenLemmas.{token_shorter, scan_shorter}
 use Rattle.interpolator_syntax.proofs.NodeLemmas.{by_length, argument_kind, nodes_first, nodes_none}

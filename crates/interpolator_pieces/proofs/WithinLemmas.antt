@@ -1,6 +1,6 @@
 -- Texts that lie in another text, each at its place.
 use Rattle.std.proofs.Common.{◌≡◌, List, [], ◌++◌, ℕ, arith, sym, append_assoc, append-nil}
-use Rattle.interpolator_syntax.specs.At.{At, after}
+use Rattle.interpolator_syntax.specs.Places.{At, after}
 use Rattle.interpolator_syntax.specs.Classes.{front_of, in_class}
 use Rattle.interpolator_syntax.specs.Groups.{Group, inside}
 use Rattle.interpolator_syntax.specs.declared.class.Class.TheVariants.{WhiteSpace, Name}

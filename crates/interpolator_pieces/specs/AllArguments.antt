@@ -2,7 +2,7 @@
 use Rattle.std.specs.Prelude.{ℕ, zero, suc, List, [], ◌∷◌, ◌++◌, length, map, Option, None, Some}
 use Rattle.interpolator_syntax.specs.SpecTexts.{Kind, of_value, of_list}
 use Rattle.interpolator_syntax.specs.Pieces.{Piece, PieceKind, closed, unclosed, pieces}
-use Rattle.interpolator_syntax.specs.{At.At, Groups.Group, Groups.inside, Arguments.Argument}
+use Rattle.interpolator_syntax.specs.{Places.At, Groups.Group, Groups.inside, Arguments.Argument}
 
 -- `run` gives the arguments of a text within this one
 module _ (run : At → List Argument) where

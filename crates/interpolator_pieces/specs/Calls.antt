@@ -1,10 +1,10 @@
 -- What a call owes that writes what a format text means, or makes its text.
 use Rattle.std.specs.Prelude.{ℕ, List, length, Option, Result}
 use Rattle.std.specs.{Str.chars, declared.string.String.String}
-use Rattle.interpolator_render.specs.{Views.Shown, Written.Written, declared.view.Spec.Spec}
+use Rattle.interpolator_render.specs.{Views.Shown, Writers.Written, declared.view.Spec.Spec}
 use Rattle.interpolator_render.specs.declared.view.Trait.{Trait}
 use Rattle.interpolator_syntax.specs.Faults.{Answer, PlaceWithin, result_answer}
-use Rattle.interpolator_syntax.specs.{At.outermost, declared.error.Error.Error}
+use Rattle.interpolator_syntax.specs.{Places.outermost, declared.error.Error.Error}
 use Rattle.interpolator_eval.specs.Meaning.Environments.{Environment, environment, cut}
 use Rattle.interpolator_eval.specs.Meaning.Meanings.{Meaning, means}
 use Rattle.interpolator_eval.specs.Meaning.Outcomes.{Outcome, Formats}

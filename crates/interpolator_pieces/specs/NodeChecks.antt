@@ -6,7 +6,7 @@ use Rattle.interpolator_syntax.specs.Nodes.{Node, node, Branch, no_branch, branc
 use Rattle.interpolator_syntax.specs.Nodes.{Forest, group_branch, no_nodes, nodes_and, nodes}
 use Rattle.interpolator_syntax.specs.Nodes.{Content, text_content, argument_content, fault_content}
 use Rattle.interpolator_syntax.specs.Nodes.{target_value, target_list}
-use Rattle.interpolator_syntax.specs.{At.At, ArgumentFaults.IsArgumentFault, Lists.ListRequest}
+use Rattle.interpolator_syntax.specs.{Places.At, ArgumentFaults.IsArgumentFault, Lists.ListRequest}
 use Rattle.interpolator_eval.specs.Meaning.Meanings.{forbids_list}
 use Rattle.interpolator_pieces.specs.Visits.{Visit, enter, leave}
 use Rattle.interpolator_pieces.specs.{Stored.detail_of, StoredMeanings.unclosed_fault_of}
@@ -136,4 +136,4 @@ pub record FirstFaulty (f : Fault) (xs : List Node) : Type 0 where
   pub back : List Node
   pub split : xs ≡ front ++ (piece ∷ back)
   pub none_before : forest_faults (as_forest front) ≡ []
-  pub told : first_fault (node_faults piece) ≡ Some f
+  pub reported : first_fault (node_faults piece) ≡ Some f

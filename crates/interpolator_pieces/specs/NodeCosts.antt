@@ -7,7 +7,7 @@ use Rattle.interpolator_syntax.specs.Nodes.{Node, node, Branch, no_branch, branc
 use Rattle.interpolator_syntax.specs.Nodes.{nodes_and, as_forest, nodes, Content, text_content}
 use Rattle.interpolator_syntax.specs.Nodes.{argument_content, fault_content, target_value}
 use Rattle.interpolator_syntax.specs.Nodes.{target_list}
-use Rattle.interpolator_syntax.specs.{At.At, SpecTexts.plain_spec, declared.range.Range.Range}
+use Rattle.interpolator_syntax.specs.{Places.At, SpecTexts.plain_spec, declared.range.Range.Range}
 use Rattle.interpolator_eval.specs.Meaning.Limits.{most_chosen}
 use Rattle.interpolator_pieces.specs.{declared.cost.Cost.Cost, declared.cost.Limits.Limits}
 

@@ -10,7 +10,7 @@ use Rattle.interpolator_syntax.specs.Nodes.{Node, node, Branch, no_branch, branc
 use Rattle.interpolator_syntax.specs.Nodes.{Forest, no_nodes, nodes_and, nodes, Content}
 use Rattle.interpolator_syntax.specs.Nodes.{text_content, argument_content, fault_content, Target}
 use Rattle.interpolator_syntax.specs.Nodes.{target_value, target_list}
-use Rattle.interpolator_syntax.specs.{At.At, SpecTexts.plain_spec}
+use Rattle.interpolator_syntax.specs.{Places.At, SpecTexts.plain_spec}
 use Rattle.interpolator_eval.specs.Slots.{Slots}
 use Rattle.interpolator_eval.specs.Meaning.Samples.{Sample, sample, bind_each, candidates_under}
 use Rattle.interpolator_eval.specs.Meaning.Samples.{items_of_all, has_no_list, some_missing}

@@ -1,6 +1,6 @@
 -- An argument that was read, as the code has it, and what follows it.
 use Rattle.std.specs.Prelude.{Option, Some, None, option_map}
-use Rattle.interpolator_syntax.specs.At.{At, at, all_after}
+use Rattle.interpolator_syntax.specs.Places.{At, at, all_after}
 use Rattle.interpolator_syntax.specs.Arguments.{named_argument, request_of}
 use Rattle.interpolator_syntax.specs.Pieces.{Step, argument_step}
 use Rattle.interpolator_syntax.specs.declared.argument.TakenArgument.{TakenArgument}

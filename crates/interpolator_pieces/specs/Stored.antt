@@ -6,7 +6,7 @@ use Rattle.std.specs.Prelude.{Option, Some, None, option_map, map}
 use Rattle.std.specs.{Str.chars, Str.IsUtf8, Global.Vec, Global.Box}
 use Rattle.interpolator_render.specs.declared.view.Spec.{Spec}
 use Rattle.interpolator_render.specs.declared.view.Trait.TheVariants as traits
-use Rattle.interpolator_syntax.specs.At.{At, size, outermost}
+use Rattle.interpolator_syntax.specs.Places.{At, size, outermost}
 use Rattle.interpolator_syntax.specs.Groups.{Group, inside}
 use Rattle.interpolator_syntax.specs.Nodes.{Node, node, Branch, no_branch, branch, Forest, no_nodes}
 use Rattle.interpolator_syntax.specs.Nodes.{nodes_and, as_branch, nodes, group_branch, Content}

@@ -1,7 +1,7 @@
 //! The arguments of a text, with those of its groups.
 ghost use Rattle.std.specs.Prelude.{◌≡◌, ◌++◌, map, option_map, IfOk};
 ghost use Rattle.interpolator_syntax.specs.Arguments.{argument_of, kind_of};
-ghost use Rattle.interpolator_syntax.specs.{At.at, Groups.group_of, Pieces.argument_from};
+ghost use Rattle.interpolator_syntax.specs.{Places.at, Groups.group_of, Pieces.argument_from};
 ghost use Rattle.interpolator_pieces.specs.AllArguments.{arguments_of, group_arguments};
 ghost use Rattle.interpolator_pieces.specs.AllArguments.{kind_arguments, piece_arguments};
 

@@ -2,7 +2,8 @@
 
 ghost use Rattle.std.specs.Prelude.{◌≡◌, ◌⊎◌, Some};
 ghost use Rattle.std.specs.Str.{chars};
-ghost use Rattle.interpolator_syntax.specs.{At.outermost, Faults.result_answer, Faults.no_memory};
+ghost use Rattle.interpolator_syntax.specs.{Places.outermost, Faults.result_answer};
+ghost use Rattle.interpolator_syntax.specs.{Faults.no_memory};
 ghost use Rattle.interpolator_eval.specs.Meaning.CodeEnvironments.{environment_of};
 ghost use Rattle.interpolator_eval.specs.Meaning.{Meanings.forest_means, Meanings.means};
 ghost use Rattle.interpolator_eval.specs.Meaning.{ScannedLists.ListAt, ScannedLists.text_forest};

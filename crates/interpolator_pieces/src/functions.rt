@@ -4,7 +4,7 @@ ghost use Rattle.std.specs.Prelude.{◌≡◌, ◌+◌, ◌<◌, ◌≤◌, [], 
 ghost use Rattle.std.specs.Prelude.{option_map};
 ghost use Rattle.std.specs.Str.{chars};
 ghost use Rattle.interpolator_syntax.specs.Faults.{result_answer, fault, PlaceWithin};
-ghost use Rattle.interpolator_syntax.specs.{At.outermost, Nodes.nodes};
+ghost use Rattle.interpolator_syntax.specs.{Places.outermost, Nodes.nodes};
 ghost use Rattle.interpolator_eval.specs.Meaning.Environments.{environment, cut};
 ghost use Rattle.interpolator_eval.specs.{Escaping.shows_by, Meaning.AskedNames.asked_names};
 ghost use Rattle.interpolator_eval.specs.{Meaning.Limits.IsWithin, Meaning.Meanings.means};
@@ -13,7 +13,7 @@ ghost use Rattle.interpolator_pieces.specs.Calls.{MakesText, WritesText};
 ghost use Rattle.interpolator_pieces.specs.NodeChecks.{first_fault, text_faults};
 ghost use Rattle.interpolator_pieces.specs.{NodeCosts.text_cost, declared.cost.Limits.Limits};
 ghost use Rattle.interpolator_pieces.specs.Stored.{nodes_of};
-ghost use Rattle.interpolator_render.specs.Written.{as_writer, plain};
+ghost use Rattle.interpolator_render.specs.Writers.{as_writer, plain};
 
 use crate::piece::Piece;
 use crate::stored_source::Stored;
@@ -146,7 +146,7 @@ pub fn write_counted<W: TextWrite, C: Context, E: Escaper, L: Ledger>(
     ensures written { WritesText (shows_by E.shown C.Object.shows)
         (C.finds context.now) format.entry.text.now
         (W.written out.old) (W.written out.new) (result_answer result) }
-    ensures gone { count.new ≤ count.old + (text_work (shows_by E.shown C.Object.shows)
+    ensures visited { count.new ≤ count.old + (text_work (shows_by E.shown C.Object.shows)
         (environment (C.finds context.now))
         (outermost (chars format.entry.text.now))).pieces }
     ensures exact { IfOk result (λ _. count.new ≡ count.old + (text_work

@@ -2,7 +2,7 @@
 ghost use Rattle.std.specs.Prelude.{◌≡◌, ◌<◌, ◌≤◌, ◌+◌, ◌^◌, ℕ, List, [], ◌∷◌, ◌++◌, IfOk, None};
 ghost use Rattle.std.specs.Prelude.{Ok, option_map, vec_capacity};
 ghost use Rattle.std.specs.Str.{chars};
-ghost use Rattle.interpolator_syntax.specs.At.{at, size, strip, all_after};
+ghost use Rattle.interpolator_syntax.specs.Places.{at, size, strip, all_after};
 ghost use Rattle.interpolator_syntax.specs.Arguments.{argument_at, argument_after, plain_argument};
 ghost use Rattle.interpolator_syntax.specs.Arguments.{named_argument, request_of, kind_of_request};
 ghost use Rattle.interpolator_syntax.specs.Arguments.{list_of};
@@ -148,7 +148,7 @@ pub fn parse_pieces(alloc: Global, text: Cursor<'_>) -> Result<Vec<Piece>, Alloc
                 push_piece(&mut pieces, piece)?;
                 rest
             }
-            Token::Argument => push_argument(alloc, &mut pieces, here.place, rest)?,
+            Token::Argument => push_argument_piece(alloc, &mut pieces, here.place, rest)?,
         };
     }
     Ok(pieces)
@@ -157,7 +157,7 @@ pub fn parse_pieces(alloc: Global, text: Cursor<'_>) -> Result<Vec<Piece>, Alloc
 /// Adds the argument that begins here, after its brace at `place`, or its fault. Returns what
 /// follows it.
 #[cycle(parse)]
-fn push_argument<'t>(
+fn push_argument_piece<'t>(
     alloc: Global,
     pieces: &mut Vec<Piece>,
     place: usize,

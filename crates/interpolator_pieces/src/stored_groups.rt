@@ -20,7 +20,7 @@ pub fn plain_pieces<'t>(text: &'t str, pieces: &[Piece]) -> Option<PlainItem<'t>
 {
     let (before, rest) = text_first(text, pieces);
     let (piece, behind) = rest.split_first()?;
-    let place = bare_piece(text, piece)?;
+    let place = closing_place(text, piece)?;
     let (after, left) = text_first(text, behind);
     if left.is_empty() {
         Some(PlainItem {
@@ -49,7 +49,7 @@ fn text_first<'t, 'p>(text: &'t str, pieces: &'p [Piece]) -> (Option<Group<'t>>,
 }
 
 /// Returns the place of the closing brace, if a piece is an argument without name and spec.
-fn bare_piece(text: &str, piece: &Piece) -> Option<usize>
+fn closing_place(text: &str, piece: &Piece) -> Option<usize>
     requires whole { node_whole (node_of text.now piece.now) ≡ true }
     ensures { IfSome result (λ q. IsBare q (node_of text.now piece.now)) }
 {

@@ -192,7 +192,7 @@ fn run_to_buffer<'t, 'a, C: Context, E: Escaper, L: Ledger>(
         (stored_list list.new.text.now list.new.pieces.now)
         (stored_rest list.new.text.now list.new.pieces.now)
         (from_list (as_forest (nodes_of source.entry.text.now source.entry.pieces.now)))) }
-    ensures gone { count.new ≤ count.old + ((forest_work (shows_by E.shown C.Object.shows)
+    ensures visited { count.new ≤ count.old + ((forest_work (shows_by E.shown C.Object.shows)
         (environment_of C.finds environment.now)
         (before_list (as_forest (nodes_of source.entry.text.now source.entry.pieces.now)))).pieces
         + met_pieces result) }
@@ -223,7 +223,7 @@ fn run_apart<'t, 'a, C: Context, E: Escaper, L: Ledger>(
         (stored_list list.new.text.now list.new.pieces.now)
         (stored_rest list.new.text.now list.new.pieces.now)
         (from_list (as_forest (nodes_of source.entry.text.now source.entry.pieces.now)))) }
-    ensures gone { count.new ≤ count.old + ((forest_work (shows_by E.shown C.Object.shows)
+    ensures visited { count.new ≤ count.old + ((forest_work (shows_by E.shown C.Object.shows)
         (environment_of C.finds environment.now)
         (before_list (as_forest (nodes_of source.entry.text.now source.entry.pieces.now)))).pieces
         + met_pieces result) }
@@ -253,7 +253,7 @@ fn run_pieces<'t, 'a, W: TextWrite, C: Context, E: Escaper, L: Ledger>(
         (stored_list list.new.text.now list.new.pieces.now)
         (stored_rest list.new.text.now list.new.pieces.now)
         (from_list (as_forest (nodes_of source.entry.text.now source.entry.pieces.now)))) }
-    ensures gone { count.new ≤ count.old + ((forest_work (shows_by E.shown C.Object.shows)
+    ensures visited { count.new ≤ count.old + ((forest_work (shows_by E.shown C.Object.shows)
         (environment_of C.finds environment.now)
         (before_list (as_forest (nodes_of source.entry.text.now source.entry.pieces.now)))).pieces
         + met_pieces result) }
@@ -365,7 +365,7 @@ fn run_detailed<'a, W: TextWrite, C: Context, E: Escaper>(
             value_done(piece)
         }
         Form::List(_) => Ok(true),
-        Form::Broken(fault) => refused(fault),
+        Form::Broken(fault) => broken_argument(fault),
     }
 }
 
@@ -383,7 +383,7 @@ fn value_done(piece: &Piece) -> Result<bool, Error>
 /// The fault of a broken argument. This is a function of its own, since a function zeroes its error
 /// slot on entry.
 #[inline(always)]
-fn refused(broken: &ArgumentFault) -> Result<bool, Error>
+fn broken_argument(broken: &ArgumentFault) -> Result<bool, Error>
     ensures { result_answer result ≡ Some (fault (argument_fault_of broken.now)) }
 {
     Err(Error::from(*broken))

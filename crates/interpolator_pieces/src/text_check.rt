@@ -4,7 +4,8 @@ ghost use Rattle.std.specs.Prelude.{◌≡◌, ℕ, IfOk, None, Some, option_map
 ghost use Rattle.interpolator_syntax.specs.Arguments.{argument_at, argument_after, plain_argument};
 ghost use Rattle.interpolator_syntax.specs.Arguments.{list_of};
 ghost use Rattle.interpolator_syntax.specs.Nodes.{group_branch, nodes, token_node};
-ghost use Rattle.interpolator_syntax.specs.{At.at, At.strip, Classes.close_brace, Faults.fault};
+ghost use Rattle.interpolator_syntax.specs.{Places.at, Places.strip, Classes.close_brace};
+ghost use Rattle.interpolator_syntax.specs.{Faults.fault};
 ghost use Rattle.interpolator_syntax.specs.{Faults.result_answer, Groups.group_of};
 ghost use Rattle.interpolator_syntax.specs.{Pieces.argument_from, Tokens.argument};
 ghost use Rattle.interpolator_pieces.specs.NodeChecks.{brace_faults, branch_faults, first_fault};

@@ -6,7 +6,7 @@ ghost use Rattle.interpolator_pieces.specs.Visits.{Visit, enter, leave, Walks, i
 ghost use Rattle.interpolator_pieces.specs.Visits.{branch_visits, forest_visits, text_visits};
 ghost use Rattle.interpolator_pieces.specs.Stored.{node_of, nodes_of, branch_of, node_whole};
 ghost use Rattle.interpolator_pieces.specs.Stored.{branch_whole, forest_whole};
-ghost use Rattle.interpolator_syntax.specs.{At.outermost, Nodes.as_forest, Nodes.nodes};
+ghost use Rattle.interpolator_syntax.specs.{Places.outermost, Nodes.as_forest, Nodes.nodes};
 
 use crate::piece::Piece;
 

@@ -7,7 +7,7 @@ use Rattle.std.specs.Prelude.{⊤, ◌+◌, Result, Ok, Err, IfOk, unwrap_or, if
 use Rattle.std.specs.{List.All, Str.encode_utf8_all}
 use Rattle.interpolator_render.specs.{declared.view.Spec.Spec, declared.view.Trait.Trait}
 use Rattle.interpolator_render.specs.declared.view.Trait.TheVariants as traits
-use Rattle.interpolator_syntax.specs.At.{Placed, placed_from}
+use Rattle.interpolator_syntax.specs.Places.{Placed, placed_from}
 use Rattle.interpolator_syntax.specs.Nodes.{Node, node, Branch, Content, argument_content}
 use Rattle.interpolator_syntax.specs.Nodes.{target_value, as_forest}
 use Rattle.interpolator_syntax.specs.{SpecTexts.plain_spec, declared.piece_kind.PieceKind.PieceKind}

@@ -6,9 +6,9 @@ use Rattle.std.proofs.{lemmas.List.drop_more, lemmas.Str.chars-nil}
 use Rattle.std.specs.Prelude.{◌==◌, is_some, string_bytes}
 use Rattle.std.specs.Str.{chars}
 use Rattle.interpolator_render.specs.{declared.view.Spec.Spec, declared.view.Trait.Trait}
-use Rattle.interpolator_render.specs.{Views.Shown, Written.Written}
+use Rattle.interpolator_render.specs.{Views.Shown, Writers.Written}
 use Rattle.interpolator_syntax.specs.Faults.{Answer, answer_of}
-use Rattle.interpolator_syntax.specs.{At.Placed, declared.error.Error.Error}
+use Rattle.interpolator_syntax.specs.{Places.Placed, declared.error.Error.Error}
 use Rattle.interpolator_eval.specs.Meaning.Environments.{Environment, bind}
 use Rattle.interpolator_eval.specs.Meaning.Lists.{IsChosen, IsNotChosen, list_under_name}
 use Rattle.interpolator_eval.specs.Meaning.Meanings.{Meaning, text_alone, chain, items_after}

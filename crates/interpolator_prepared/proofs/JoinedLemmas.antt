@@ -6,8 +6,9 @@ use Rattle.std.proofs.lemmas.List.{append-nil, append_assoc, drop_more, map-appe
 use Rattle.std.proofs.lemmas.Str.{chars-append, chars-nil, len_utf8_bounds}
 use Rattle.std.specs.Prelude.{◌==◌, if◌then◌else◌, string_bytes, unwrap_or}
 use Rattle.std.specs.{List.All, Char.len_utf8, Str.chars, Str.IsUtf8}
-use Rattle.interpolator_render.specs.Written.{Written}
-use Rattle.interpolator_syntax.specs.{At.Placed, At.placed_from, At.size, At.text_of, Faults.Answer}
+use Rattle.interpolator_render.specs.Writers.{Written}
+use Rattle.interpolator_syntax.specs.{Places.Placed, Places.placed_from, Places.size}
+use Rattle.interpolator_syntax.specs.{Places.text_of, Faults.Answer}
 use Rattle.interpolator_syntax.proofs.CharacterLemmas.{size-chars}
 use Rattle.interpolator_eval.specs.declared.evaluate.sink.WriteFault.TheVariants.{MissingTraitImpl}
 use Rattle.interpolator_eval.specs.declared.evaluate.sink.WriteFault.TheVariants.{Fmt}
@@ -130,19 +131,19 @@ pub placed_written :
     (f : ℕ → ℕ) (xs : Placed) (old new : Written) → Outcome (text_alone xs) old new None
     → Outcome (text_alone (placed_by f xs)) old new None
 placed_written f xs old new (inl o) =
-    inl (record { all = rw (text_of-placed_by f xs) o.all; told = o.told })
-placed_written f xs old new (inr (inl o)) = absurd (let e = o.told in cc)
-placed_written f xs old new (inr (inr o)) = absurd (let e = o.told in cc)
+    inl (record { all = rw (text_of-placed_by f xs) o.all; reported = o.reported })
+placed_written f xs old new (inr (inl o)) = absurd (let e = o.reported in cc)
+placed_written f xs old new (inr (inr o)) = absurd (let e = o.reported in cc)
 
 -- and if they were refused, the place is that of the first that was not appended
 pub placed_refused :
     (f : ℕ → ℕ) (xs : Placed) (old new : Written) (w : WriteFault)
     → Outcome (text_alone xs) old new (Some (write_fault_answer w))
     → Outcome (text_alone (placed_by f xs)) old new (Some (moved_fault f w))
-placed_refused f xs old new w (inl o) = absurd (let e = o.told in cc)
-placed_refused f xs old new (MissingTraitImpl t p) (inr (inl o)) = absurd (let e = o.told in cc)
+placed_refused f xs old new w (inl o) = absurd (let e = o.reported in cc)
+placed_refused f xs old new (MissingTraitImpl t p) (inr (inl o)) = absurd (let e = o.reported in cc)
 placed_refused f xs old new (Fmt p) (inr (inl o)) =
-    let e = o.told in
+    let e = o.reported in
     let here : p ≡ o.place = cc in
     inr (inl (record {
       front = placed_by f o.front;
@@ -156,10 +157,10 @@ placed_refused f xs old new (Fmt p) (inr (inl o)) =
       none_after_refusal = λ r. text_of-placed_by f o.front ∙ o.none_after_refusal r;
       same_origin = o.same_origin;
       over = o.over;
-      told = ap (λ q. Some (moved_fault f (Fmt q))) here;
+      reported = ap (λ q. Some (moved_fault f (Fmt q))) here;
     }))
-placed_refused f xs old new (MissingTraitImpl t p) (inr (inr o)) = absurd (let e = o.told in cc)
-placed_refused f xs old new (Fmt p) (inr (inr o)) = absurd (let e = o.told in cc)
+placed_refused f xs old new (MissingTraitImpl t p) (inr (inr o)) = absurd (let e = o.reported in cc)
+placed_refused f xs old new (Fmt p) (inr (inr o)) = absurd (let e = o.reported in cc)
 
 -- joined text that was written, or refused
 module _ (ps : List Part) (bs text : List ℕ) (old new : Written) (same : text ≡ bs) where
@@ -172,8 +173,8 @@ module _ (ps : List Part) (bs text : List ℕ) (old new : Written) (same : text 
       → answer ≡ moved_fault (joined_place qs) w → qs ≡ ps
       → Outcome (text_alone (placed_from 0 (chars text))) old new (Some (write_fault_answer w))
       → Outcome (text_alone (joined_placed ps bs)) old new (Some answer)
-  joined_refused w answer qs told parts o =
-      rw (told, parts, ← same)
+  joined_refused w answer qs reported parts o =
+      rw (reported, parts, ← same)
       (placed_refused (joined_place ps) (placed_from 0 (chars text)) old new w o)
 
 -- ---- no part, and parts one by one

@@ -7,6 +7,7 @@ mod ItemLemmas
 mod JoinedLemmas
 mod KeptLemmas
 mod ListMeaningLemmas
+mod NumberRowLemmas
 mod RowLemmas
 mod SimpleListLemmas
 mod StepLemmas

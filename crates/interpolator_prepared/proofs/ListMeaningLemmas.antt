@@ -6,7 +6,7 @@ use Rattle.interpolator_render.specs.Views.{Shown}
 use Rattle.interpolator_syntax.specs.Nodes.{Node, node, Branch, no_branch, branch, Forest, no_nodes}
 use Rattle.interpolator_syntax.specs.Nodes.{nodes_and, text_content, argument_content, target_value}
 use Rattle.interpolator_syntax.specs.Nodes.{target_list}
-use Rattle.interpolator_syntax.specs.{At.Placed, At.placed_from, Faults.parse, Faults.iter}
+use Rattle.interpolator_syntax.specs.{Places.Placed, Places.placed_from, Faults.parse, Faults.iter}
 use Rattle.interpolator_syntax.specs.declared.range.Range.{Range}
 use Rattle.interpolator_eval.specs.Slots.{Slots, items}
 use Rattle.interpolator_eval.specs.Meaning.Environments.{Environment, bind, slots_under}

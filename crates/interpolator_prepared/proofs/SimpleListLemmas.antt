@@ -5,7 +5,7 @@ use Rattle.std.proofs.Common.{length-append, append_assoc}
 use Rattle.std.proofs.lemmas.List.{append-nil, drop_all, map-append, take_all}
 use Rattle.std.proofs.Math.Seq.{drop-append_seam, take-append_seam}
 use Rattle.std.specs.{List.All, Global.Vec, Prelude.unwrap_or}
-use Rattle.interpolator_syntax.specs.At.{Placed, placed_from}
+use Rattle.interpolator_syntax.specs.Places.{Placed, placed_from}
 use Rattle.interpolator_syntax.specs.Nodes.{Node, as_forest, argument_content, target_value}
 use Rattle.interpolator_syntax.specs.declared.piece_kind.PieceKind.TheVariants as kinds
 use Rattle.interpolator_syntax.specs.declared.range.Range.{Range}

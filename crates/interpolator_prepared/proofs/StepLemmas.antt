@@ -9,8 +9,8 @@ use Rattle.interpolator_prepared.specs.StoredSteps.{joined_step, literal_step, p
 use Rattle.interpolator_prepared.specs.StoredSteps.{steps_of, stored_step_means, stored_steps_mean}
 use Rattle.interpolator_prepared.specs.{declared.step.Part.Part, declared.step.Step.Step}
 use Rattle.interpolator_render.specs.{declared.view.Trait.Trait, declared.view.Spec.Spec}
-use Rattle.interpolator_render.specs.{Views.Shown, Written.Written}
-use Rattle.interpolator_syntax.specs.{Faults.Answer, At.placed_from}
+use Rattle.interpolator_render.specs.{Views.Shown, Writers.Written}
+use Rattle.interpolator_syntax.specs.{Faults.Answer, Places.placed_from}
 use Rattle.interpolator_eval.specs.Meaning.Meanings.{Meaning, chain, text_alone}
 use Rattle.interpolator_eval.specs.{Slots.Slots, Meaning.Environments.Environment}
 use Rattle.interpolator_eval.specs.Meaning.Outcomes.{Outcome}

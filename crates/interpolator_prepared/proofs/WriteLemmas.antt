@@ -5,8 +5,8 @@ use Rattle.std.proofs.lemmas.{Option.slice_get_past, Option.slice_get_read, Str.
 use Rattle.std.specs.Prelude.{String, slice_get, flat_map}
 use Rattle.std.specs.{Str.chars, Str.IsUtf8, Option.option_and_then}
 use Rattle.interpolator_render.specs.{declared.view.Trait.Trait, declared.view.Spec.Spec}
-use Rattle.interpolator_render.specs.{Views.Shown, Written.Written}
-use Rattle.interpolator_syntax.specs.{At.outermost, Faults.Answer, Nodes.nodes}
+use Rattle.interpolator_render.specs.{Views.Shown, Writers.Written}
+use Rattle.interpolator_syntax.specs.{Places.outermost, Faults.Answer, Nodes.nodes}
 use Rattle.interpolator_eval.specs.{Slots.Slots, Meaning.Environments.environment}
 use Rattle.interpolator_eval.specs.{Meaning.Meanings.means, Meaning.Outcomes.Outcome}
 use Rattle.interpolator_prepared.specs.Rows.{InOrder, found_by_row, name_bytes, last_position}

@@ -4,7 +4,7 @@ use Rattle.std.specs.Prelude.{map, Option, Some}
 use Rattle.interpolator_render.specs.declared.view.Trait.{Trait}
 use Rattle.interpolator_render.specs.declared.view.Trait.TheVariants as traits
 use Rattle.interpolator_render.specs.{declared.view.Spec.Spec, Views.Shown}
-use Rattle.interpolator_syntax.specs.At.{Placed, placed_from}
+use Rattle.interpolator_syntax.specs.Places.{Placed, placed_from}
 use Rattle.interpolator_syntax.specs.Nodes.{Node, node, Branch, no_branch, branch, Forest, no_nodes}
 use Rattle.interpolator_syntax.specs.Nodes.{nodes_and, Content, text_content, argument_content}
 use Rattle.interpolator_syntax.specs.Nodes.{target_value}

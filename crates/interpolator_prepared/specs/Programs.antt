@@ -3,7 +3,7 @@ use Rattle.std.specs.Prelude.{ℕ, List, [], ◌∷◌, ◌++◌, Option, Some, 
 use Rattle.std.specs.Str.{encode_utf8_all}
 use Rattle.interpolator_render.specs.{declared.view.Trait.Trait, declared.view.Spec.Spec}
 use Rattle.interpolator_render.specs.Views.{Shown}
-use Rattle.interpolator_syntax.specs.At.{Placed, placed_from}
+use Rattle.interpolator_syntax.specs.Places.{Placed, placed_from}
 use Rattle.interpolator_syntax.specs.Nodes.{Node, node, Branch, Content, text_content}
 use Rattle.interpolator_syntax.specs.Nodes.{argument_content, target_value, target_list}
 use Rattle.interpolator_syntax.specs.declared.piece_kind.PieceKind.{PieceKind}

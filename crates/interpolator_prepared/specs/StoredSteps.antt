@@ -7,7 +7,8 @@ use Rattle.interpolator_render.specs.declared.view.Trait.{Trait}
 use Rattle.interpolator_render.specs.declared.view.Trait.TheVariants as traits
 use Rattle.interpolator_render.specs.{declared.view.Spec.Spec, Views.Shown}
 use Rattle.interpolator_syntax.specs.Faults.{Answer, fault, missing_trait_impl, fmt}
-use Rattle.interpolator_syntax.specs.{At.Placed, At.placed_from, SpecTexts.plain_spec, Nodes.Node}
+use Rattle.interpolator_syntax.specs.{Places.Placed, Places.placed_from, SpecTexts.plain_spec}
+use Rattle.interpolator_syntax.specs.{Nodes.Node}
 use Rattle.interpolator_eval.specs.Meaning.Meanings.{Meaning, nothing, chain}
 use Rattle.interpolator_eval.specs.declared.evaluate.sink.WriteFault.TheVariants.{MissingTraitImpl}
 use Rattle.interpolator_eval.specs.declared.evaluate.sink.WriteFault.TheVariants.{Fmt}
@@ -38,6 +39,10 @@ joined_place [] offset = offset
 joined_place (x ∷ xs) offset =
     if nat_lt offset (x.to - x.from) then x.from + offset
     else joined_place xs (offset - (x.to - x.from))
+
+-- the same of a row that has `size` bytes of joined parts, and behind them a value at `end`
+abbrev pub row_place : List Part → (size end : ℕ) → ℕ → ℕ
+row_place parts size end offset = if nat_lt offset size then joined_place parts offset else end
 
 -- characters, each moved to another place
 abbrev pub placed_by : (ℕ → ℕ) → Placed → Placed

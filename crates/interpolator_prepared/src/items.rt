@@ -1,16 +1,17 @@
 //! Writes lists of a prepared format whose items are one value each, between texts.
-ghost use Rattle.std.specs.Prelude.{◌≡◌, ℕ, IsSome, Option, map, true};
+ghost use Rattle.std.specs.Prelude.{◌≡◌, ℕ, IfSome, IsSome, Option, map, true};
 ghost use Rattle.interpolator_render.specs.declared.view.Trait.TheVariants.{Display};
 ghost use Rattle.interpolator_syntax.specs.{Faults.result_answer, SpecTexts.plain_spec};
-ghost use Rattle.interpolator_eval.specs.Meaning.Meanings.{items_mean, text_alone};
+ghost use Rattle.interpolator_eval.specs.Meaning.Meanings.{chain, items_mean, text_alone};
 ghost use Rattle.interpolator_eval.specs.Slots.{Slots, slots_of};
 ghost use Rattle.interpolator_eval.specs.{Escaping.shows_by, Meaning.Environments.environment};
 ghost use Rattle.interpolator_eval.specs.{Meaning.Outcomes.Outcome, Meaning.Sinks.write_answered};
 ghost use Rattle.interpolator_prepared.specs.{Items.items_within, Items.value_under};
+ghost use Rattle.interpolator_prepared.specs.NumberRows.{HasDigits, HasText};
 ghost use Rattle.interpolator_prepared.specs.{Rows.name_bytes, StoredSteps.compiled_list};
 ghost use Rattle.interpolator_prepared.specs.{StoredSteps.fitting_means, StoredSteps.joined_text};
 
-use crate::joined::put_joined;
+use crate::joined::{put_joined, put_row};
 use crate::row::{NamedRow, PreparedRow};
 use crate::step::{JoinedText, ListStep, ValueSpec};
 use interpolator_eval::{
@@ -18,9 +19,15 @@ use interpolator_eval::{
     write_shown,
 };
 use interpolator_pieces::cut;
-use interpolator_render::{Spec, TextWrite, Trait, Value};
+use interpolator_render::{Spec, TextWrite, Trait, Value, put_few_digits};
 use interpolator_syntax::Error;
 use std::alloc::Global;
+
+/// How many bytes a row has, for the text between two items and a number of few digits.
+const ROW: usize = 16;
+
+/// The most bytes of a text between two items that is put into a row.
+const MOST_BETWEEN: usize = 8;
 
 /// Writes what a list means.
 #[inline(never)]
@@ -119,11 +126,73 @@ fn put_each<'a, W: TextWrite, V: Value, E: Escaper, const PLAIN: bool>(
         return Ok(());
     };
     put_item::<W, V, E, PLAIN>(out, first, value)?;
+    let mut row = row_of(between);
     for item in rest {
-        put_joined(out, between)?;
-        put_item::<W, V, E, PLAIN>(out, item, value)?;
+        put_next::<W, V, E, PLAIN>(out, &mut row, item, value, between)?;
     }
     Ok(())
+}
+
+/// A row that has the text between two items at its beginning, if that is short.
+#[inline(always)]
+fn row_of(between: &JoinedText) -> [u8; ROW]
+    ensures row { HasText between.now result }
+{
+    let mut row = [0; ROW];
+    let text = between.text.as_bytes();
+    if text.len() <= MOST_BETWEEN {
+        row[..text.len()].copy_from_slice(text);
+    }
+    row
+}
+
+/// Puts the digits of an item behind the text between two items, and returns how many bytes both
+/// have, if that text is short and the digits are few.
+#[inline(always)]
+fn put_behind<'a, V: Value>(
+    row: &mut [u8; ROW],
+    between: &JoinedText,
+    item: &'a Formattable<'a, V>,
+) -> Option<usize>
+    requires row { HasText between.now row.old }
+    ensures row { HasText between.now row.new }
+    ensures both { IfSome result (λ count. HasDigits V.shows between.now (slots_of item.now) count
+        row.new) }
+{
+    let size = between.text.len();
+    if size > MOST_BETWEEN {
+        return None;
+    }
+    let value = slot_of(item, Trait::Display)?;
+    let count = put_few_digits(row, size, value.view(Trait::Display, &Spec::default()))?;
+    Some(size + count)
+}
+
+/// Writes the text between two items, and the next item. Both are written by one call, if the item
+/// is a number of few digits.
+#[inline(always)]
+fn put_next<'a, W: TextWrite, V: Value, E: Escaper, const PLAIN: bool>(
+    out: &mut W,
+    row: &mut [u8; ROW],
+    item: &'a Formattable<'a, V>,
+    value: &ValueSpec,
+    between: &JoinedText,
+) -> Result<(), WriteFault>
+    requires plain { PLAIN ≡ true → (value.now.slot ≡ Display) × (value.now.spec ≡ plain_spec) }
+    requires row { HasText between.now row.old }
+    ensures row { HasText between.now row.new }
+    ensures outcome { Outcome
+        (chain (text_alone (joined_text between.now))
+        (value_under (shows_by E.shown V.shows) value.now (slots_of item.now)))
+        (W.written out.old) (W.written out.new) (write_answered result) }
+{
+    if PLAIN && E::writes_as_it_is() {
+        if let Some(count) = put_behind(row, between, item) {
+            return put_row(out, between, &row[..count], value.end);
+        }
+    }
+    put_joined(out, between)?;
+    put_item::<W, V, E, PLAIN>(out, item, value)
 }
 
 /// Writes an item under a trait and a spec.

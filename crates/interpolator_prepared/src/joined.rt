@@ -1,13 +1,13 @@
 //! Text of several parts of a format.
 ghost use Rattle.std.specs.Prelude.{◌≡◌, ◌+◌, ℕ, List, [], ◌∷◌, ◌++◌, IfOk, IsSome, Some, length};
 ghost use Rattle.std.specs.Prelude.{string_bytes};
-ghost use Rattle.std.specs.{List.All, Str.chars};
-ghost use Rattle.interpolator_syntax.specs.At.{Placed, placed_from};
+ghost use Rattle.std.specs.{List.All, Str.chars, Str.IsAscii, Str.IsUtf8};
+ghost use Rattle.interpolator_syntax.specs.Places.{Placed, placed_at, placed_from};
 ghost use Rattle.interpolator_eval.specs.{Meaning.Meanings.text_alone, Meaning.Outcomes.Outcome};
 ghost use Rattle.interpolator_eval.specs.Meaning.Sinks.{write_answered};
 ghost use Rattle.interpolator_prepared.specs.Programs.{text_step};
 ghost use Rattle.interpolator_prepared.specs.StoredSteps.{joined_place, joined_step, joined_text};
-ghost use Rattle.interpolator_prepared.specs.StoredSteps.{texts_placed};
+ghost use Rattle.interpolator_prepared.specs.StoredSteps.{row_place, texts_placed};
 ghost use Rattle.interpolator_pieces.specs.{Stored.part, StoredMeanings.stored_part};
 
 use crate::step::{JoinedText, Part};
@@ -135,5 +135,39 @@ pub fn put_joined<W: TextWrite>(out: &mut W, joined: &JoinedText) -> Result<(), 
     match out.write_str(joined.text.as_str()) {
         Ok(()) => Ok(()),
         Err(refusal) => Err(WriteFault::Fmt(place_of(&joined.parts, refusal.taken))),
+    }
+}
+
+/// The place in the format of a byte of joined text, or of the value behind it, which is at `end`.
+#[cold]
+#[inline(never)]
+fn place_behind(joined: &JoinedText, offset: usize, end: usize) -> usize
+    ensures { result ≡ row_place joined.now.parts.items (length (string_bytes joined.now.text)) end
+        offset }
+{
+    if offset < joined.text.len() {
+        return place_of(&joined.parts, offset);
+    }
+    end
+}
+
+/// Writes joined text and the value behind it, which lie in a row, by one call of the writer.
+#[inline(always)]
+pub fn put_row<W: TextWrite>(
+    out: &mut W,
+    joined: &JoinedText,
+    row: &[u8],
+    end: usize,
+) -> Result<(), WriteFault>
+    requires utf8 { IsUtf8 row.now }
+    ensures outcome { (digits : List ℕ) → IsAscii digits
+        → row.now ≡ string_bytes joined.now.text ++ digits
+        → Outcome (text_alone (joined_text joined.now ++ placed_at end digits))
+        (W.written out.old) (W.written out.new) (write_answered result) }
+{
+    let text = unsafe { str::from_utf8_unchecked(row) };
+    match out.write_str(text) {
+        Ok(()) => Ok(()),
+        Err(refusal) => Err(WriteFault::Fmt(place_behind(joined, refusal.taken, end))),
     }
 }

@@ -1,7 +1,8 @@
 //! Formats that were prepared for rows of values: names are positions, and text is joined.
 ghost use Rattle.std.specs.Prelude.{◌≡◌, flat_map, length, map, IfErr, IfOk, Some};
 ghost use Rattle.std.specs.Str.{chars};
-ghost use Rattle.interpolator_syntax.specs.{At.outermost, Faults.answer_of, Faults.result_answer};
+ghost use Rattle.interpolator_syntax.specs.{Places.outermost, Faults.answer_of};
+ghost use Rattle.interpolator_syntax.specs.{Faults.result_answer};
 ghost use Rattle.interpolator_syntax.specs.{Faults.no_memory, Faults.PlaceWithin, Nodes.nodes};
 ghost use Rattle.interpolator_eval.specs.Meaning.Outcomes.{Outcome, Formats};
 ghost use Rattle.interpolator_eval.specs.{Escaping.shows_by, Meaning.Environments.environment};
@@ -46,7 +47,7 @@ pub struct Prepared {
 impl Model for Prepared {
     ghost use Rattle.std.specs.Prelude.{◌≡◌, Some, flat_map, map, string_bytes};
     ghost use Rattle.std.specs.Str.{chars};
-    ghost use Rattle.interpolator_syntax.specs.At.{outermost};
+    ghost use Rattle.interpolator_syntax.specs.Places.{outermost};
     ghost use Rattle.interpolator_syntax.specs.Nodes.{nodes};
     ghost use Rattle.interpolator_prepared.specs.Programs.{program};
     ghost use Rattle.interpolator_prepared.specs.Rows.{PreparedFormat, name_bytes};

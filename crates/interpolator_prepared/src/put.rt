@@ -1,7 +1,7 @@
 //! Writes the steps of a prepared format that are text or the value at a position.
 ghost use Rattle.std.specs.Prelude.{◌≡◌, ℕ, List, IsSome, Some, false};
 ghost use Rattle.interpolator_render.specs.declared.view.Trait.TheVariants.{Display};
-ghost use Rattle.interpolator_syntax.specs.{At.placed_from, SpecTexts.plain_spec};
+ghost use Rattle.interpolator_syntax.specs.{Places.placed_from, SpecTexts.plain_spec};
 ghost use Rattle.interpolator_eval.specs.{Escaping.shows_by, Meaning.Environments.Environment};
 ghost use Rattle.interpolator_eval.specs.{Meaning.Meanings.text_alone, Meaning.Outcomes.Outcome};
 ghost use Rattle.interpolator_eval.specs.Meaning.Sinks.{write_answered};

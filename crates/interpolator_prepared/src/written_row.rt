@@ -2,7 +2,7 @@
 ghost use Rattle.std.specs.Prelude.{◌≡◌, flat_map, length, map, Some};
 ghost use Rattle.std.specs.Str.{chars};
 ghost use Rattle.interpolator_syntax.specs.Faults.{result_answer, PlaceWithin};
-ghost use Rattle.interpolator_syntax.specs.{At.outermost, Nodes.nodes};
+ghost use Rattle.interpolator_syntax.specs.{Places.outermost, Nodes.nodes};
 ghost use Rattle.interpolator_eval.specs.Meaning.Outcomes.{Outcome, Formats};
 ghost use Rattle.interpolator_eval.specs.{Escaping.shows_by, Meaning.Environments.environment};
 ghost use Rattle.interpolator_eval.specs.Meaning.Meanings.{means};

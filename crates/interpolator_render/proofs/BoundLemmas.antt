@@ -6,7 +6,7 @@ use Rattle.std.proofs.Common.{lt_of_not-le, encode_utf8_all, chars, IsUtf8, IsCh
 use Rattle.std.proofs.lemmas.Str.{encodes-chars, chars-append, chars-nil, IsUtf8-append}
 use Rattle.std.proofs.lemmas.Str.{IsUtf8-take, IsUtf8-drop, IsCharBoundary-past_char, length-encode}
 use Rattle.std.proofs.lemmas.Str.{len_utf8_bounds}
-use Rattle.interpolator_render.specs.Written.{Written, Refuses, GoesOver, byte_count, first_size}
+use Rattle.interpolator_render.specs.Writers.{Written, Refuses, GoesOver, byte_count, first_size}
 use Rattle.interpolator_render.specs.Bounds.{BoundedText, IsReady, bounded, RefusesFor}
 use Rattle.interpolator_render.proofs.WrittenLemmas.{chars_nonempty}
 

@@ -10,7 +10,7 @@ use Rattle.std.proofs.lemmas.List.{replicate-append-replicate, take_at}
 use Rattle.std.proofs.{Math.Seq.take-append-add, lemmas.Nat.mul-le}
 use Rattle.std.specs.{Str.IsCharBoundary, Char.IsScalar, Char.len_utf8}
 use Rattle.interpolator_render.specs.Padding.{between_fill}
-use Rattle.interpolator_render.specs.Written.{Written, byte_count, Appends, RefusesLong}
+use Rattle.interpolator_render.specs.Writers.{Written, byte_count, Appends, RefusesLong}
 use Rattle.interpolator_render.proofs.LayoutLemmas.{bytes_of_copies, refuses_in_first}
 use Rattle.interpolator_render.proofs.LayoutLemmas.{IsAscii-replicate, refuses_in_second}
 

@@ -67,11 +67,11 @@ gets_kept : (a b c : Option (List ℕ)) (bytes : List ℕ) → Gets a b bytes �
 gets_kept a b c bytes p k =
     rw (append-nil bytes) at (gets_more a b c bytes [] p (keeps_none b c k))
 
-module _ {W : Type 0} {g : _} (told : W → Option (List ℕ)) where
+module _ {W : Type 0} {g : _} (reported : W → Option (List ℕ)) where
   -- a part of what was held, before a write failed
   pub hands_part : (old new : IoWriter W g) (count : ℕ)
-      → Gets (told old.below.inner) (told new.below.inner) (take count (string_bytes old.held))
-      → new.below.failed ≡ true → HandsOn told old new []
+      → Gets (reported old.below.inner) (reported new.below.inner) (take count (string_bytes old.held))
+      → new.below.failed ≡ true → HandsOn reported old new []
   hands_part old new count got f = record {
     front = take count (string_bytes old.held);
     rest = drop count (string_bytes old.held);
@@ -81,20 +81,20 @@ module _ {W : Type 0} {g : _} (told : W → Option (List ℕ)) where
   }
 
   -- an empty text
-  pub hands_none : (w : IoWriter W g) (bytes : List ℕ) → length bytes ≡ 0 → HandsOn told w w bytes
+  pub hands_none : (w : IoWriter W g) (bytes : List ℕ) → length bytes ≡ 0 → HandsOn reported w w bytes
   hands_none w (b ∷ bytes) e = absurd (omega arith)
   hands_none w [] e = record {
     front = [];
     rest = string_bytes w.held;
     parts = append-nil (string_bytes w.held);
-    got = keeps_none _ _ (stays (told w.below.inner));
+    got = keeps_none _ _ (stays (reported w.below.inner));
     held = λ fine. refl;
   }
 
   -- more bytes were gathered
-  hands_more : (old mid new : IoWriter W g) (more : List ℕ) → HandsOn told old mid []
+  hands_more : (old mid new : IoWriter W g) (more : List ℕ) → HandsOn reported old mid []
       → refuses mid ≡ false → new.below ≡ mid.below
-      → string_bytes new.held ≡ string_bytes mid.held ++ more → HandsOn told old new more
+      → string_bytes new.held ≡ string_bytes mid.held ++ more → HandsOn reported old new more
   hands_more old mid new more h f same e = record {
     front = h.front;
     rest = h.rest ++ more;
@@ -106,10 +106,10 @@ module _ {W : Type 0} {g : _} (told : W → Option (List ℕ)) where
 
   -- after the way was made, a text was gathered, or there was no memory for it
   pub hands_after : (old mid new : IoWriter W g) (more : List ℕ) (answer : Result (Unit {0}) Refusal)
-      → HandsOn told old mid [] → refuses mid ≡ false → new.below ≡ mid.below
+      → HandsOn reported old mid [] → refuses mid ≡ false → new.below ≡ mid.below
       → MatchResult answer (λ _. string_bytes new.held ≡ string_bytes mid.held ++ more)
       (λ _. string_bytes new.held ≡ string_bytes mid.held)
-      → MatchResult answer (λ _. HandsOn told old new more) (λ _. HandsOn told old new [])
+      → MatchResult answer (λ _. HandsOn reported old new more) (λ _. HandsOn reported old new [])
   hands_after old mid new more (Ok x) h f same e = hands_more old mid new more h f same e
   hands_after old mid new more (Err r) h f same e =
       hands_more old mid new [] h f same (e ∙ sym (append-nil (string_bytes mid.held)))

@@ -12,7 +12,7 @@ use Rattle.std.specs.Str.Parse.{digits_value}
 use Rattle.interpolator_render.specs.Padding.{padded_number, padded_text, displayed_text}
 use Rattle.interpolator_render.specs.{declared.view.Bits.Bits, declared.view.Spec.Spec}
 use Rattle.interpolator_render.specs.{Numbers.twos_complement, Numbers.remainder, Views.bit_count}
-use Rattle.interpolator_render.specs.{Written.Written, Written.Appends}
+use Rattle.interpolator_render.specs.{Writers.Written, Writers.Appends}
 use Rattle.interpolator_digits.specs.Digits.{digit_text}
 use Rattle.interpolator_digits.specs.Exponent.{nearest, significant_digits, less_zeros, IsNearest}
 use Rattle.interpolator_digits.specs.Exponent.{distance}

@@ -9,9 +9,9 @@ use Rattle.std.proofs.lemmas.Str.{IsUtf8-append, IsUtf8-encode, length-encode, I
 use Rattle.std.proofs.lemmas.{Grind.common_steps, Grind.flat_map-append, List.take_more}
 use Rattle.std.specs.Char.{len_utf8}
 use Rattle.interpolator_render.specs.declared.text_write.Refusal.{Refusal}
-use Rattle.interpolator_render.specs.Written.{Written, byte_count, Appends, AppendsBeginning}
-use Rattle.interpolator_render.specs.Written.{Refuses, RefusesLong, RefusesWhole, Puts, Writes}
-use Rattle.interpolator_render.specs.Written.{first_size}
+use Rattle.interpolator_render.specs.Writers.{Written, byte_count, Appends, AppendsBeginning}
+use Rattle.interpolator_render.specs.Writers.{Refuses, RefusesLong, RefusesWhole, Puts, Writes}
+use Rattle.interpolator_render.specs.Writers.{first_size}
 use Rattle.interpolator_render.proofs.WrittenLemmas.{may_refuse}
 
 -- nothing was written

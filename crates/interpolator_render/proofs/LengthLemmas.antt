@@ -18,6 +18,7 @@ use Rattle.interpolator_render.specs.Views.{Shown, signed_number, unsigned_numbe
 use Rattle.interpolator_render.specs.Views.{decimal_number, one_character, some_text, plain_text}
 use Rattle.interpolator_render.specs.Views.{float_number, integer_width}
 use Rattle.interpolator_render.specs.declared.number_form.NumberForm.{NumberForm}
+use Rattle.interpolator_render.specs.declared.number_form.NumberForm.TheVariants.{}
 use Rattle.interpolator_render.specs.declared.number_form.NumberForm.TheVariants.{Exponent as InExponent}
 use Rattle.interpolator_render.specs.{declared.number_form.Radix.Radix, declared.view.Bits.Bits}
 use Rattle.interpolator_render.specs.{declared.view.Bits.TheVariants.B128, declared.view.Sign.Sign}
@@ -203,7 +204,7 @@ written_grows t spec few many h = grind arith
 
 -- ---- as the code counts
 
-pub most_told : (t : Trait) (spec : Spec) (most width number decimal text wide wider widest : ℕ)
+pub most_reported : (t : Trait) (spec : Spec) (most width number decimal text wide wider widest : ℕ)
     → width < 2 ^ 64 → width ≡ unwrap_or spec.width 0
     → number ≡ usize_count (most_number (number_form t spec.hex_debug) spec)
     → decimal ≡ usize_count (most_decimal t spec.precision)
@@ -211,4 +212,4 @@ pub most_told : (t : Trait) (spec : Spec) (most width number decimal text wide w
     → wider ≡ max wide decimal → widest ≡ max wider text
     → widest ≡ usize_count (most_written t spec most)
 unfolding most_written
-most_told t spec most width number decimal text wide wider widest fits w n d k a b e = omega arith
+most_reported t spec most width number decimal text wide wider widest fits w n d k a b e = omega arith

@@ -1,7 +1,7 @@
 -- A text at the front of a row of places.
 use Rattle.std.proofs.Common.{◌≡◌, ℕ, ◌≤◌, Bool, true, List, ◌++◌, length, take, IsUtf8}
 use Rattle.std.proofs.lemmas.Str.{IsUtf8-append}
-use Rattle.interpolator_render.specs.Written.{HoldsText}
+use Rattle.interpolator_render.specs.Writers.{HoldsText}
 
 -- a row that begins with the text of another and one more text holds both
 pub holds_more : (row after text : List ℕ) (len long : ℕ) (refused flag : Bool) →

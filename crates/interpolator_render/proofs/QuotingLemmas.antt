@@ -10,7 +10,7 @@ use Rattle.std.proofs.lemmas.Str.{IsCharBoundary-start, IsUtf8-between, chars-Is
 use Rattle.std.proofs.lemmas.Str.{encodes-chars, encode_ascii, IsUtf8-take, IsUtf8-drop, chars-nil}
 use Rattle.std.proofs.lemmas.{Bool.cases_lt, Grind.flat_map-append, List.drop-take, List.take_more}
 use Rattle.std.proofs.lemmas.{Str.Ascii.IsAscii-cons, Bool.Decides.nat_tests}
-use Rattle.interpolator_render.specs.Written.{Written, Appends, AppendsBeginning, Puts, Writes}
+use Rattle.interpolator_render.specs.Writers.{Written, Appends, AppendsBeginning, Puts, Writes}
 use Rattle.interpolator_render.specs.{declared.text_write.Refusal.Refusal, Quoting.escape_of}
 use Rattle.interpolator_render.proofs.LayoutLemmas.{writes_from_puts, stops_in_second, appends_none}
 use Rattle.interpolator_render.proofs.LayoutLemmas.{stops_in_first, writes_second}

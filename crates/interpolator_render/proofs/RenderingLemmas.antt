@@ -6,8 +6,9 @@ use Rattle.interpolator_render.specs.Numbers.{distance_from_zero, is_negative, s
 use Rattle.interpolator_render.specs.Padding.{displayed_text, padded_text, unset_spec}
 use Rattle.interpolator_render.specs.Texts.{ViewText, has_text, Renders, render_answer, view_text}
 use Rattle.interpolator_render.specs.Views.{signed_number, some_text, unsigned_number}
-use Rattle.interpolator_render.specs.Written.{Written, Puts}
+use Rattle.interpolator_render.specs.Writers.{Written, Puts}
 use Rattle.interpolator_render.specs.declared.number_form.NumberForm.{NumberForm}
+use Rattle.interpolator_render.specs.declared.number_form.NumberForm.TheVariants.{}
 use Rattle.interpolator_render.specs.declared.number_form.NumberForm.TheVariants.{Digits as InDigits}
 use Rattle.interpolator_render.specs.declared.number_form.Radix.TheVariants.{Decimal}
 use Rattle.interpolator_render.specs.{declared.text_write.Refusal.Refusal, declared.view.Bits.Bits}

@@ -5,8 +5,8 @@ use Rattle.std.proofs.Common.{encode_utf8_all, Result, MatchResult, Option, char
 use Rattle.std.proofs.lemmas.{Grind.common_steps, Str.chars-append, Str.chars-nil}
 use Rattle.std.proofs.lemmas.{Str.IsUtf8-encode, Str.chars_past_char, Str.encodes-chars}
 use Rattle.interpolator_render.specs.declared.text_write.Refusal.{Refusal}
-use Rattle.interpolator_render.specs.Written.{Written, Appends, Refuses, AppendsWithin, StaysWithin}
-use Rattle.interpolator_render.specs.Written.{GoesOver, byte_count, first_size}
+use Rattle.interpolator_render.specs.Writers.{Written, Appends, Refuses, AppendsWithin, StaysWithin}
+use Rattle.interpolator_render.specs.Writers.{GoesOver, byte_count, first_size}
 use Rattle.std.specs.Char.{IsScalar}
 
 -- an empty text changes nothing

@@ -1,7 +1,7 @@
 -- What a bounded writer holds, what it takes of a text, and why it refuses the rest.
 use Rattle.std.specs.Prelude.{◌≡◌, ◌⊎◌, ℕ, ◌+◌, ◌<◌, ◌≤◌, ◌-◌, Bool, true, List, [], ◌++◌}
 use Rattle.std.specs.Prelude.{◌∷◌, length, encode_utf8, if◌then◌else◌, None, Some}
-use Rattle.interpolator_render.specs.Written.{Written, Origin, byte_count}
+use Rattle.interpolator_render.specs.Writers.{Written, Origin, byte_count}
 
 -- a bounded writer: what is known of it as of any writer, how many bytes it takes in all, whether it
 -- took the memory for all of them at first, and how many its `String` can hold without more memory

@@ -3,8 +3,8 @@ use Rattle.std.specs.Prelude.{◌≡◌, ◌⊎◌, ℕ, ◌+◌, ◌<◌, ◌�
 use Rattle.std.specs.Prelude.{◌++◌, length, None, string_bytes, string_capacity, encode_utf8_all}
 use Rattle.std.specs.Prelude.{Option}
 use Rattle.std.specs.Str.{chars}
-use Rattle.interpolator_render.specs.{PassedOn.Gets, PassedOn.GetsFront, Written.Written}
-use Rattle.interpolator_render.specs.{Written.Origin, declared.io_writer.IoWriter.IoWriter}
+use Rattle.interpolator_render.specs.{PassedOn.Gets, PassedOn.GetsFront, Writers.Written}
+use Rattle.interpolator_render.specs.{Writers.Origin, declared.io_writer.IoWriter.IoWriter}
 
 -- the origin of a writer over a writer of bytes that contained this at first, if that is known
 abbrev pub over : Option (List ℕ) → Origin
@@ -24,21 +24,21 @@ io_written w = record {
 
 -- the writer below contains what it did at first, and then the bytes of all the text taken
 abbrev pub HasAll : {W : Type 0} {g : _} → (W → Option (List ℕ)) → IoWriter W g → Type 0
-HasAll told w =
-    Gets (io_written w).origin.below (told w.below.inner) (encode_utf8_all (io_written w).text)
+HasAll reported w =
+    Gets (io_written w).origin.below (reported w.below.inner) (encode_utf8_all (io_written w).text)
 
 -- or at least a front of them
 abbrev pub HasFront : {W : Type 0} {g : _} → (W → Option (List ℕ)) → IoWriter W g → Type 0
-HasFront told w =
-    GetsFront (io_written w).origin.below (told w.below.inner) (encode_utf8_all (io_written w).text)
+HasFront reported w =
+    GetsFront (io_written w).origin.below (reported w.below.inner) (encode_utf8_all (io_written w).text)
 
 -- of what it held and of more bytes a front was passed on; it holds the rest, unless it refuses
-pub record HandsOn {W : Type 0} {g : _} (told : W → Option (List ℕ)) (old new : IoWriter W g)
+pub record HandsOn {W : Type 0} {g : _} (reported : W → Option (List ℕ)) (old new : IoWriter W g)
     (more : List ℕ) : Type 0 where
   pub front : List ℕ
   pub rest : List ℕ
   pub parts : string_bytes old.held ++ more ≡ front ++ rest
-  pub got : Gets (told old.below.inner) (told new.below.inner) front
+  pub got : Gets (reported old.below.inner) (reported new.below.inner) front
   pub held : refuses new ≡ false → string_bytes new.held ≡ rest
 
 -- a call of the writer below failed

@@ -1,5 +1,5 @@
 -- The definitions that the contracts cite.
-pub mod Written
+pub mod Writers
 pub mod Bounds
 pub mod PassedOn
 pub mod IoWriters
@@ -14,4 +14,5 @@ pub mod Numbers
 pub mod Quoting
 pub mod Unquoting
 pub mod Texts
+pub mod FewDigits
 pub mod Lengths

@@ -3,6 +3,7 @@ use Rattle.std.specs.Prelude.{◌≡◌, Bool, true, false, ℕ, List, [], ◌�
 use Rattle.std.specs.Prelude.{Ok, Err, codes}
 use Rattle.std.specs.Float.Ieee.{Float}
 use Rattle.interpolator_render.specs.declared.view.RenderFault.TheVariants.{Refused}
+use Rattle.interpolator_render.specs.declared.view.RenderFault.TheVariants.{}
 use Rattle.interpolator_render.specs.declared.view.RenderFault.TheVariants.{NotImplemented as Nothing}
 use Rattle.interpolator_render.specs.declared.view.RenderFault.TheVariants.{Failed as FailedFault}
 use Rattle.interpolator_render.specs.declared.view.Trait.TheVariants.{Debug, Display}
@@ -14,7 +15,7 @@ use Rattle.interpolator_render.specs.Padding.{displayed_text, padded_number}
 use Rattle.interpolator_render.specs.Views.{Shown, signed_number, unsigned_number, truth_value}
 use Rattle.interpolator_render.specs.Views.{decimal_number, float_number, one_character, some_text}
 use Rattle.interpolator_render.specs.Views.{plain_text, nothing_implemented, failure}
-use Rattle.interpolator_render.specs.Written.{Written, Appends, AppendsBeginning}
+use Rattle.interpolator_render.specs.Writers.{Written, Appends, AppendsBeginning}
 use Rattle.interpolator_render.specs.declared.number_form.NumberForm.{NumberForm}
 use Rattle.interpolator_render.specs.declared.text_write.Refusal.{Refusal}
 use Rattle.interpolator_render.specs.declared.view.RenderFault.{RenderFault}

@@ -3,8 +3,8 @@ ghost use Rattle.std.specs.Prelude.{◌≡◌, ℕ, ◌+◌, ◌<◌, ◌≤◌,
 ghost use Rattle.std.specs.Prelude.{length, min, take, string_bytes, string_capacity};
 ghost use Rattle.std.specs.Prelude.{IfOk, MatchResult, OnErr, OnOk, Some};
 ghost use Rattle.std.specs.Str.{chars, IsCharBoundary};
-ghost use Rattle.interpolator_render.specs.Written.{Appends, Refuses, RefusesWhole, byte_count};
-ghost use Rattle.interpolator_render.specs.Written.{plain};
+ghost use Rattle.interpolator_render.specs.Writers.{Appends, Refuses, RefusesWhole, byte_count};
+ghost use Rattle.interpolator_render.specs.Writers.{plain};
 ghost use Rattle.interpolator_render.specs.Bounds.{bounded, bounded_writer, bytes_left};
 ghost use Rattle.interpolator_render.specs.Bounds.{IsWithinBound, RefusesFor};
 

@@ -3,7 +3,7 @@ ghost use Rattle.std.specs.Prelude.{◌≡◌, ◌+◌, ◌-◌, ◌*◌, ◌++�
 ghost use Rattle.std.specs.Prelude.{encode_utf8, encode_utf8_all, length};
 ghost use Rattle.std.specs.{Char.len_utf8, Str.chars};
 ghost use Rattle.interpolator_digits.specs.Characters.{zero_digit};
-ghost use Rattle.interpolator_render.specs.Written.{Puts, byte_count};
+ghost use Rattle.interpolator_render.specs.Writers.{Puts, byte_count};
 ghost use Rattle.interpolator_render.specs.{Characters.space, Copies.IsRun, Padding.between_fill};
 
 use crate::layout::{byte_len, put_text};

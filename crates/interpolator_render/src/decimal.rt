@@ -5,7 +5,7 @@ ghost use Rattle.interpolator_render.specs.Numbers.{IsShortAscii, distance_from_
 ghost use Rattle.interpolator_render.specs.Numbers.{sign_text};
 ghost use Rattle.interpolator_render.specs.Padding.{row_fill, padded_number};
 ghost use Rattle.interpolator_render.specs.declared.view.Sign.TheVariants.{Unset};
-ghost use Rattle.interpolator_render.specs.{DigitBuffers.put_before, Written.Puts};
+ghost use Rattle.interpolator_render.specs.{DigitBuffers.put_before, Writers.Puts};
 ghost use Rattle.interpolator_digits.specs.Characters.{point, zero_digit};
 ghost use Rattle.interpolator_digits.specs.Decimals.{after_point, decimal_text, placed, split_text};
 ghost use Rattle.interpolator_digits.specs.Digits.{digit_text};
@@ -94,7 +94,7 @@ fn put_split(buffer: &mut DigitBuffer, shown: DecimalDigits)
 /// Writes a decimal made in one buffer, by one call.
 #[tactic(auto, using(crate::proofs::DecimalRowLemmas::decimal_row))]
 #[inline(always)]
-fn put_in_row<W: TextWrite>(
+fn put_decimal_in_row<W: TextWrite>(
     out: &mut W,
     spec: &Spec,
     negative: bool,
@@ -139,7 +139,7 @@ fn part_str(part: u128, places: usize, buffer: &mut [u8; 128]) -> &str
 #[cold]
 #[inline(never)]
 #[tactic(auto, using(crate::proofs::DecimalRowLemmas::decimal_body))]
-fn put_in_parts<W: TextWrite>(
+fn put_decimal_in_parts<W: TextWrite>(
     out: &mut W,
     spec: &Spec,
     negative: bool,
@@ -198,7 +198,7 @@ fn is_bare_decimal(spec: &Spec) -> bool
 
 /// Writes the digits of a decimal after a sign.
 #[inline(always)]
-pub(crate) fn put_digits<W: TextWrite>(
+pub(crate) fn put_decimal_digits<W: TextWrite>(
     out: &mut W,
     spec: &Spec,
     negative: bool,
@@ -210,7 +210,7 @@ pub(crate) fn put_digits<W: TextWrite>(
 {
     let after = shown.places.saturating_add(shown.zeros);
     if after <= BUFFER_WIDTH && fits_buffer(spec) {
-        return put_in_row(out, spec, negative, shown);
+        return put_decimal_in_row(out, spec, negative, shown);
     }
     let copy = DecimalDigits {
         whole: shown.whole,
@@ -218,7 +218,7 @@ pub(crate) fn put_digits<W: TextWrite>(
         places: shown.places,
         zeros: shown.zeros,
     };
-    put_in_parts(out, spec, negative, copy)
+    put_decimal_in_parts(out, spec, negative, copy)
 }
 
 /// Writes units of 10 ^ -scale after a sign.
@@ -235,7 +235,7 @@ pub(crate) fn put_any_units<W: TextWrite>(
         (decimal_text spec.now.precision scale units))
         result (W.written out.new) }
 {
-    put_digits(
+    put_decimal_digits(
         out,
         spec,
         negative,

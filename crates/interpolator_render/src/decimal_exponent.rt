@@ -4,7 +4,7 @@ ghost use Rattle.interpolator_digits.specs.Decimals.{decimal_exponent_text, scal
 ghost use Rattle.interpolator_digits.specs.Decimals.{shown_scaled};
 ghost use Rattle.interpolator_render.specs.Numbers.{distance_from_zero, is_negative, sign_text};
 ghost use Rattle.interpolator_render.specs.Padding.{row_fill, padded_number};
-ghost use Rattle.interpolator_render.specs.{DigitBuffers.put_before, Written.Puts};
+ghost use Rattle.interpolator_render.specs.{DigitBuffers.put_before, Writers.Puts};
 
 use crate::digit_buffer::DigitBuffer;
 use crate::exponent::{mark, put_leading, put_tail};
@@ -83,7 +83,7 @@ fn put_scaled(buffer: &mut DigitBuffer, upper: bool, number: ScaledShown)
 /// Writes a decimal in exponent form, made in one buffer and written by one call.
 #[tactic(auto, using(crate::proofs::DecimalRowLemmas::scaled_row))]
 #[inline(always)]
-fn put_in_row<W: TextWrite>(
+fn put_scaled_in_row<W: TextWrite>(
     out: &mut W,
     upper: bool,
     spec: &Spec,
@@ -108,7 +108,7 @@ fn put_in_row<W: TextWrite>(
 #[cold]
 #[inline(never)]
 #[tactic(auto, using(crate::proofs::ExponentRowLemmas::part_steps))]
-fn put_in_parts<W: TextWrite>(
+fn put_scaled_in_parts<W: TextWrite>(
     out: &mut W,
     upper: bool,
     spec: &Spec,
@@ -136,7 +136,7 @@ fn put_in_parts<W: TextWrite>(
 
 /// Writes a decimal in exponent form, after a sign.
 #[inline(never)]
-fn put_shown<W: TextWrite>(
+fn put_signed_scaled<W: TextWrite>(
     out: &mut W,
     upper: bool,
     spec: &Spec,
@@ -149,9 +149,9 @@ fn put_shown<W: TextWrite>(
         number.scale)) result (W.written out.new) }
 {
     if number.shown.zeros <= MOST_ZEROS && fits_buffer(spec) {
-        put_in_row(out, upper, spec, negative, number)
+        put_scaled_in_row(out, upper, spec, negative, number)
     } else {
-        put_in_parts(out, upper, spec, negative, number)
+        put_scaled_in_parts(out, upper, spec, negative, number)
     }
 }
 
@@ -170,5 +170,5 @@ pub(crate) fn put_decimal_exponent<W: TextWrite>(
         result (W.written out.new) }
 {
     let number = scaled_shown(units.unsigned_abs(), scale, spec.precision);
-    put_shown(out, upper, spec, units < 0, number)
+    put_signed_scaled(out, upper, spec, units < 0, number)
 }

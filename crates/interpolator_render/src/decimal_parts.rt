@@ -2,7 +2,7 @@
 ghost use Rattle.std.specs.Prelude.{◌++◌, replicate};
 ghost use Rattle.std.specs.Str.{IsAscii};
 ghost use Rattle.interpolator_digits.specs.Characters.{zero_digit};
-ghost use Rattle.interpolator_render.specs.{Padding.padded_number, Written.Puts};
+ghost use Rattle.interpolator_render.specs.{Padding.padded_number, Writers.Puts};
 
 use crate::layout::{Part, fill_char, put_parts};
 use crate::number_parts::number_layout;

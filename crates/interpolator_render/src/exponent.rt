@@ -5,7 +5,7 @@ ghost use Rattle.interpolator_digits.specs.{Characters.zero_digit, Digits.digit_
 ghost use Rattle.interpolator_render.specs.Numbers.{number_text, sign_text};
 ghost use Rattle.interpolator_render.specs.Padding.{row_fill, padded_number};
 ghost use Rattle.interpolator_render.specs.Texts.{Renders, has_text};
-ghost use Rattle.interpolator_render.specs.{DigitBuffers.put_before, Written.Puts};
+ghost use Rattle.interpolator_render.specs.{DigitBuffers.put_before, Writers.Puts};
 
 use crate::digit_buffer::{BUFFER_WIDTH, DigitBuffer};
 use crate::digits::GREATEST_U64;
@@ -14,7 +14,7 @@ use crate::number_form::NumberForm;
 use crate::number_parts::{NumberParts, put_padded, sign_str};
 use crate::number_row::{fill_byte, fits_buffer, put_around};
 use crate::scientific::{Shown, shown_of};
-use crate::text_write::{Refusal, TextWrite, refused};
+use crate::text_write::{Refusal, TextWrite, as_rendered};
 use crate::view::{RenderFault, Spec};
 
 pub(crate) fn mark(upper: bool) -> u8
@@ -73,7 +73,7 @@ fn put_shown(buffer: &mut DigitBuffer, upper: bool, shown: Shown)
 /// Writes a number in exponent form, made in one buffer and written by one call.
 #[tactic(auto, using(crate::proofs::ExponentRowLemmas::exponent_row))]
 #[inline(always)]
-fn put_in_row<W: TextWrite>(
+fn put_exponent_in_row<W: TextWrite>(
     out: &mut W,
     upper: bool,
     spec: &Spec,
@@ -126,7 +126,7 @@ fn put_shown_parts<W: TextWrite>(
 #[cold]
 #[inline(never)]
 #[tactic(auto, using(crate::proofs::ExponentRowLemmas::shown_exponent))]
-fn put_in_parts<W: TextWrite>(
+fn put_exponent_in_parts<W: TextWrite>(
     out: &mut W,
     spec: &Spec,
     n: u128,
@@ -155,16 +155,16 @@ fn put_fitting<W: TextWrite>(
 {
     let shown = shown_of(n, spec.precision);
     if shown.zeros <= BUFFER_WIDTH && fits_buffer(spec) {
-        put_in_row(out, upper, spec, negative, shown)
+        put_exponent_in_row(out, upper, spec, negative, shown)
     } else {
-        put_in_parts(out, spec, n, negative, upper)
+        put_exponent_in_parts(out, spec, n, negative, upper)
     }
 }
 
 /// Writes a number of 64 bits in exponent form. It is a call of its own, so that the compiler knows
 /// of each number that follows from it how short it is.
 #[inline(never)]
-fn put_short<W: TextWrite>(
+fn put_short_exponent<W: TextWrite>(
     out: &mut W,
     spec: &Spec,
     n: u64,
@@ -174,12 +174,12 @@ fn put_short<W: TextWrite>(
     ensures { Renders (has_text (number_text (NumberForm.Exponent upper) spec.now negative n))
         (W.written out.old) result (W.written out.new) }
 {
-    refused(put_fitting(out, spec, n as u128, negative, upper))
+    as_rendered(put_fitting(out, spec, n as u128, negative, upper))
 }
 
 /// Writes a number of any width in exponent form.
 #[inline(never)]
-fn put_long<W: TextWrite>(
+fn put_long_exponent<W: TextWrite>(
     out: &mut W,
     spec: &Spec,
     n: u128,
@@ -189,7 +189,7 @@ fn put_long<W: TextWrite>(
     ensures { Renders (has_text (number_text (NumberForm.Exponent upper) spec.now negative n))
         (W.written out.old) result (W.written out.new) }
 {
-    refused(put_fitting(out, spec, n, negative, upper))
+    as_rendered(put_fitting(out, spec, n, negative, upper))
 }
 
 /// Writes a number in exponent form.
@@ -205,8 +205,8 @@ pub(crate) fn put_exponent<W: TextWrite>(
         (W.written out.old) result (W.written out.new) }
 {
     if n <= GREATEST_U64 {
-        put_short(out, spec, n as u64, negative, upper)
+        put_short_exponent(out, spec, n as u64, negative, upper)
     } else {
-        put_long(out, spec, n, negative, upper)
+        put_long_exponent(out, spec, n, negative, upper)
     }
 }

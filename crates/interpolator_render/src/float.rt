@@ -11,9 +11,9 @@ ghost use Rattle.interpolator_floats.specs.ShortestDigits.{IsTrimmed, shortest_e
 ghost use Rattle.interpolator_floats.specs.ShortestDigits.{shortest_text};
 ghost use Rattle.interpolator_render.specs.declared.view.Sign.TheVariants.{Unset};
 ghost use Rattle.interpolator_render.specs.{DigitBuffers.put_before, Forms.debugged, Forms.is_far};
-ghost use Rattle.interpolator_render.specs.{Numbers.sign_text, Padding.padded_number, Written.Puts};
+ghost use Rattle.interpolator_render.specs.{Numbers.sign_text, Padding.padded_number, Writers.Puts};
 
-use crate::decimal::{point_str, put_any_units, put_bare_decimal, put_digits};
+use crate::decimal::{point_str, put_any_units, put_bare_decimal, put_decimal_digits};
 use crate::decimal_digits::{DecimalDigits, GREATEST_SHORT_SCALE, decimal_digits};
 use crate::decimal_parts::{DecimalParts, put_padded_decimal};
 use crate::digit_buffer::DigitBuffer;
@@ -250,7 +250,7 @@ pub(crate) fn put_debugged<W: TextWrite>(
     }
     let places = (shown.down as usize).max(1);
     let digits = decimal_digits(shown_units(shown), shown.down, Some(places));
-    put_digits(out, spec, negative, digits)
+    put_decimal_digits(out, spec, negative, digits)
 }
 
 /// Writes digits that lie in a room of their own.
@@ -318,7 +318,7 @@ pub(crate) fn put_places<W: TextWrite>(
                 places: shown.places,
                 zeros: shown.zeros,
             };
-            put_digits(out, spec, negative, digits)
+            put_decimal_digits(out, spec, negative, digits)
         }
         None => put_exactly(out, spec, negative, x, places),
     }

@@ -8,14 +8,14 @@ ghost use Rattle.interpolator_render.specs.Forms.{short_body, worded};
 ghost use Rattle.interpolator_render.specs.Padding.{padded_number, unset_spec};
 ghost use Rattle.interpolator_render.specs.Texts.{Renders, padded_decimal, padded_float};
 ghost use Rattle.interpolator_render.specs.Numbers.{IsShortAscii};
-ghost use Rattle.interpolator_render.specs.{declared.view.Trait.TheVariants.Display, Written.Puts};
+ghost use Rattle.interpolator_render.specs.{declared.view.Trait.TheVariants.Display, Writers.Puts};
 
 use crate::float::{
     put_bare_shortest, put_debugged, put_places, put_places_exponent, put_shortest,
     put_shortest_exponent,
 };
 use crate::number_parts::{NumberParts, put_padded, sign_str};
-use crate::text_write::{Refusal, TextWrite, refused};
+use crate::text_write::{Refusal, TextWrite, as_rendered};
 use crate::view::{RenderFault, Sign, Spec, Trait};
 use interpolator_floats::{Shortest, is_negative, shortest_digits, shortest_f32_digits, word};
 
@@ -64,10 +64,10 @@ fn render_word<W: TextWrite>(
         result (W.written out.new) }
 {
     match wanted {
-        Trait::Display => refused(put_word(out, spec, x, text)),
-        Trait::Debug => refused(put_word(out, spec, x, text)),
-        Trait::LowerExp => refused(put_word(out, spec, x, text)),
-        Trait::UpperExp => refused(put_word(out, spec, x, text)),
+        Trait::Display => as_rendered(put_word(out, spec, x, text)),
+        Trait::Debug => as_rendered(put_word(out, spec, x, text)),
+        Trait::LowerExp => as_rendered(put_word(out, spec, x, text)),
+        Trait::UpperExp => as_rendered(put_word(out, spec, x, text)),
         _ => Err(RenderFault::NotImplemented),
     }
 }
@@ -86,10 +86,10 @@ fn render_shortest<W: TextWrite>(
         (W.written out.old) result (W.written out.new) }
 {
     match wanted {
-        Trait::Display => refused(put_shortest(out, spec, negative, shown)),
-        Trait::Debug => refused(put_debugged(out, spec, negative, shown)),
-        Trait::LowerExp => refused(put_shortest_exponent(out, false, spec, negative, shown)),
-        Trait::UpperExp => refused(put_shortest_exponent(out, true, spec, negative, shown)),
+        Trait::Display => as_rendered(put_shortest(out, spec, negative, shown)),
+        Trait::Debug => as_rendered(put_debugged(out, spec, negative, shown)),
+        Trait::LowerExp => as_rendered(put_shortest_exponent(out, false, spec, negative, shown)),
+        Trait::UpperExp => as_rendered(put_shortest_exponent(out, true, spec, negative, shown)),
         _ => Err(RenderFault::NotImplemented),
     }
 }
@@ -110,10 +110,10 @@ fn render_places<W: TextWrite>(
 {
     let negative = is_negative(x);
     match wanted {
-        Trait::Display => refused(put_places(out, spec, negative, x, places)),
-        Trait::Debug => refused(put_places(out, spec, negative, x, places)),
-        Trait::LowerExp => refused(put_places_exponent(out, false, spec, negative, x, places)),
-        Trait::UpperExp => refused(put_places_exponent(out, true, spec, negative, x, places)),
+        Trait::Display => as_rendered(put_places(out, spec, negative, x, places)),
+        Trait::Debug => as_rendered(put_places(out, spec, negative, x, places)),
+        Trait::LowerExp => as_rendered(put_places_exponent(out, false, spec, negative, x, places)),
+        Trait::UpperExp => as_rendered(put_places_exponent(out, true, spec, negative, x, places)),
         _ => Err(RenderFault::NotImplemented),
     }
 }
@@ -149,7 +149,7 @@ pub(crate) fn render_plain_float<W: TextWrite>(out: &mut W, x: f64) -> Result<()
     if let Some(text) = word(x) {
         return render_word(out, Trait::Display, &Spec::default(), x, text);
     }
-    refused(put_bare_shortest(out, is_negative(x), shortest_digits(x)))
+    as_rendered(put_bare_shortest(out, is_negative(x), shortest_digits(x)))
 }
 
 /// Writes a float of 32 bits. At a precision it is the float of 64 bits with the same value.

@@ -53,7 +53,7 @@ pub struct IoWriter<W: Write + Drop> {
 impl<W: Write + Drop> IoWriter<W> {
     ghost use Rattle.interpolator_render.specs.IoWriters.{FailsBelow, Gathers, HandsOn, HasAll};
     ghost use Rattle.interpolator_render.specs.IoWriters.{HasFront, io_written, over, refuses};
-    ghost use Rattle.interpolator_render.specs.Written.{RefusesWhole};
+    ghost use Rattle.interpolator_render.specs.Writers.{RefusesWhole};
 
     /// A writer over `inner` that has taken nothing. It gathers text in `alloc`'s memory.
     pub fn new(alloc: Global, inner: W) -> IoWriter<W>
@@ -177,7 +177,7 @@ impl<W: Write + Drop> IoWriter<W> {
 impl<W: Write + Drop> TextWrite for IoWriter<W> {
     ghost use Rattle.interpolator_render.specs.IoWriters.{Gathers, HandsOn, io_written, IoRefusesFor};
     ghost use Rattle.interpolator_render.specs.IoWriters.{refuses};
-    ghost use Rattle.interpolator_render.specs.Written.{Appends, Refuses};
+    ghost use Rattle.interpolator_render.specs.Writers.{Appends, Refuses};
 
     ghost written = { λ w. io_written w };
 

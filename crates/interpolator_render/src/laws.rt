@@ -14,7 +14,7 @@ ghost use Rattle.interpolator_digits.specs.{Characters.zero_digit, Digits.digit_
 ghost use Rattle.interpolator_render.specs.Padding.{padded_number, padded_text, displayed_text};
 ghost use Rattle.interpolator_render.specs.Unquoting.{IsQuote, text_in_quotes};
 ghost use Rattle.interpolator_render.specs.Views.{AreEqual, bit_count, shown_in_bytes};
-ghost use Rattle.interpolator_render.specs.Written.{Written, Appends};
+ghost use Rattle.interpolator_render.specs.Writers.{Written, Appends};
 ghost use Rattle.interpolator_render.specs.{Numbers.twos_complement, Quoting.quotation};
 
 pub mod clones;

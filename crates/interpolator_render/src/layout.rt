@@ -3,7 +3,7 @@ ghost use Rattle.std.specs.Prelude.{◌≡◌, ◌∷◌, ◌-◌, ◌^◌, [], 
 ghost use Rattle.std.specs.Str.{chars, IsAscii};
 ghost use Rattle.interpolator_render.specs.Layout.{part_text, text_of_parts};
 ghost use Rattle.interpolator_render.specs.Padding.{fill_before, fill_of};
-ghost use Rattle.interpolator_render.specs.Written.{Puts, byte_count};
+ghost use Rattle.interpolator_render.specs.Writers.{Puts, byte_count};
 
 use crate::copies::{copies_len, put_copies};
 use crate::text_write::{Refusal, TextWrite};

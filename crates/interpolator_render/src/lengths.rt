@@ -1,6 +1,7 @@
 //! How many characters the text of a view has at most.
 ghost use Rattle.std.specs.Prelude.{◌≡◌, ◌≤◌};
-ghost use Rattle.interpolator_render.specs.Lengths.{most_digits, most_front, most_body, most_number};
+ghost use Rattle.interpolator_render.specs.Lengths.{most_digits, most_front, most_body};
+ghost use Rattle.interpolator_render.specs.Lengths.{most_number};
 ghost use Rattle.interpolator_render.specs.Lengths.{most_decimal, most_plain, most_scaled};
 ghost use Rattle.interpolator_render.specs.Lengths.{most_text, most_written, usize_count};
 ghost use Rattle.interpolator_render.specs.Numbers.{prefix_of, sign_text};
@@ -129,7 +130,7 @@ fn most_text(wanted: Trait, most: usize) -> usize
 /// most_written(Trait::Binary, &Spec::default(), 10)   // 128: a number may be longer than the text
 /// most_written(Trait::Debug, &Spec::default(), 10)    // 62: six for each character, and two quotes
 /// ```
-#[tactic(auto, using(crate::proofs::LengthLemmas::most_told))]
+#[tactic(auto, using(crate::proofs::LengthLemmas::most_reported))]
 pub fn most_written(wanted: Trait, spec: &Spec, most: usize) -> usize
     ensures { result ≡ usize_count (most_written wanted spec.now most) }
 {

@@ -34,6 +34,7 @@ mod digit_buffer;
 mod digit_tables;
 mod digits;
 mod exponent;
+mod few_digits;
 mod float;
 mod float_view;
 mod ghost_log;
@@ -56,6 +57,7 @@ mod view;
 
 pub use bounded::Bounded;
 pub use characters::char_count;
+pub use few_digits::put_few_digits;
 pub use io_writer::IoWriter;
 pub use lengths::most_written;
 pub use rendering::{pad, render, render_plainly};

@@ -6,7 +6,7 @@ ghost use Rattle.interpolator_render.specs.Numbers.{is_upper, number_text, sign_
 ghost use Rattle.interpolator_render.specs.Padding.{row_fill, padded_number};
 ghost use Rattle.interpolator_render.specs.Texts.{Renders, has_text};
 ghost use Rattle.interpolator_render.specs.DigitBuffers.{put_before};
-ghost use Rattle.interpolator_render.specs.{declared.view.Sign.TheVariants.Unset, Written.Puts};
+ghost use Rattle.interpolator_render.specs.{declared.view.Sign.TheVariants.Unset, Writers.Puts};
 ghost use Rattle.interpolator_digits.specs.Digits.{digit_text};
 
 use crate::digit_buffer::DigitBuffer;
@@ -17,12 +17,12 @@ use crate::layout::{put_ascii, put_char};
 use crate::number_form::{NumberForm, Radix};
 use crate::number_parts::{NumberParts, put_padded, sign_str};
 use crate::number_row::{fill_byte, fits_buffer, put_around};
-use crate::text_write::{Refusal, TextWrite, refused};
+use crate::text_write::{Refusal, TextWrite, as_rendered};
 use crate::view::{RenderFault, Sign, Spec};
 
 /// Writes a number by its digits, in parts.
 #[inline(never)]
-fn put_long<W: TextWrite>(
+fn put_digits_in_parts<W: TextWrite>(
     out: &mut W,
     radix: Radix,
     spec: &Spec,
@@ -64,7 +64,7 @@ fn put_in_radix(buffer: &mut DigitBuffer, radix: Radix, n: u64)
 /// Writes a number by its digits, in one buffer and by one call.
 #[tactic(auto, using(crate::proofs::DigitBufferLemmas::number_row))]
 #[inline(always)]
-fn put_short<W: TextWrite>(
+fn put_digits_in_row<W: TextWrite>(
     out: &mut W,
     radix: Radix,
     spec: &Spec,
@@ -96,9 +96,9 @@ fn put_digits<W: TextWrite>(
         (W.written out.old) result (W.written out.new) }
 {
     if n <= GREATEST_U64 && fits_buffer(spec) {
-        refused(put_short(out, radix, spec, negative, n as u64))
+        as_rendered(put_digits_in_row(out, radix, spec, negative, n as u64))
     } else {
-        refused(put_long(out, radix, spec, negative, n))
+        as_rendered(put_digits_in_parts(out, radix, spec, negative, n))
     }
 }
 
@@ -162,7 +162,7 @@ fn put_upper_hex<W: TextWrite>(
 
 /// Writes a number in base ten.
 #[inline(never)]
-fn put_decimal<W: TextWrite>(
+fn put_base_ten<W: TextWrite>(
     out: &mut W,
     spec: &Spec,
     n: u128,
@@ -177,7 +177,7 @@ fn put_decimal<W: TextWrite>(
 /// The digits of a number that has three.
 #[inline(always)]
 #[tactic(auto, using(interpolator_digits::proofs::DigitLemmas::three_alone))]
-fn three_digits(n: u64) -> [u8; 3]
+pub(crate) fn three_digits(n: u64) -> [u8; 3]
     requires least { 100 ≤ n }
     requires most { n < 1000 }
     ensures { result ≡ digit_text 10 false n }
@@ -288,9 +288,9 @@ pub(crate) fn put_natural<W: TextWrite>(
         (W.written out.old) result (W.written out.new) }
 {
     if n <= GREATEST_U64 && is_bare(spec) {
-        refused(put_bare(out, n as u64))
+        as_rendered(put_bare(out, n as u64))
     } else {
-        put_decimal(out, spec, n, false)
+        put_base_ten(out, spec, n, false)
     }
 }
 
@@ -307,9 +307,9 @@ pub(crate) fn put_integer<W: TextWrite>(
         (W.written out.old) result (W.written out.new) }
 {
     if i64::MIN as i128 <= number && number <= i64::MAX as i128 && is_bare(spec) {
-        refused(put_bare_signed(out, number as i64))
+        as_rendered(put_bare_signed(out, number as i64))
     } else {
-        put_decimal(out, spec, number.unsigned_abs(), number < 0)
+        put_base_ten(out, spec, number.unsigned_abs(), number < 0)
     }
 }
 
@@ -326,7 +326,7 @@ pub(crate) fn put_number<W: TextWrite>(
         (W.written out.new) }
 {
     match form {
-        NumberForm::Digits(Radix::Decimal) => put_decimal(out, spec, n, negative),
+        NumberForm::Digits(Radix::Decimal) => put_base_ten(out, spec, n, negative),
         NumberForm::Digits(Radix::Binary) => put_binary(out, spec, n, negative),
         NumberForm::Digits(Radix::Octal) => put_octal(out, spec, n, negative),
         NumberForm::Digits(Radix::LowerHex) => put_lower_hex(out, spec, n, negative),

@@ -3,7 +3,7 @@ ghost use Rattle.std.specs.Prelude.{◌≡◌, ◌++◌, replicate};
 ghost use Rattle.interpolator_digits.specs.Characters.{zero_digit};
 ghost use Rattle.interpolator_render.specs.Numbers.{IsShortAscii, sign_text};
 ghost use Rattle.interpolator_render.specs.Padding.{IsNumberLayout, padded_number};
-ghost use Rattle.interpolator_render.specs.Written.{Puts};
+ghost use Rattle.interpolator_render.specs.Writers.{Puts};
 
 use crate::layout::{Part, fill_before, fill_char, put_parts};
 use crate::text_write::{Refusal, TextWrite};

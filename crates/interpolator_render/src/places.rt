@@ -85,7 +85,7 @@ fn copy_text(to: &mut [u8], from: &[u8])
 
 /// Writes a text over the places from `at` on.
 #[inline(always)]
-fn put_over(row: &mut [u8], at: usize, text: &[u8])
+pub(crate) fn put_over(row: &mut [u8], at: usize, text: &[u8])
     requires { at + length text.now ≤ length row.old }
     ensures { row.new ≡ take at row.old ++ text.now ++ drop (at + length text.now) row.old }
 {

@@ -2,7 +2,7 @@
 ghost use Rattle.std.specs.Prelude.{◌≡◌, ◌<◌, ◌++◌, ◌∷◌, [], false, true, codes};
 ghost use Rattle.std.specs.{List.flat_map, Str.chars};
 ghost use Rattle.interpolator_render.specs.Quoting.{escape_letter, escape_of, quotation};
-ghost use Rattle.interpolator_render.specs.{Characters.backslash, Written.Puts, Written.Writes};
+ghost use Rattle.interpolator_render.specs.{Characters.backslash, Writers.Puts, Writers.Writes};
 ghost use Rattle.interpolator_digits.specs.Digits.{digit_text};
 
 use crate::digits::digit_str;

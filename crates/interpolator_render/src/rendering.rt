@@ -8,7 +8,7 @@ ghost use Rattle.interpolator_render.specs.Numbers.{distance_from_zero, is_negat
 ghost use Rattle.interpolator_render.specs.Views.{IsInRange, shown_by, unsigned_number};
 ghost use Rattle.interpolator_render.specs.{Characters.single_quote, Quoting.quotation};
 ghost use Rattle.interpolator_render.specs.Forms.{decimal_body};
-ghost use Rattle.interpolator_render.specs.{declared.view.Trait.TheVariants.Display, Written.Puts};
+ghost use Rattle.interpolator_render.specs.{declared.view.Trait.TheVariants.Display, Writers.Puts};
 
 use crate::characters::cut;
 use crate::copies::{put_between, put_between_spaces, put_in_block};
@@ -21,7 +21,7 @@ use crate::number::{put_bare, put_bare_signed, put_integer, put_natural, put_num
 use crate::number_form::{NumberForm, number_form, sign_and_magnitude};
 use crate::places::BLOCK;
 use crate::quoting::put_quoted;
-use crate::text_write::{Refusal, TextWrite, refused};
+use crate::text_write::{Refusal, TextWrite, as_rendered};
 use crate::view::{RenderFault, Spec, Trait, View};
 
 /// Writes a text as display does: at most as many of its first characters as the precision says,
@@ -149,8 +149,8 @@ fn render_text<W: TextWrite>(
         (W.written out.old) result (W.written out.new) }
 {
     match wanted {
-        Trait::Display => refused(pad(out, text, spec)),
-        Trait::Debug => refused(put_quoted(out, quote, text)),
+        Trait::Display => as_rendered(pad(out, text, spec)),
+        Trait::Debug => as_rendered(put_quoted(out, quote, text)),
         _ => Err(RenderFault::NotImplemented),
     }
 }
@@ -184,7 +184,7 @@ fn render_truth<W: TextWrite>(
         Renders (under wanted text text) (W.written out.old) result (W.written out.new) }
 {
     match wanted {
-        Trait::Display | Trait::Debug => refused(pad(out, truth_str(truth), spec)),
+        Trait::Display | Trait::Debug => as_rendered(pad(out, truth_str(truth), spec)),
         _ => Err(RenderFault::NotImplemented),
     }
 }
@@ -203,9 +203,9 @@ fn render_decimal<W: TextWrite>(
         (W.written out.old) result (W.written out.new) }
 {
     match wanted {
-        Trait::Display | Trait::Debug => refused(put_decimal(out, spec, units, scale)),
-        Trait::LowerExp => refused(put_decimal_exponent(out, false, spec, units, scale)),
-        Trait::UpperExp => refused(put_decimal_exponent(out, true, spec, units, scale)),
+        Trait::Display | Trait::Debug => as_rendered(put_decimal(out, spec, units, scale)),
+        Trait::LowerExp => as_rendered(put_decimal_exponent(out, false, spec, units, scale)),
+        Trait::UpperExp => as_rendered(put_decimal_exponent(out, true, spec, units, scale)),
         _ => Err(RenderFault::NotImplemented),
     }
 }
@@ -255,7 +255,7 @@ pub fn render<W: TextWrite>(
             return put_integer(out, spec, number);
         }
         if let View::Decimal { units, scale } = view {
-            return refused(put_decimal(out, spec, units, scale));
+            return as_rendered(put_decimal(out, spec, units, scale));
         }
         if let View::Float(number) = view {
             return render_float(out, wanted, spec, number);
@@ -284,16 +284,16 @@ pub fn render_plainly<W: TextWrite>(out: &mut W, view: View<'_>) -> Result<(), R
         (W.written out.new) }
 {
     if let View::Text(text) = view {
-        return refused(put_text(out, text));
+        return as_rendered(put_text(out, text));
     }
     if let View::Unsigned(number) = view {
         if number <= GREATEST_U64 {
-            return refused(put_bare(out, number as u64));
+            return as_rendered(put_bare(out, number as u64));
         }
     }
     if let View::Signed(number, _) = view {
         if i64::MIN as i128 <= number && number <= i64::MAX as i128 {
-            return refused(put_bare_signed(out, number as i64));
+            return as_rendered(put_bare_signed(out, number as i64));
         }
     }
     render_unset(out, view)
@@ -359,7 +359,7 @@ fn render_any<W: TextWrite>(
         View::Float32(number) => render_f32(out, wanted, spec, number),
         View::Character(c) => render_character(out, wanted, c, spec),
         View::Text(text) => render_text(out, wanted, '"', text, spec),
-        View::Plain(text) => refused(put_text(out, text)),
+        View::Plain(text) => as_rendered(put_text(out, text)),
         View::NotImplemented => Err(RenderFault::NotImplemented),
         View::Failed => Err(RenderFault::Failed),
     }

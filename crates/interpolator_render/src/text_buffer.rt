@@ -2,8 +2,8 @@
 ghost use Rattle.std.specs.Prelude.{◌≡◌, ◌+◌, ◌<◌, ◌≤◌, ◌∷◌, [], false, length, encode_utf8};
 ghost use Rattle.std.specs.Prelude.{string_bytes, string_capacity, MatchResult, OnOk, OnErr, None};
 ghost use Rattle.std.specs.Str.{chars};
-ghost use Rattle.interpolator_render.specs.Written.{Appends, Refuses, RefusesWhole, as_writer};
-ghost use Rattle.interpolator_render.specs.Written.{byte_count, MayRefuse, plain};
+ghost use Rattle.interpolator_render.specs.Writers.{Appends, Refuses, RefusesWhole, as_writer};
+ghost use Rattle.interpolator_render.specs.Writers.{byte_count, MayRefuse, plain};
 
 use crate::places::{make_ready, put_at};
 use crate::text_write::{Refusal, TextWrite};
@@ -35,7 +35,7 @@ pub struct TextBuffer {
 impl Model for TextBuffer {
     ghost use Rattle.std.specs.Prelude.{take, vec_capacity};
     ghost use Rattle.std.specs.Str.{chars};
-    ghost use Rattle.interpolator_render.specs.Written.{Buffered, HoldsText};
+    ghost use Rattle.interpolator_render.specs.Writers.{Buffered, HoldsText};
 
     ghost Value = { Buffered };
 

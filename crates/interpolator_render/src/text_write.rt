@@ -1,9 +1,9 @@
 //! Writers of text, which may refuse what they are given.
 ghost use Rattle.std.specs.Prelude.{◌≡◌, ℕ, ◌∷◌, [], MatchOption, MatchResult, Option, None, Some};
 ghost use Rattle.std.specs.Str.{chars};
-ghost use Rattle.interpolator_render.specs.Written.{Written, AppendsWithin, StaysWithin};
+ghost use Rattle.interpolator_render.specs.Writers.{Written, AppendsWithin, StaysWithin};
 ghost use Rattle.interpolator_render.specs.Texts.{render_answer};
-ghost use Rattle.interpolator_render.specs.Written.{Refuses, RefusesWhole};
+ghost use Rattle.interpolator_render.specs.Writers.{Refuses, RefusesWhole};
 
 use crate::view::RenderFault;
 
@@ -15,7 +15,7 @@ pub struct Refusal {
 }
 
 /// A writer's answer as that of [`render`](crate::render).
-pub(crate) fn refused(answer: Result<(), Refusal>) -> Result<(), RenderFault>
+pub(crate) fn as_rendered(answer: Result<(), Refusal>) -> Result<(), RenderFault>
     ensures { result ≡ render_answer answer }
 {
     answer.map_err(|_| RenderFault::Refused)

@@ -5,7 +5,7 @@ use Rattle.std.proofs.lemmas.Str.{IsUtf8-drop}
 use Rattle.interpolator_syntax.specs.Arguments.{Argument, argument_at, from_byte}
 use Rattle.interpolator_syntax.specs.ArgumentGrammar.{IsArgument, IsNoArgument}
 use Rattle.interpolator_syntax.specs.Faults.{Fault, fault_place}
-use Rattle.interpolator_syntax.specs.{At.At, ArgumentFaults.IsArgumentFault}
+use Rattle.interpolator_syntax.specs.{Places.At, ArgumentFaults.IsArgumentFault}
 use Rattle.interpolator_syntax.proofs.CharacterLemmas.{size-chars}
 use Rattle.interpolator_syntax.proofs.GrammarArgumentLemmas.{argument_is, only_argument, broken_is}
 use Rattle.interpolator_syntax.proofs.GrammarArgumentLemmas.{only_broken}

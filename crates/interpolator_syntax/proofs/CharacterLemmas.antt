@@ -4,7 +4,7 @@ use Rattle.std.proofs.Common.{sym, chars, IsUtf8, encode_utf8_all, encode_utf8, 
 use Rattle.std.proofs.lemmas.{Str.chars_past_char, Str.chars-nil, Str.length-encode}
 use Rattle.std.proofs.lemmas.{Str.len_utf8_bounds, Str.encodes-chars, List.nil_from_length}
 use Rattle.std.specs.Char.{len_utf8}
-use Rattle.interpolator_syntax.specs.At.{size}
+use Rattle.interpolator_syntax.specs.Places.{size}
 
 pub chars_of_next : (bs rest : List ℕ) (c : ℕ) → IsUtf8 bs → bs ≡ encode_utf8 c ++ rest
     → chars bs ≡ c ∷ chars rest

@@ -22,9 +22,9 @@ no_first : (bs : List ℕ) → None ≡ slice_get bs 0 → bs ≡ []
 no_first [] e = refl
 no_first (b ∷ bs) e = absurd (cc)
 
-pub byte_told : (bs : List ℕ) (o : Option ℕ) → IsUtf8 bs → o ≡ slice_get bs 0
+pub byte_reported : (bs : List ℕ) (o : Option ℕ) → IsUtf8 bs → o ≡ slice_get bs 0
     → MatchOption o (chars bs ≡ []) (λ b. FirstByte b (chars bs))
-byte_told bs o u e = grind (arith, no_text, no_first, first_byte)
+byte_reported bs o u e = grind (arith, no_text, no_first, first_byte)
 
 no_space_at : (cs : List ℕ) (b : ℕ) → FirstByte b cs → 33 ≤ b → b ≤ 126
     → (front_of (in_class WhiteSpace) cs ≡ []) × (after_of (in_class WhiteSpace) cs ≡ cs)
@@ -37,6 +37,6 @@ pub no_space : (bs : List ℕ) (b : ℕ) → IsUtf8 bs → slice_get bs 0 ≡ So
 no_space bs b u e low high = no_space_at (chars bs) b (first_byte bs b u e) low high
 
 -- whether a text ends at once, by its bytes
-pub ends_told : (bs : List ℕ) (r : Bool) → IsUtf8 bs → r ≡ eqb (length bs) 0
+pub ends_reported : (bs : List ℕ) (r : Bool) → IsUtf8 bs → r ≡ eqb (length bs) 0
     → MatchBool r (chars bs ≡ []) (¬ (chars bs ≡ []))
-ends_told bs r u e = grind (arith, chars_of_end bs, encodes-chars bs u, e)
+ends_reported bs r u e = grind (arith, chars_of_end bs, encodes-chars bs u, e)

@@ -1,7 +1,7 @@
 -- An argument is its parts, one after the other, and the reverse.
 use Rattle.std.proofs.Common.{◌≡◌, ℕ, IsFalse, List, [], ◌∷◌, arith, refl, ◌∙◌, sym, subst, Result}
 use Rattle.std.proofs.Common.{Ok, Err, Option, inl, inr, eqb-true}
-use Rattle.interpolator_syntax.specs.At.{At, after, strip}
+use Rattle.interpolator_syntax.specs.Places.{At, after, strip}
 use Rattle.interpolator_syntax.specs.Classes.{front_of, in_class, close_brace, colon}
 use Rattle.interpolator_syntax.specs.Readers.{on, give}
 use Rattle.interpolator_syntax.specs.SpecTexts.{Request, spec_after}
@@ -46,9 +46,9 @@ name_found a name p b h = grind (arith, longest_front)
 -- ---- after the name
 
 -- what is returned after a name is there
-abbrev Told : (start : ℕ) → (b : At) → Result (Request × At) Fault → Type 0
-Told start b (Ok w) = Asks start b w.0 w.1
-Told start b (Err f) = AsksNothing start b f
+abbrev Reported : (start : ℕ) → (b : At) → Result (Request × At) Fault → Type 0
+Reported start b (Ok w) = Asks start b w.0 w.1
+Reported start b (Err f) = AsksNothing start b f
 
 -- the text ends where a name does, if neither `:` nor `}` ends the name
 name_ends :
@@ -59,30 +59,30 @@ name_ends (c ∷ cs) stops no_close no_colon =
     grind (arith, eqb-true, stops c cs refl, no_close cs, no_colon cs)
 
 module _ (start : ℕ) (b : At) where
-  asked_told :
+  asked_reported :
       ((c : ℕ) (more : List ℕ) → b.text ≡ c ∷ more → IsFalse (in_class Name c)) → (x y : Option At)
-      → Stripped close_brace b x → Stripped colon b y → Told start b (asked_by start b x y)
-  asked_told stops x y h k =
+      → Stripped close_brace b x → Stripped colon b y → Reported start b (asked_by start b x y)
+  asked_reported stops x y h k =
       grind (arith, name_ends b.text stops, (law_spec (still start)).agrees.says)
 
   after_colon : (m : At) → Lies b (colon ∷ []) m → asked_at start b ≡ spec_after start m
   after_colon m h = grind (arith, at_same)
 
-  only_told : (o : Result (Request × At) Fault) → Told start b o → asked_at start b ≡ o
-  only_told (Ok w) (inl s) = rw s.0.1 (ok_pair (sym s.1) (at_same refl (sym s.0.1) ∙ sym s.2))
-  only_told (Ok w) (inr s) =
+  only_reported : (o : Result (Request × At) Fault) → Reported start b o → asked_at start b ≡ o
+  only_reported (Ok w) (inl s) = rw s.0.1 (ok_pair (sym s.1) (at_same refl (sym s.0.1) ∙ sym s.2))
+  only_reported (Ok w) (inr s) =
       rw (after_colon s.0 s.1) ((law_spec (still start)).agrees.only s.0 w.1 w.0 s.2)
-  only_told (Err f) (inl s) = rw (s.0, s.1) refl
-  only_told (Err f) (inr s) =
+  only_reported (Err f) (inl s) = rw (s.0, s.1) refl
+  only_reported (Err f) (inr s) =
       rw (after_colon s.0 s.1) ((law_spec (still start)).agrees.only_not s.0 f s.2)
 
 -- ---- the whole argument
 
 module _ (a : At) where
-  what_is_told : Told a.place (name_end a) (asked_at a.place (name_end a))
-  what_is_told =
+  what_is_reported : Reported a.place (name_end a) (asked_at a.place (name_end a))
+  what_is_reported =
       let n = name_end a in
-      asked_told a.place n (named_is a).named.stops (strip close_brace n) (strip colon n)
+      asked_reported a.place n (named_is a).named.stops (strip close_brace n) (strip colon n)
       (stripped close_brace n) (stripped colon n)
 
   -- the result at a is an argument there, or why there is none
@@ -90,10 +90,10 @@ module _ (a : At) where
   ArgumentSays (Ok w) = IsArgument a w.0 w.1
   ArgumentSays (Err f) = IsNoArgument a f
 
-  told_says : (o : Result (Request × At) Fault) → Told a.place (name_end a) o
+  reported_says : (o : Result (Request × At) Fault) → Reported a.place (name_end a) o
       → ArgumentSays (on o (λ y. give (argument (name_read a) (name_from a).place y)))
-  told_says (Ok w) t = record { after = name_end a; named = named_is a; asks = t }
-  told_says (Err f) t = record {
+  reported_says (Ok w) t = record { after = name_end a; named = named_is a; asks = t }
+  reported_says (Err f) t = record {
     name = name_read a;
     name_place = (name_from a).place;
     after = name_end a;
@@ -104,20 +104,20 @@ module _ (a : At) where
   argument_says : ArgumentSays (argument_at a)
   argument_says =
       rw (name_found a (name_read a) (name_from a).place (name_end a) (named_is a))
-      (told_says (asked_at a.place (name_end a)) what_is_told)
+      (reported_says (asked_at a.place (name_end a)) what_is_reported)
 
 pub argument_is : (a q : At) (x : Argument) → argument_at a ≡ Ok (x, q) → IsArgument a x q
 argument_is a q x e = subst (ArgumentSays a) e (argument_says a)
 
 pub only_argument : (a q : At) (x : Argument) → IsArgument a x q → argument_at a ≡ Ok (x, q)
 only_argument a q x h =
-    let told = only_told a.place h.after (Ok (request_in x, q)) h.asks in
-    rw (name_found a x.name x.name_place h.after h.named, told) refl
+    let reported = only_reported a.place h.after (Ok (request_in x, q)) h.asks in
+    rw (name_found a x.name x.name_place h.after h.named, reported) refl
 
 pub broken_is : (a : At) (f : Fault) → argument_at a ≡ Err f → IsNoArgument a f
 broken_is a f e = subst (ArgumentSays a) e (argument_says a)
 
 pub only_broken : (a : At) (f : Fault) → IsNoArgument a f → argument_at a ≡ Err f
 only_broken a f h =
-    let told = only_told a.place h.after (Err f) h.refused in
-    rw (name_found a h.name h.name_place h.after h.named, told) refl
+    let reported = only_reported a.place h.after (Err f) h.refused in
+    rw (name_found a h.name h.name_place h.after h.named, reported) refl

@@ -10,7 +10,8 @@ use Rattle.interpolator_syntax.specs.Groups.{Group, after_hashes, here_or_later,
 use Rattle.interpolator_syntax.specs.Groups.{closed_group, bracket_first, group_at}
 use Rattle.interpolator_syntax.specs.GroupGrammar.{sign_text, open_text, close_text, NoneCloses}
 use Rattle.interpolator_syntax.specs.GroupGrammar.{IsGroup, IsNoGroup, ends, no_bracket, no_end}
-use Rattle.interpolator_syntax.specs.{At.At, At.size, At.first_of, ListGrammar.group, Faults.Fault}
+use Rattle.interpolator_syntax.specs.{Places.At, Places.size, Places.first_of, ListGrammar.group}
+use Rattle.interpolator_syntax.specs.{Faults.Fault}
 use Rattle.interpolator_syntax.specs.declared.class.Class.TheVariants.{Hash}
 use Rattle.interpolator_syntax.proofs.GrammarPartLemmas.{Says, Agrees}
 use Rattle.interpolator_syntax.proofs.LocalityLemmas.{size-append, stands}

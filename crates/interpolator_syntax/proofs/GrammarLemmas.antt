@@ -7,7 +7,8 @@ use Rattle.interpolator_syntax.specs.Pieces.{PieceKind, Piece, literal, doubled,
 use Rattle.interpolator_syntax.specs.Pieces.{unclosed, broken}
 use Rattle.interpolator_syntax.specs.Grammar.{from_place, NotFirst, Fits, Stands, StandsFirst}
 use Rattle.interpolator_syntax.specs.Grammar.{IsPieces}
-use Rattle.interpolator_syntax.specs.{At.At, At.size, Arguments.Argument, Arguments.argument_at}
+use Rattle.interpolator_syntax.specs.{Places.At, Places.size, Arguments.Argument}
+use Rattle.interpolator_syntax.specs.{Arguments.argument_at}
 use Rattle.interpolator_syntax.specs.Faults.{Fault}
 
 -- what a piece of this kind in front of this rest says about a text that begins with c at p

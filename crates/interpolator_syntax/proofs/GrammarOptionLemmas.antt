@@ -13,7 +13,7 @@ use Rattle.std.proofs.Common.{◌≡◌, ℕ, ◌+◌, Bool, cond, List, arith, 
 use Rattle.std.proofs.Common.{Some, None}
 use Rattle.std.proofs.lemmas.Bool.{cond_both}
 use Rattle.std.specs.Char.{is_ascii_digit}
-use Rattle.interpolator_syntax.specs.At.{At, first, strip}
+use Rattle.interpolator_syntax.specs.Places.{At, first, strip}
 use Rattle.interpolator_syntax.specs.Readers.{Reader, ◌>>=◌ as ◌>>>◌, run as read_run}
 use Rattle.interpolator_syntax.specs.SpecTexts.{number_or, number_at, width_at, if_point}
 use Rattle.interpolator_syntax.specs.SpecTexts.{precision_at}
@@ -62,21 +62,21 @@ module _ (read : Reader (Option ℕ)) (part : Part (Option ℕ)) (h : Agrees rea
 -- ---- numbers
 
 -- the number that a text at p spells, or the fault that it spells none
-abbrev told_or : {A : Type 0} → (NumberError → ℕ → ParseFault) → (p : ℕ) → Result A NumberError
+abbrev reported_or : {A : Type 0} → (NumberError → ℕ → ParseFault) → (p : ℕ) → Result A NumberError
     → Reader (Option A)
-told_or wrong p (Ok n) = λ a. Ok (Some n, a)
-told_or wrong p (Err kind) = λ a. Err (parse (wrong kind p))
+reported_or wrong p (Ok n) = λ a. Ok (Some n, a)
+reported_or wrong p (Err kind) = λ a. Err (parse (wrong kind p))
 
 module _
     {A : Type 0} (wrong : NumberError → ℕ → ParseFault) (read : List ℕ → Result A NumberError)
     (spelling : Spelling A) (h : Decides read spelling) where
   spelled_says :
       (p : ℕ) (cs : List ℕ) (a : At) (o : Result A NumberError) → Tells spelling cs o
-      → Says (spelling_of spelling wrong p cs) a (told_or wrong p o a)
+      → Says (spelling_of spelling wrong p cs) a (reported_or wrong p o a)
   spelled_says p cs a o e = grind arith
 
   agrees_spelled :
-      (p : ℕ) (cs : List ℕ) → Agrees (told_or wrong p (read cs)) (spelling_of spelling wrong p cs)
+      (p : ℕ) (cs : List ℕ) → Agrees (reported_or wrong p (read cs)) (spelling_of spelling wrong p cs)
   agrees_spelled p cs = record {
     says = λ a. spelled_says p cs a (read cs) (h.says cs);
     only = λ a q x t. rw (h.only cs (Ok t.0) t.1, t.2, t.3) refl;
@@ -90,15 +90,15 @@ module _
       → wrong kind (p + by) ≡ moved_parse_fault by (wrong kind p))
     where
       -- the number of what was read at a up to b, where l is the result elsewhere
-      local_told :
+      local_reported :
           (a b : At) (l : Result (Option A × At) Fault) (o : Result A NumberError) → Takes a b
-          → (IsSettled s b.text → l ≡ told_or wrong (a.place + s.by) o (elsewhere s b))
-          → IsLocal s stays a (told_or wrong a.place o b) l
-      local_told a b l o t e = grind (arith, place, moves)
+          → (IsSettled s b.text → l ≡ reported_or wrong (a.place + s.by) o (elsewhere s b))
+          → IsLocal s stays a (reported_or wrong a.place o b) l
+      local_reported a b l o t e = grind (arith, place, moves)
 
       module _
           (tell : ℕ → Result A NumberError → Reader (Option A))
-          (same : (p : ℕ) (o : Result A NumberError) (a : At) → tell p o a ≡ told_or wrong p o a)
+          (same : (p : ℕ) (o : Result A NumberError) (a : At) → tell p o a ≡ reported_or wrong p o a)
         where
           abbrev number_from : (start : ℕ) → Reader (Option A)
           number_from start =
@@ -115,7 +115,7 @@ module _
                 agrees_same (same p (read cs)) (agrees_spelled p cs)));
             reads =
                 let digits = reads_run s (in_class Number) in
-                grind (arith, digits, same, local_told);
+                grind (arith, digits, same, local_reported);
           }
 
 -- ---- widths, precisions and bounds

@@ -2,7 +2,7 @@
 use Rattle.std.proofs.Common.{◌≡◌, ℕ, ◌+◌, List, [], ◌∷◌, arith, refl, sym, subst, Result, Ok, Err}
 use Rattle.std.proofs.Common.{Option, Some, None, eqb-true}
 use Rattle.std.specs.Char.{len_utf8}
-use Rattle.interpolator_syntax.specs.At.{At, size, first, strip, after}
+use Rattle.interpolator_syntax.specs.Places.{At, size, first, strip, after}
 use Rattle.interpolator_syntax.specs.Readers.{Reader, ◌>>=◌ as ◌>>>◌, give, letter as read_letter}
 use Rattle.interpolator_syntax.specs.Readers.{flag as read_flag, run_before, run as read_run}
 use Rattle.interpolator_syntax.specs.GrammarParts.{Part, ◌>>=◌, ends, at_place, Lies, letter, flag}

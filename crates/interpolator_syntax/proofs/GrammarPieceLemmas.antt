@@ -3,7 +3,7 @@ use Rattle.std.proofs.Common.{rules, ◌≡◌, ◌≢◌, ℕ, zero, suc, ◌+�
 use Rattle.std.proofs.Common.{arith, refl, ap, sym, Result, Ok, Option, Some, None, append_assoc}
 use Rattle.std.proofs.Common.{append-nil, eqb-true}
 use Rattle.std.proofs.lemmas.Bool.{eqb-false, cond_both}
-use Rattle.interpolator_syntax.specs.At.{At, size, strip, strip_of}
+use Rattle.interpolator_syntax.specs.Places.{At, size, strip, strip_of}
 use Rattle.interpolator_syntax.specs.Pieces.{PieceKind, Step, argument_step, argument_or_broken}
 use Rattle.interpolator_syntax.specs.Pieces.{argument_from, open_step, close_step, piece_from, past}
 use Rattle.interpolator_syntax.specs.Pieces.{pieces}

@@ -11,7 +11,7 @@ use Rattle.interpolator_syntax.specs.SpecTexts.{spec_of, spec_after}
 use Rattle.interpolator_syntax.specs.GrammarParts.{◌>>=◌, letter}
 use Rattle.interpolator_syntax.specs.SpecGrammar.{from_sign, Fills, NoneFills, fill, parts}
 use Rattle.interpolator_syntax.specs.SpecGrammar.{IsUnread, spec}
-use Rattle.interpolator_syntax.specs.{At.At, Grammar.from_place, Faults.Fault, Moved.moved_kind}
+use Rattle.interpolator_syntax.specs.{Places.At, Grammar.from_place, Faults.Fault, Moved.moved_kind}
 use Rattle.interpolator_syntax.proofs.GrammarOptionLemmas.{law_width, law_precision}
 use Rattle.interpolator_syntax.proofs.GrammarPartLemmas.{ok_pair, Says, Agrees, agrees_then}
 use Rattle.interpolator_syntax.proofs.GrammarPartLemmas.{lies_here}

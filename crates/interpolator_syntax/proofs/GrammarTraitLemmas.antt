@@ -11,7 +11,7 @@ use Rattle.interpolator_syntax.specs.SpecTexts.{Wanted, trait_alone, hexadecimal
 use Rattle.interpolator_syntax.specs.SpecTexts.{letter_trait, trait_from, trait_first, trait_at}
 use Rattle.interpolator_syntax.specs.SpecGrammar.{trait_text, MayEnd, AsksDisplay, trait_part}
 use Rattle.interpolator_syntax.specs.Faults.{Fault, parse, expected}
-use Rattle.interpolator_syntax.specs.{At.At, At.strip, Grammar.from_place, Grammar.NotFirst}
+use Rattle.interpolator_syntax.specs.{Places.At, Places.strip, Grammar.from_place, Grammar.NotFirst}
 use Rattle.interpolator_syntax.specs.GrammarParts.{Lies}
 use Rattle.interpolator_syntax.proofs.GrammarPartLemmas.{ok_pair, Says, Agrees, lies_here, lies_end}
 use Rattle.interpolator_syntax.proofs.GrammarPartLemmas.{lies_cons, Stripped, stripped, strip_not}

@@ -5,7 +5,7 @@ use Rattle.std.proofs.Common.{length-append, eqb-true, chars, IsUtf8}
 use Rattle.std.proofs.lemmas.List.{append_cancel_right}
 use Rattle.std.proofs.lemmas.Str.{encodes-chars, encodes-append, IsUtf8-take, chars-append}
 use Rattle.std.specs.Char.{len_utf8}
-use Rattle.interpolator_syntax.specs.At.{At, size, strip_of, after}
+use Rattle.interpolator_syntax.specs.Places.{At, size, strip_of, after}
 use Rattle.interpolator_syntax.specs.Classes.{front_of, after_of, in_class, hash, close_bracket}
 use Rattle.interpolator_syntax.specs.Groups.{Reached, ReachesNext, after_front, after_hashes}
 use Rattle.interpolator_syntax.specs.Groups.{close_from, here_or_later, next_close}

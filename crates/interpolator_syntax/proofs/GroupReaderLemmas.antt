@@ -4,7 +4,7 @@ use Rattle.std.proofs.Common.{Some, append_assoc, Option, append-nil}
 use Rattle.interpolator_syntax.specs.Groups.{close_from, closed_group, bracket_first, bracket_at}
 use Rattle.interpolator_syntax.specs.Groups.{group_at}
 use Rattle.interpolator_syntax.specs.GroupGrammar.{sign_text, close_text, NoneCloses}
-use Rattle.interpolator_syntax.specs.{At.At, Classes.open_bracket, Classes.close_bracket}
+use Rattle.interpolator_syntax.specs.{Places.At, Classes.open_bracket, Classes.close_bracket}
 use Rattle.interpolator_syntax.specs.{Moved.moved_group, declared.class.Class.TheVariants.Hash}
 use Rattle.interpolator_syntax.proofs.GrammarGroupLemmas.{IsClose, Closes, close_says, only_close}
 use Rattle.interpolator_syntax.proofs.GrammarGroupLemmas.{only_no_close, close_size}

@@ -14,7 +14,7 @@ use Rattle.interpolator_syntax.specs.SpecGrammar.{kind, from_sign, fill, parts, 
 use Rattle.interpolator_syntax.specs.SpecGrammar.{trait_text, IsSpec}
 use Rattle.interpolator_syntax.specs.SpecTexts.{Kind, of_value, of_list, Request, Wanted}
 use Rattle.interpolator_syntax.specs.SpecTexts.{alignment_letter, sign_letter}
-use Rattle.interpolator_syntax.specs.{At.At, Arguments.Argument, Arguments.argument_at}
+use Rattle.interpolator_syntax.specs.{Places.At, Arguments.Argument, Arguments.argument_at}
 use Rattle.interpolator_syntax.specs.{ArgumentGrammar.Asks, ArgumentGrammar.request_in}
 use Rattle.interpolator_syntax.specs.{Groups.Group, GroupGrammar.IsGroup, ListGrammar.group_there}
 use Rattle.interpolator_syntax.specs.{ListGrammar.IsList, Lists.ListRequest, Readers.Reader}

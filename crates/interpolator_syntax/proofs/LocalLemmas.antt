@@ -3,7 +3,7 @@
 use Rattle.std.proofs.Common.{◌≡◌, ℕ, ◌+◌, ◌≤◌, Bool, cond, List, [], ◌∷◌, ◌++◌, arith, refl, ◌∙◌}
 use Rattle.std.proofs.Common.{Result, Ok, Err, Option, Some, None, inl, inr, ◌⊎◌, eqb-true}
 use Rattle.std.specs.Char.{len_utf8}
-use Rattle.interpolator_syntax.specs.At.{At, size, first, first_of, strip_of}
+use Rattle.interpolator_syntax.specs.Places.{At, size, first, first_of, strip_of}
 use Rattle.interpolator_syntax.specs.Readers.{Reader, on, ◌>>=◌}
 use Rattle.interpolator_syntax.specs.Faults.{Fault, fault_place}
 use Rattle.interpolator_syntax.specs.{ArgumentFaults.IsArgumentFault, Moved.moved_fault}

@@ -2,7 +2,7 @@
 use Rattle.std.proofs.Common.{◌≡◌, ℕ, ◌+◌, ◌≤◌, Bool, List, [], ◌∷◌, ◌++◌, length, arith, refl, ap}
 use Rattle.std.proofs.Common.{sym, subst, inr, ◌⊎◌, append_assoc, length-append}
 use Rattle.std.specs.Char.{len_utf8}
-use Rattle.interpolator_syntax.specs.{At.At, At.size, At.after, Classes.close_brace}
+use Rattle.interpolator_syntax.specs.{Places.At, Places.size, Places.after, Classes.close_brace}
 use Rattle.interpolator_syntax.proofs.FrontLemmas.{front_after}
 
 -- ---- what is taken

@@ -4,7 +4,7 @@ use Rattle.std.proofs.Common.{◌∙◌}
 use Rattle.std.specs.Char.{len_utf8}
 use Rattle.interpolator_syntax.specs.Pieces.{Step, argument_from, piece_from, past, pieces_within}
 use Rattle.interpolator_syntax.specs.Pieces.{pieces}
-use Rattle.interpolator_syntax.specs.{At.At, Moved.moved_at, Moved.moved_piece}
+use Rattle.interpolator_syntax.specs.{Places.At, Moved.moved_at, Moved.moved_piece}
 use Rattle.interpolator_syntax.proofs.{LongestLemmas.at_same, LocalLemmas.step_moved}
 use Rattle.interpolator_syntax.proofs.ReaderLemmas.{moves_argument}
 

@@ -5,10 +5,10 @@ use Rattle.interpolator_syntax.specs.Pieces.{PieceKind, closed, unclosed, broken
 use Rattle.interpolator_syntax.specs.Tokens.{Token, first_token, past_token, argument}
 use Rattle.interpolator_syntax.specs.Nodes.{Node, argument_node, nodes, piece_node, token_node}
 use Rattle.interpolator_syntax.specs.Nodes.{leading_nodes, nodes_within}
-use Rattle.interpolator_syntax.specs.{At.At, Arguments.Argument, Faults.Fault, SpecTexts.Kind}
+use Rattle.interpolator_syntax.specs.{Places.At, Arguments.Argument, Faults.Fault, SpecTexts.Kind}
 use Rattle.interpolator_syntax.proofs.TokenLemmas.{token_shorter, scan_shorter}
 use Rattle.interpolator_syntax.proofs.SizeLemmas.{KindIn, argument_in}
-use Rattle.interpolator_syntax.specs.declared.piece_kind.PieceKind as told
+use Rattle.interpolator_syntax.specs.declared.piece_kind.PieceKind as reported
 
 -- ---- induction by length
 
@@ -40,7 +40,7 @@ argument_kind P b h = grind (arith, argument_in)
 
 module _ (a : At) (run other : At → List Node)
     (same : (b : At) → length b.text < length a.text → run b ≡ other b) where
-  argument_same : (b : At) (p end : ℕ) (kind : told.PieceKind) (start : ℕ) (x : Argument) (q : ℕ)
+  argument_same : (b : At) (p end : ℕ) (kind : reported.PieceKind) (start : ℕ) (x : Argument) (q : ℕ)
       → length b.text < length a.text → (k : Kind) → x.kind ≡ k → KindIn k b
       → argument_node run p end kind start x q ≡ argument_node other p end kind start x q
   argument_same b p end kind start x q l k e h = grind arith

@@ -2,7 +2,7 @@
 use Rattle.std.proofs.Common.{◌≡◌, ℕ, zero, suc, ◌≤◌, Bool, false, List, [], ◌∷◌, length, arith, ap}
 use Rattle.std.proofs.Common.{refl, Ok, Some, ◌+◌, eqb-true, Result, Err, ◌++◌, ◌∙◌, append_assoc}
 use Rattle.std.proofs.lemmas.List.{append_cancel_right}
-use Rattle.interpolator_syntax.specs.At.{At, at, strip, strip_of}
+use Rattle.interpolator_syntax.specs.Places.{At, at, strip, strip_of}
 use Rattle.interpolator_syntax.specs.Classes.{after_of, open_brace, close_brace, is_brace}
 use Rattle.interpolator_syntax.specs.Arguments.{Argument, argument_at, argument_after}
 use Rattle.interpolator_syntax.specs.Arguments.{plain_argument}

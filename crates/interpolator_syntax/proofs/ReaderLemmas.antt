@@ -2,7 +2,7 @@
 -- elsewhere.
 use Rattle.std.proofs.Common.{◌≡◌, ℕ, ◌+◌, ◌≤◌, List, [], arith, refl, Result, Ok, Err, None}
 use Rattle.std.proofs.Common.{append-nil}
-use Rattle.interpolator_syntax.specs.At.{At, size, strip}
+use Rattle.interpolator_syntax.specs.Places.{At, size, strip}
 use Rattle.interpolator_syntax.specs.Classes.{close_brace, colon}
 use Rattle.interpolator_syntax.specs.Readers.{Reader, ◌>>=◌, give, here, span}
 use Rattle.interpolator_syntax.specs.Arguments.{Argument, argument, asked_by, asked_at}

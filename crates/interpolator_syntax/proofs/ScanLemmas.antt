@@ -2,7 +2,7 @@
 use Rattle.std.proofs.Common.{◌≡◌, ℕ, ◌+◌, Bool, List, [], ◌∷◌, ◌++◌, arith, refl, subst, Option}
 use Rattle.std.proofs.Common.{Some, None, eqb-true}
 use Rattle.std.specs.Char.{len_utf8}
-use Rattle.interpolator_syntax.specs.At.{At, size}
+use Rattle.interpolator_syntax.specs.Places.{At, size}
 use Rattle.interpolator_syntax.specs.Classes.{front_of, after_of, in_class, is_brace, open_brace}
 use Rattle.interpolator_syntax.specs.Classes.{close_brace}
 use Rattle.interpolator_syntax.specs.PieceGrammar.{literal_pieces, token_pieces}

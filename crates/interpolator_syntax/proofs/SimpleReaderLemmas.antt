@@ -6,7 +6,7 @@ use Rattle.interpolator_syntax.specs.Readers.{Reader, ◌>>=◌ as ◌>>>◌, gi
 use Rattle.interpolator_syntax.specs.Readers.{read_or_stay, letter_first, was_there}
 use Rattle.interpolator_syntax.specs.Readers.{letter as read_letter, flag as read_flag, run}
 use Rattle.interpolator_syntax.specs.GrammarParts.{Part, ◌>>=◌, ends, letter, flag}
-use Rattle.interpolator_syntax.specs.{At.At, At.after, Classes.front_of, Classes.after_of}
+use Rattle.interpolator_syntax.specs.{Places.At, Places.after, Classes.front_of, Classes.after_of}
 use Rattle.interpolator_syntax.specs.declared.class.Class.{Class}
 use Rattle.interpolator_syntax.proofs.GrammarPartLemmas.{ok_pair, Agrees, agrees_then, agrees_ends}
 use Rattle.interpolator_syntax.proofs.GrammarPartLemmas.{agrees_same, agrees_letter, agrees_flag}

@@ -5,7 +5,8 @@ use Rattle.std.specs.Prelude.{⊤}
 use Rattle.interpolator_syntax.specs.SpecTexts.{Kind, of_value, of_list}
 use Rattle.interpolator_syntax.specs.Pieces.{Piece, PieceKind, closed, unclosed, pieces, broken}
 use Rattle.interpolator_syntax.specs.Grammar.{Fits, Stands, IsPieces}
-use Rattle.interpolator_syntax.specs.{At.At, At.size, Classes.close_brace, Classes.open_brace}
+use Rattle.interpolator_syntax.specs.{Places.At, Places.size, Classes.close_brace}
+use Rattle.interpolator_syntax.specs.{Classes.open_brace}
 use Rattle.interpolator_syntax.specs.{Groups.Group, GroupGrammar.open_text, GroupGrammar.close_text}
 use Rattle.interpolator_syntax.specs.{Lists.ListRequest, Arguments.Argument, Arguments.argument_at}
 use Rattle.interpolator_syntax.specs.Faults.{fault_place}

@@ -3,7 +3,7 @@ use Rattle.std.proofs.Common.{◌≡◌, ℕ, ◌+◌, Bool, true, false, List, 
 use Rattle.std.proofs.Common.{flat_map, ◌&&◌, arith, refl, ap, sym, Option, Some, None, ◌<◌}
 use Rattle.std.specs.Char.{len_utf8}
 use Rattle.std.proofs.lemmas.List.{map-append}
-use Rattle.interpolator_syntax.specs.At.{At, size}
+use Rattle.interpolator_syntax.specs.Places.{At, size}
 use Rattle.interpolator_syntax.specs.PieceGrammar.{literal_pieces, token_pieces}
 use Rattle.interpolator_syntax.specs.Classes.{front_of, after_of, in_class}
 use Rattle.interpolator_syntax.specs.Pieces.{Piece, pieces, argument_from}

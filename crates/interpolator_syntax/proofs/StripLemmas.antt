@@ -3,7 +3,7 @@ use Rattle.std.proofs.Common.{◌≡◌, ℕ, ◌+◌, ◌<◌, List, [], ◌∷
 use Rattle.std.proofs.Common.{chars, IsUtf8, IsCharBoundary, encode_utf8_all, slice_get, eqb-true}
 use Rattle.std.proofs.lemmas.Str.{chars_past_char, chars-nil, encodes-chars, encode_ascii}
 use Rattle.std.proofs.lemmas.Str.{len_utf8_ascii, IsCharBoundary-after_ascii}
-use Rattle.interpolator_syntax.specs.At.{At, strip, strip_of, after}
+use Rattle.interpolator_syntax.specs.Places.{At, strip, strip_of, after}
 use Rattle.interpolator_syntax.specs.Classes.{front_of, in_class, open_brace, close_brace}
 use Rattle.interpolator_syntax.specs.Tokens.{literals, first_token}
 use Rattle.interpolator_syntax.specs.{declared.class.Class.TheVariants.Literal, Grammar.NotFirst}

@@ -1,6 +1,6 @@
 -- The text after a token is shorter than the text.
 use Rattle.std.proofs.Common.{◌≡◌, ℕ, ◌<◌, List, length, arith, Some}
-use Rattle.interpolator_syntax.specs.{At.At, Classes.in_class, Tokens.Token, Tokens.first_token}
+use Rattle.interpolator_syntax.specs.{Places.At, Classes.in_class, Tokens.Token, Tokens.first_token}
 use Rattle.interpolator_syntax.specs.{Tokens.past_token, declared.class.Class.TheVariants.Literal}
 use Rattle.interpolator_syntax.proofs.LocalityLemmas.{stands}
 use Rattle.interpolator_syntax.proofs.PieceLemmas.{after_shorter, argument_from_within}

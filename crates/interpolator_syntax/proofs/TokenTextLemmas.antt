@@ -2,7 +2,7 @@
 use Rattle.std.proofs.Common.{◌≡◌, ℕ, ◌+◌, List, [], ◌∷◌, ◌++◌, arith, refl, sym, subst, Option}
 use Rattle.std.proofs.Common.{Some, None, Result, Ok, Err, append-nil}
 use Rattle.std.specs.Char.{len_utf8}
-use Rattle.interpolator_syntax.specs.At.{At, size, strip, all_after}
+use Rattle.interpolator_syntax.specs.Places.{At, size, strip, all_after}
 use Rattle.interpolator_syntax.specs.Classes.{in_class, open_brace, close_brace}
 use Rattle.interpolator_syntax.specs.Arguments.{Argument, argument_at}
 use Rattle.interpolator_syntax.specs.Pieces.{argument_from, argument_or_broken, argument_step}

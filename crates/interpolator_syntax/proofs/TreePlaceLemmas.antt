@@ -9,7 +9,7 @@ use Rattle.interpolator_syntax.specs.Nodes.{item_branch, join_branch, piece_node
 use Rattle.interpolator_syntax.specs.Pieces.{argument_from, argument_or_broken, argument_step}
 use Rattle.interpolator_syntax.specs.Tokens.{Token, argument, first_token, past_token}
 use Rattle.interpolator_syntax.specs.{ArgumentFaults.IsArgumentFault, Arguments.Argument}
-use Rattle.interpolator_syntax.specs.{Arguments.argument_at, At.At, At.size, Faults.Fault}
+use Rattle.interpolator_syntax.specs.{Arguments.argument_at, Places.At, Places.size, Faults.Fault}
 use Rattle.interpolator_syntax.specs.{Faults.fault_place, Groups.Group, Groups.inside}
 use Rattle.interpolator_syntax.specs.SpecTexts.{Kind}
 use Rattle.interpolator_syntax.proofs.ArgumentFaultLemmas.{fault_of_argument}

@@ -2,7 +2,8 @@
 use Rattle.std.specs.Prelude.{◌≡◌, ◌⊎◌, ℕ, ◌+◌, List, [], ◌∷◌, ◌++◌}
 use Rattle.interpolator_syntax.specs.Classes.{close_brace, colon, in_class}
 use Rattle.interpolator_syntax.specs.Faults.{Fault, parse, unclosed}
-use Rattle.interpolator_syntax.specs.{At.At, At.size, SpecTexts.Request, SpecTexts.plain_display}
+use Rattle.interpolator_syntax.specs.{Places.At, Places.size, SpecTexts.Request}
+use Rattle.interpolator_syntax.specs.{SpecTexts.plain_display}
 use Rattle.interpolator_syntax.specs.{Arguments.Argument, Grammar.IsLongest, GrammarParts.IsFirst}
 use Rattle.interpolator_syntax.specs.{GrammarParts.Lies, SpecGrammar.IsSpec, SpecGrammar.IsNoSpec}
 use Rattle.interpolator_syntax.specs.declared.class.Class.TheVariants.{WhiteSpace}

@@ -3,7 +3,7 @@ use Rattle.std.specs.Prelude.{◌≡◌, ℕ, List, drop, Option, None, Some, op
 use Rattle.std.specs.Str.{chars}
 use Rattle.interpolator_render.specs.{declared.view.Spec.Spec, declared.view.Trait.Trait}
 use Rattle.interpolator_render.specs.declared.view.Trait.TheVariants as traits
-use Rattle.interpolator_syntax.specs.At.{At, at, strip}
+use Rattle.interpolator_syntax.specs.Places.{At, at, strip}
 use Rattle.interpolator_syntax.specs.Classes.{close_brace, colon}
 use Rattle.interpolator_syntax.specs.Readers.{Reader, ◌>>=◌, give, here, span}
 use Rattle.interpolator_syntax.specs.SpecTexts.{Kind, of_value, of_list, Request, plain_display}
@@ -123,10 +123,10 @@ with_end (Ok w) = Ok (w.0, w.1.place)
 with_end (Err f) = Err f
 
 -- what a caller gets for an argument; memory never runs out
-abbrev pub argument_told : Result (code_argument.Argument × ℕ) Error
+abbrev pub argument_reported : Result (code_argument.Argument × ℕ) Error
     → Result (Argument × ℕ) Answer
-argument_told (Ok w) = Ok (argument_of w.0, w.1)
-argument_told (Err error) = Err (answer_of error)
+argument_reported (Ok w) = Ok (argument_of w.0, w.1)
+argument_reported (Err error) = Err (answer_of error)
 
 -- a fault as an answer
 abbrev pub answering : Result (Argument × ℕ) Fault → Result (Argument × ℕ) Answer

@@ -4,7 +4,8 @@ use Rattle.std.specs.Prelude.{◌++◌, Ok, Err}
 use Rattle.interpolator_syntax.specs.Classes.{open_brace, close_brace, is_brace}
 use Rattle.interpolator_syntax.specs.Pieces.{PieceKind, Piece, literal, doubled, lone_close, closed}
 use Rattle.interpolator_syntax.specs.Pieces.{unclosed, broken}
-use Rattle.interpolator_syntax.specs.{At.At, At.size, Arguments.Argument, Arguments.argument_at}
+use Rattle.interpolator_syntax.specs.{Places.At, Places.size, Arguments.Argument}
+use Rattle.interpolator_syntax.specs.{Arguments.argument_at}
 use Rattle.interpolator_syntax.specs.Faults.{Fault}
 
 -- how early a kind is tried, the earliest first

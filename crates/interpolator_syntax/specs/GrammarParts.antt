@@ -5,7 +5,7 @@ use Rattle.std.specs.Prelude.{◌∷◌, ◌++◌, Option, Some, None}
 use Rattle.interpolator_syntax.specs.Faults.{Fault, ParseFault, parse, unclosed}
 use Rattle.interpolator_syntax.specs.declared.{error.NumberError.NumberError, class.Class.Class}
 use Rattle.interpolator_syntax.specs.declared.class.Class.TheVariants.{Number}
-use Rattle.interpolator_syntax.specs.{At.At, At.size, Classes.in_class, Grammar.NotFirst}
+use Rattle.interpolator_syntax.specs.{Places.At, Places.size, Classes.in_class, Grammar.NotFirst}
 use Rattle.interpolator_syntax.specs.{Grammar.IsLongest, NumberGrammar.Spelling}
 
 -- `is a x q`: x is at a, and after it the text at q; `is_not a f`: none is at a, and f is the fault

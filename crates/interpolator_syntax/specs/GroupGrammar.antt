@@ -2,7 +2,7 @@
 use Rattle.std.specs.Prelude.{◌≡◌, ◌≢◌, ℕ, zero, suc, ◌+◌, List, [], ◌∷◌, ◌++◌, codes}
 use Rattle.interpolator_syntax.specs.Classes.{hash, open_bracket, close_bracket}
 use Rattle.interpolator_syntax.specs.Faults.{Fault, parse, unclosed, expected}
-use Rattle.interpolator_syntax.specs.{At.At, At.size, Groups.Group}
+use Rattle.interpolator_syntax.specs.{Places.At, Places.size, Groups.Group}
 
 -- k signs `#`
 abbrev pub sign_text : ℕ → List ℕ

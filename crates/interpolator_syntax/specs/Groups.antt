@@ -2,7 +2,7 @@
 use Rattle.std.specs.Prelude.{◌≡◌, ℕ, zero, suc, ◌+◌, ◌++◌, ◌==◌, ◌||◌, if◌then◌else◌, List, []}
 use Rattle.std.specs.Prelude.{◌∷◌, length, Option, Some, None, option_map, Result, Ok, Err, codes}
 use Rattle.std.specs.{Char.len_utf8, Str.chars, Borrow.Bor}
-use Rattle.interpolator_syntax.specs.At.{At, at, first, strip, after}
+use Rattle.interpolator_syntax.specs.Places.{At, at, first, strip, after}
 use Rattle.interpolator_syntax.specs.Classes.{in_class, hash, open_bracket, close_bracket}
 use Rattle.interpolator_syntax.specs.Readers.{Reader, ◌>>=◌, give, span}
 use Rattle.interpolator_syntax.specs.Faults.{Fault, parse, unclosed, expected, argument_fault_of}

@@ -1,5 +1,5 @@
 -- The definitions that the contracts use.
-pub mod At
+pub mod Places
 pub mod Classes
 pub mod Readers
 pub mod Numbers

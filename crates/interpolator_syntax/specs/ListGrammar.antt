@@ -6,7 +6,7 @@ use Rattle.interpolator_syntax.specs.GrammarParts.{Part, ◌>>=◌, ends, Lies, 
 use Rattle.interpolator_syntax.specs.GroupGrammar.{IsGroup, IsNoGroup}
 use Rattle.interpolator_syntax.specs.Faults.{Fault, range_bound}
 use Rattle.interpolator_syntax.specs.declared.{class.Class.TheVariants.Number, range.Range.Range}
-use Rattle.interpolator_syntax.specs.{At.At, Ranges.range_of, Groups.Group, Lists.ListRequest}
+use Rattle.interpolator_syntax.specs.{Places.At, Ranges.range_of, Groups.Group, Lists.ListRequest}
 use Rattle.interpolator_syntax.specs.{NumberGrammar.integers, Grammar.NotFirst}
 
 -- a bound, if there is a digit or a `-`

@@ -7,7 +7,8 @@ use Rattle.interpolator_syntax.specs.Faults.{ParseFault, unclosed as unclosed_fa
 use Rattle.interpolator_syntax.specs.Faults.{invalid_width, invalid_precision, fill, iter}
 use Rattle.interpolator_syntax.specs.Faults.{range_bound, Fault, missing_trait_impl, fmt, parse}
 use Rattle.interpolator_syntax.specs.Faults.{missing_value, unsupported_option}
-use Rattle.interpolator_syntax.specs.{At.At, Groups.Group, Lists.ListRequest, Arguments.Argument}
+use Rattle.interpolator_syntax.specs.{Places.At, Groups.Group, Lists.ListRequest}
+use Rattle.interpolator_syntax.specs.{Arguments.Argument}
 
 module _ (by : ℕ) where
   -- the text at a place that is `by` bytes further on

@@ -7,9 +7,10 @@ use Rattle.interpolator_syntax.specs.Pieces.{unclosed, broken, argument_from}
 use Rattle.interpolator_syntax.specs.SpecTexts.{Kind, of_value, of_list}
 use Rattle.interpolator_syntax.specs.Tokens.{Token, literals, argument, first_token, past_token}
 use Rattle.interpolator_syntax.specs.Tokens.{doubled as doubled_token, lone_close as lone_token}
-use Rattle.interpolator_syntax.specs.{At.At, Arguments.Argument, Classes.close_brace, Faults.Fault}
+use Rattle.interpolator_syntax.specs.{Places.At, Arguments.Argument, Classes.close_brace}
+use Rattle.interpolator_syntax.specs.{Faults.Fault}
 use Rattle.interpolator_syntax.specs.{Groups.Group, Groups.inside, declared.range.Range.Range}
-use Rattle.interpolator_syntax.specs.declared.piece_kind.PieceKind as told
+use Rattle.interpolator_syntax.specs.declared.piece_kind.PieceKind as reported
 use Rattle.interpolator_syntax.specs.declared.piece_kind.PieceKind.TheVariants.{Literal, Doubled}
 use Rattle.interpolator_syntax.specs.declared.piece_kind.PieceKind.TheVariants.{LoneClose, Closed}
 use Rattle.interpolator_syntax.specs.declared.piece_kind.PieceKind.TheVariants.{Unclosed, Broken}
@@ -37,7 +38,7 @@ mutual
   -- if `content` is None, what is stored for it belongs to no text
   pub data Node : Type 0 where
     node :
-        (place end : ℕ) (kind : told.PieceKind) (content : Option Content) (item join : Branch)
+        (place end : ℕ) (kind : reported.PieceKind) (content : Option Content) (item join : Branch)
         → Node
 
   -- the pieces of a group, if there is one
@@ -61,7 +62,7 @@ as_branch None = no_branch
 as_branch (Some xs) = branch (as_forest xs)
 
 -- a piece that writes the characters cs, the first of which is at its first byte
-abbrev pub text_node : (p end : ℕ) → told.PieceKind → List ℕ → Node
+abbrev pub text_node : (p end : ℕ) → reported.PieceKind → List ℕ → Node
 text_node p end kind cs = node p end kind (Some (text_content p cs)) no_branch no_branch
 
 -- `run` returns the pieces of a text within this one
@@ -81,7 +82,7 @@ module _ (run : At → List Node) where
   join_branch (of_list l) = group_branch l.join
 
   -- an argument that begins at `start` and whose spec ends at `q`
-  abbrev pub argument_node : (p end : ℕ) → told.PieceKind → (start : ℕ) → Argument → (q : ℕ) → Node
+  abbrev pub argument_node : (p end : ℕ) → reported.PieceKind → (start : ℕ) → Argument → (q : ℕ) → Node
   argument_node p end kind start x q =
       node p end kind (Some (argument_content start x.name x.spec (target_of x.kind) q))
       (item_branch x.kind) (join_branch x.kind)

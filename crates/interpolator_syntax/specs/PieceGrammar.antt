@@ -7,7 +7,7 @@ use Rattle.interpolator_syntax.specs.Grammar.{from_place, NotFirst}
 use Rattle.interpolator_syntax.specs.Pieces.{Piece, literal, doubled, lone_close, argument_from}
 use Rattle.interpolator_syntax.specs.Tokens.{Token, literals, argument, doubled as doubled_token}
 use Rattle.interpolator_syntax.specs.Tokens.{lone_close as lone_token}
-use Rattle.interpolator_syntax.specs.{At.At, Arguments.Argument, Faults.Fault}
+use Rattle.interpolator_syntax.specs.{Places.At, Arguments.Argument, Faults.Fault}
 
 -- from a brace at p to its closing brace: an argument follows the former, and ends in front of the
 -- latter

@@ -1,7 +1,8 @@
 -- How a range of list indices is read.
 use Rattle.std.specs.Prelude.{ℕ, ℤ, Bool, true, if◌then◌else◌, Option, None, Some, Result, Ok, Err}
 use Rattle.interpolator_syntax.specs.Readers.{Reader, ◌>>=◌, give, flag, run}
-use Rattle.interpolator_syntax.specs.{At.At, At.first, At.strip, Classes.in_class, Classes.point}
+use Rattle.interpolator_syntax.specs.{Places.At, Places.first, Places.strip, Classes.in_class}
+use Rattle.interpolator_syntax.specs.{Classes.point}
 use Rattle.interpolator_syntax.specs.{Classes.equals, Numbers.integer, Faults.Fault, Faults.parse}
 use Rattle.interpolator_syntax.specs.{Faults.range_bound, declared.error.NumberError.NumberError}
 use Rattle.interpolator_syntax.specs.declared.class.Class.TheVariants.{Number}

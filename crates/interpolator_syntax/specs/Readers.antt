@@ -1,7 +1,7 @@
 -- Readers of a text, one after the other: each returns what it read, or why it could not.
 use Rattle.std.specs.Prelude.{ℕ, Bool, true, false, List, [], ◌∷◌, Option, None, Some, Result, Ok}
 use Rattle.std.specs.Prelude.{Err}
-use Rattle.interpolator_syntax.specs.At.{At, first, after, strip}
+use Rattle.interpolator_syntax.specs.Places.{At, first, after, strip}
 use Rattle.interpolator_syntax.specs.{Classes.front_of, Classes.in_class, Faults.Fault}
 use Rattle.interpolator_syntax.specs.{Faults.parse, Faults.unclosed, declared.class.Class.Class}
 

@@ -12,12 +12,13 @@ use Rattle.interpolator_render.specs.declared.view.HexDebug.TheVariants as hex_d
 use Rattle.interpolator_syntax.specs.Classes.{is_alignment, hash, zero_digit, point, open_brace}
 use Rattle.interpolator_syntax.specs.Classes.{close_brace, question_mark, lower_p}
 use Rattle.interpolator_syntax.specs.SpecTexts.{Kind, of_value, of_list, Request, plain_display}
+use Rattle.interpolator_syntax.specs.SpecTexts.{request_with}
 use Rattle.interpolator_syntax.specs.SpecTexts.{Wanted, trait_alone, alignment_letter, sign_letter}
 use Rattle.interpolator_syntax.specs.GrammarParts.{Part, ◌>>=◌, ends, IsFirst, Lies, letter, flag}
 use Rattle.interpolator_syntax.specs.GrammarParts.{FirstPasses, where_first, where_after, number}
 use Rattle.interpolator_syntax.specs.Faults.{Fault, parse, unclosed, expected, fill as no_fill}
 use Rattle.interpolator_syntax.specs.Faults.{invalid_width, invalid_precision, unsupported_option}
-use Rattle.interpolator_syntax.specs.{At.At, NumberGrammar.naturals, Grammar.NotFirst}
+use Rattle.interpolator_syntax.specs.{Places.At, NumberGrammar.naturals, Grammar.NotFirst}
 use Rattle.interpolator_syntax.specs.ListGrammar.{list}
 
 -- a number, if there is a digit
@@ -87,19 +88,7 @@ from_sign start fill alignment =
       precision ← precision start
       trait_part ← trait_part start (alternate || zero)
       kind ← kind start trait_part.slot
-      ends (record {
-        spec = record {
-          fill = fill;
-          alignment = alignment;
-          sign = sign;
-          alternate = alternate;
-          zero = zero;
-          width = width;
-          precision = precision;
-          hex_debug = trait_part.hex_debug;
-        };
-        kind = kind;
-      })
+      ends (request_with fill alignment sign alternate zero width precision trait_part kind)
 
 -- the character c is at a, and an alignment follows it at q
 abbrev pub Fills : (c : ℕ) → (a q : At) → Type 0

@@ -7,7 +7,7 @@ use Rattle.interpolator_render.specs.declared.view.Sign.TheVariants as signs
 use Rattle.interpolator_render.specs.declared.view.Spec.{Spec}
 use Rattle.interpolator_syntax.specs.Readers.{Reader, ◌>>=◌, give}
 use Rattle.interpolator_syntax.specs.SpecTexts.{Request, trait_at, kind_at}
-use Rattle.interpolator_syntax.specs.{At.At, At.at, Classes.zero_digit, Faults.Fault}
+use Rattle.interpolator_syntax.specs.{Places.At, Places.at, Classes.zero_digit, Faults.Fault}
 use Rattle.interpolator_syntax.specs.Faults.{argument_fault_of}
 use Rattle.interpolator_syntax.specs.declared.argument_fault.ArgumentFault.{ArgumentFault}
 use Rattle.interpolator_syntax.specs.declared.cursor.Cursor.{Cursor}

@@ -19,7 +19,8 @@ use Rattle.interpolator_syntax.specs.Readers.{Reader, ◌>>=◌, give, letter, f
 use Rattle.interpolator_syntax.specs.Faults.{Fault, parse, unclosed, expected, fill as no_fill}
 use Rattle.interpolator_syntax.specs.Faults.{invalid_width, invalid_precision, unsupported_option}
 use Rattle.interpolator_syntax.specs.Faults.{ParseFault}
-use Rattle.interpolator_syntax.specs.{At.At, At.first, At.strip, Lists.ListRequest, Lists.list_at}
+use Rattle.interpolator_syntax.specs.{Places.At, Places.first, Places.strip, Lists.ListRequest}
+use Rattle.interpolator_syntax.specs.{Lists.list_at}
 use Rattle.interpolator_syntax.specs.{Numbers.natural, declared.error.NumberError.NumberError}
 use Rattle.interpolator_syntax.specs.declared.class.Class.TheVariants.{Number}
 
@@ -156,6 +157,23 @@ abbrev pub kind_at : (start : ℕ) → Trait → Reader Kind
 kind_at start traits.Iter = list_kind_at start
 kind_at start t = give (of_value t)
 
+-- the request of these parts
+abbrev pub request_with : (fill : Option ℕ) → Alignment → Sign → (alternate zero : Bool)
+    → (width precision : Option ℕ) → Wanted → Kind → Request
+request_with fill alignment sign alternate zero width precision shown kind = record {
+  spec = record {
+    fill = fill;
+    alignment = alignment;
+    sign = sign;
+    alternate = alternate;
+    zero = zero;
+    width = width;
+    precision = precision;
+    hex_debug = shown.hex_debug;
+  };
+  kind = kind;
+}
+
 -- sign, `#`, `0`, width, precision and trait, each if it is there; and, after the letter of a list,
 -- the form of that list
 unfoldable pub spec_from_sign : (start : ℕ) → (fill : Option ℕ) → Alignment → Reader Request
@@ -168,19 +186,7 @@ spec_from_sign start fill alignment =
       precision ← precision_at start
       shown ← trait_at start (alternate || zero)
       kind ← kind_at start shown.slot
-      give (record {
-        spec = record {
-          fill = fill;
-          alignment = alignment;
-          sign = sign;
-          alternate = alternate;
-          zero = zero;
-          width = width;
-          precision = precision;
-          hex_debug = shown.hex_debug;
-        };
-        kind = kind;
-      })
+      give (request_with fill alignment sign alternate zero width precision shown kind)
 
 -- an alignment, if there is one, and then from the sign on
 abbrev pub spec_from_alignment : (start : ℕ) → (fill : Option ℕ) → Reader Request

@@ -7,7 +7,7 @@ use Rattle.interpolator_syntax.specs.Nodes.{Node, node, text_content, text_node,
 use Rattle.interpolator_syntax.specs.Nodes.{Branch, no_branch, branch, Forest, no_nodes, nodes_and}
 use Rattle.interpolator_syntax.specs.declared.piece_kind.PieceKind.TheVariants.{Literal, Closed}
 use Rattle.interpolator_syntax.specs.declared.piece_kind.PieceKind.TheVariants.{Unclosed}
-use Rattle.interpolator_syntax.specs.{At.At, At.size, Pieces.Piece, Pieces.pieces}
+use Rattle.interpolator_syntax.specs.{Places.At, Places.size, Pieces.Piece, Pieces.pieces}
 use Rattle.interpolator_syntax.specs.declared.piece_kind.PieceKind.{PieceKind}
 
 -- a piece as a node: that of an argument has the trees of its groups under it

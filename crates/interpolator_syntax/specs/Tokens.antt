@@ -2,7 +2,7 @@
 -- or the beginning of an argument.
 use Rattle.std.specs.Prelude.{ℕ, ◌+◌, ◌^◌, ◌<◌, ⊤, List, [], ◌∷◌, length, Option, Some, None}
 use Rattle.std.specs.Str.{chars}
-use Rattle.interpolator_syntax.specs.At.{At, at, strip, after}
+use Rattle.interpolator_syntax.specs.Places.{At, at, strip, after}
 use Rattle.interpolator_syntax.specs.Classes.{front_of, in_class, open_brace, close_brace}
 use Rattle.interpolator_syntax.specs.Pieces.{argument_from}
 use Rattle.interpolator_syntax.specs.declared.class.Class.TheVariants.{Literal}

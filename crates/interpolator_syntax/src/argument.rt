@@ -1,12 +1,12 @@
 //! Arguments in braces.
 ghost use Rattle.std.specs.Prelude.{◌≡◌, ◌+◌, option_map, None, IfOk};
 ghost use Rattle.std.specs.Str.{IsCharBoundary, chars};
-ghost use Rattle.interpolator_syntax.specs.At.{at, after, size, strip};
+ghost use Rattle.interpolator_syntax.specs.Places.{at, after, size, strip};
 ghost use Rattle.interpolator_syntax.specs.Classes.{in_class, front_of, close_brace};
 ghost use Rattle.interpolator_syntax.specs.declared.class.Class.TheVariants.{WhiteSpace, Name};
 ghost use Rattle.interpolator_syntax.specs.Arguments.{argument_at, argument_after, plain_argument};
 ghost use Rattle.interpolator_syntax.specs.Arguments.{IsPlain, asked_at, asked_read, taken_read};
-ghost use Rattle.interpolator_syntax.specs.Arguments.{kind_of, kind_of_request, argument_told};
+ghost use Rattle.interpolator_syntax.specs.Arguments.{kind_of, kind_of_request, argument_reported};
 ghost use Rattle.interpolator_syntax.specs.Arguments.{answering, with_end, from_byte};
 ghost use Rattle.interpolator_syntax.specs.Arguments.{argument_of, named_argument, request_of};
 
@@ -238,7 +238,7 @@ pub fn argument_of<'a>(taken: &TakenArgument<'a>) -> Argument<'a>
 /// ```
 pub fn parse_argument(text: &str, start: usize) -> Result<(Argument<'_>, usize), Error>
     requires boundary { IsCharBoundary text.now start }
-    ensures read { argument_told result
+    ensures read { argument_reported result
         ≡ answering (with_end (argument_at (from_byte text.now start))) }
 {
     let (_, rest) = text.split_at(start);

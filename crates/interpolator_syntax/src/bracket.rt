@@ -1,7 +1,7 @@
 //! Texts in round brackets, which may be guarded by signs `#`.
 ghost use Rattle.std.specs.Prelude.{◌≡◌, ◌≤◌, ◌++◌, length, List, ℕ, option_map, IfSome};
 ghost use Rattle.std.specs.Str.{chars};
-ghost use Rattle.interpolator_syntax.specs.At.{at, after};
+ghost use Rattle.interpolator_syntax.specs.Places.{at, after};
 ghost use Rattle.interpolator_syntax.specs.Classes.{in_class, front_of};
 ghost use Rattle.interpolator_syntax.specs.Groups.{after_hashes, close_from, next_close, group_at};
 ghost use Rattle.interpolator_syntax.specs.Groups.{group_if, text_read, group_read, group_if_read};

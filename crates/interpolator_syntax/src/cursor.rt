@@ -14,7 +14,7 @@ pub struct Cursor<'a> {
 }
 
 impl<'a> Cursor<'a> {
-    ghost use Rattle.interpolator_syntax.specs.At.{at, first, strip, after};
+    ghost use Rattle.interpolator_syntax.specs.Places.{at, first, strip, after};
     ghost use Rattle.interpolator_syntax.specs.Readers.{letter, flag};
     ghost use Rattle.interpolator_syntax.specs.SpecReads.{FirstByte, digit_letter, part_read};
     ghost use Rattle.interpolator_syntax.specs.Classes.{in_class, front_of};

@@ -1,6 +1,6 @@
 //! How a list is written: the part of a spec after the letter `i`.
 ghost use Rattle.std.specs.Prelude.{◌≡◌};
-ghost use Rattle.interpolator_syntax.specs.{At.at, Arguments.list_read, Lists.list_at};
+ghost use Rattle.interpolator_syntax.specs.{Places.at, Arguments.list_read, Lists.list_at};
 
 use crate::argument_fault::ArgumentFault;
 use crate::bracket::take_group_if;

@@ -2,7 +2,8 @@
 ghost use Rattle.std.specs.Prelude.{◌≡◌, ◌+◌, ◌*◌, ◌^◌, ◌<◌, ◌≤◌, IfOk, MatchOption};
 ghost use Rattle.interpolator_syntax.specs.Numbers.{digits_after, digits_or, natural, negation};
 ghost use Rattle.interpolator_syntax.specs.Numbers.{integer};
-ghost use Rattle.interpolator_syntax.specs.{At.at, At.after, Classes.in_class, Classes.front_of};
+ghost use Rattle.interpolator_syntax.specs.{Places.at, Places.after, Classes.in_class};
+ghost use Rattle.interpolator_syntax.specs.{Classes.front_of};
 ghost use Rattle.interpolator_syntax.specs.declared.class.Class.TheVariants.{Number};
 
 use crate::class::Class;

@@ -1,7 +1,8 @@
 //! Ranges of list indices.
 ghost use Rattle.std.specs.Prelude.{◌≡◌};
 ghost use Rattle.interpolator_syntax.specs.Ranges.{bound_if, points, range_at};
-ghost use Rattle.interpolator_syntax.specs.{At.at, SpecReads.part_read, SpecReads.part_or_broken};
+ghost use Rattle.interpolator_syntax.specs.{Places.at, SpecReads.part_read};
+ghost use Rattle.interpolator_syntax.specs.{SpecReads.part_or_broken};
 
 use crate::argument_fault::ArgumentFault;
 use crate::cursor::Cursor;

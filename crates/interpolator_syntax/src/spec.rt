@@ -1,6 +1,6 @@
 //! The spec after the colon of an argument, up to and including the letter of a list.
 ghost use Rattle.std.specs.Prelude.{◌≡◌, ◌<◌, ℕ, Err, Ok, None, Some, false};
-ghost use Rattle.interpolator_syntax.specs.At.{At, at, first, strip};
+ghost use Rattle.interpolator_syntax.specs.Places.{At, at, first, strip};
 ghost use Rattle.interpolator_syntax.specs.SpecTexts.{alignment_letter, sign_letter, width_at};
 ghost use Rattle.interpolator_syntax.specs.SpecTexts.{no_trait, precision_at, trait_letter};
 ghost use Rattle.interpolator_syntax.specs.SpecTexts.{hexadecimal, plain_spec, spec_from_sign};

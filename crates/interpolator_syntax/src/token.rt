@@ -1,6 +1,6 @@
 //! The next piece of a format text.
 ghost use Rattle.std.specs.Prelude.{◌≡◌, IfSome, option_map};
-ghost use Rattle.interpolator_syntax.specs.At.{at};
+ghost use Rattle.interpolator_syntax.specs.Places.{at};
 ghost use Rattle.interpolator_syntax.specs.Tokens.{first_token, token_read, RunFits};
 
 use crate::class::Class;

@@ -1,6 +1,6 @@
 //! A writer that counts its calls.
 
-ghost use Rattle.interpolator_render.specs.Written.{as_writer};
+ghost use Rattle.interpolator_render.specs.Writers.{as_writer};
 
 use crate::report::Report;
 use interpolator_render::{Refusal, TextBuffer, TextWrite};

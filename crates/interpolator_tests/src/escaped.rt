@@ -264,7 +264,7 @@ fn maps(report: &mut Report) {
 }
 
 /// What `{}` writes for an error of one call.
-fn told(report: &mut Report, row: &Values<'_>) -> Result<(), Error> {
+fn reported(report: &mut Report, row: &Values<'_>) -> Result<(), Error> {
     for (format, wanted) in [
         ("<p id={a}>", "at 6: this value is out of place"),
         (
@@ -298,6 +298,6 @@ pub fn run(report: &mut Report) -> Result<(), Error> {
     lines_and_records(report, &row)?;
     faults(report, &row)?;
     maps(report);
-    told(report, &row)?;
+    reported(report, &row)?;
     misplaced(report, &row)
 }

@@ -40,8 +40,8 @@ fn arguments_at_places(report: &mut Report) -> Result<(), Error> {
 
 /// Checks that the fault of a text is shown in this way.
 fn check_shown(report: &mut Report, text: &str, error: &Error, wanted: &str) {
-    let told = explain(report.alloc, "f", text, error);
-    report.made(text, (wanted, ""), told);
+    let reported = explain(report.alloc, "f", text, error);
+    report.made(text, (wanted, ""), reported);
 }
 
 /// Texts, their faults, and how these are shown. Worked by hand: `é` has two bytes, and in its text
@@ -75,11 +75,11 @@ fn line_of_a_file(report: &mut Report) {
         format: "Hello {name, you",
     };
     let error = Error::Parse(ParseError::FormatSpecUnclosed(7));
-    let told = explain_in(report.alloc, &source, &error);
+    let reported = explain_in(report.alloc, &source, &error);
     let wanted = "messages.txt:13:19: error while parsing input: Format spec at 7 is nether closed \
                   with a `}` (byte 7 of the format)\n   |\n13 | greeting = Hello {name, you\n   \
                   |                  ~^~~~~~~~~";
-    report.made("a line of a file", (wanted, ""), told);
+    report.made("a line of a file", (wanted, ""), reported);
 }
 
 /// Of 132 characters the first 71 are left out: 60 are shown before the one at the place.
@@ -112,7 +112,7 @@ const NAMES: [(&str, &[&str], &str); 10] = [
     ("name", &[], ""),
 ];
 
-fn names_are_told(report: &mut Report) -> Result<(), Error> {
+fn names_are_reported(report: &mut Report) -> Result<(), Error> {
     let alloc = report.alloc;
     let source = Source {
         name: "f",
@@ -126,11 +126,11 @@ fn names_are_told(report: &mut Report) -> Result<(), Error> {
         let wanted = format!(in alloc;
             "f:1:2: specified value not in context `{missing}` at 1\n  |\n1 | {{q}}\n  | ~^~{line}"
         )?;
-        let told = explain_with_names(alloc, &source, &error, names);
-        report.made(missing, (wanted.as_str(), ""), told);
+        let reported = explain_with_names(alloc, &source, &error, names);
+        report.made(missing, (wanted.as_str(), ""), reported);
     }
-    let told = explain_with_names(alloc, &source, &Error::NoMemory, &["name"]);
-    report.made("no name is missing", ("f: out of memory", ""), told);
+    let reported = explain_with_names(alloc, &source, &Error::NoMemory, &["name"]);
+    report.made("no name is missing", ("f: out of memory", ""), reported);
     Ok(())
 }
 
@@ -142,6 +142,6 @@ pub fn run(report: &mut Report) -> Result<(), Error> {
         check_shown(report, text, &error, wanted);
     }
     line_of_a_file(report);
-    names_are_told(report)?;
+    names_are_reported(report)?;
     long_line(report)
 }

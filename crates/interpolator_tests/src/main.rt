@@ -63,19 +63,19 @@ fn run_asked(report: &mut Report, is_all: bool) -> Result<(), Error> {
 }
 
 /// Whether everything was run; prints the report.
-fn told(rt: &HostRuntime) -> io::Result<bool> {
+fn reported(rt: &HostRuntime) -> io::Result<bool> {
     let is_all = env::args(rt)?.len() < 2;
     let Ok(mut report) = Report::new(rt.alloc()) else {
         return Ok(false);
     };
     let answer = run_asked(&mut report, is_all);
     report.done(answer);
-    rt.print(report.told.as_str())?;
+    rt.print(report.reported.as_str())?;
     Ok(!report.wants_memory)
 }
 
 fn main(rt: HostRuntime) -> ExitCode {
-    match told(&rt) {
+    match reported(&rt) {
         Ok(true) => ExitCode::SUCCESS,
         _ => ExitCode::from(3),
     }

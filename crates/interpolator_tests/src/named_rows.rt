@@ -79,7 +79,7 @@ fn other_calls(report: &mut Report, line: &Prepared) -> Result<(), Error> {
 }
 
 /// Checks the message of a fault as an I/O error.
-fn is_told(report: &mut Report, fault: Error, wanted: &str) -> Result<(), Error> {
+fn is_reported(report: &mut Report, fault: Error, wanted: &str) -> Result<(), Error> {
     let error = io::Error::from(fault);
     let message = format!(in report.alloc; "{error}")?;
     report.text("an I/O error", wanted, message.as_str());
@@ -90,13 +90,13 @@ fn is_told(report: &mut Report, fault: Error, wanted: &str) -> Result<(), Error>
 fn faults_as_io_errors(report: &mut Report) -> Result<(), Error> {
     let alloc = report.alloc;
     let fault = Error::MissingValue(String::from_str(alloc, "nàme")?, 3);
-    is_told(report, fault, "specified value not in context `nàme` at 3")?;
+    is_reported(report, fault, "specified value not in context `nàme` at 3")?;
     let long = "1234567890".repeat(alloc, 6)?;
     let cut = "specified value not in context `123456789012345678901234567890123456789012345...";
-    is_told(report, Error::MissingValue(long, 3), cut)?;
+    is_reported(report, Error::MissingValue(long, 3), cut)?;
     let wide = "é".repeat(alloc, 30)?;
     let cut = "specified value not in context `éééééééééééééééééééééé...";
-    is_told(report, Error::MissingValue(wide, 3), cut)
+    is_reported(report, Error::MissingValue(wide, 3), cut)
 }
 
 pub fn run(report: &mut Report) -> Result<(), Error> {

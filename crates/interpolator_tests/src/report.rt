@@ -12,7 +12,7 @@ const ROOM: usize = 4_000;
 pub struct Report {
     pub alloc: Global,
     /// How many checks each group has, and those that fail.
-    pub told: String,
+    pub reported: String,
     /// Whether memory for the report was refused.
     pub wants_memory: bool,
     /// The present group, and how many of its checks were made and failed.
@@ -25,7 +25,7 @@ impl Report {
     pub fn new(alloc: Global) -> Result<Report, AllocError> {
         Ok(Report {
             alloc,
-            told: String::with_capacity(alloc, ROOM)?,
+            reported: String::with_capacity(alloc, ROOM)?,
             wants_memory: false,
             group: "",
             checks: 0,
@@ -39,7 +39,7 @@ impl Report {
             self.wants_memory = true;
             return;
         };
-        if self.told.push_str(line.as_str()).is_err() {
+        if self.reported.push_str(line.as_str()).is_err() {
             self.wants_memory = true;
         }
     }

@@ -4,7 +4,7 @@ use Rattle.std.proofs.Common.{ap, arith, append-nil, append_assoc, length-append
 use Rattle.std.proofs.lemmas.Str.{chars-append, chars-nil, IsUtf8-append, IsUtf8-encode, IsUtf8-nil}
 use Rattle.std.proofs.lemmas.Str.{IsUtf8-past_char, chars_past_char}
 use Rattle.std.specs.{Prelude.encode_utf8, Str.chars, Str.IsUtf8}
-use Rattle.interpolator_render.specs.Written.{Written, Appends, Refuses}
+use Rattle.interpolator_render.specs.Writers.{Written, Appends, Refuses}
 use Rattle.interpolator_render.proofs.{CharacterLemmas.scalar_first, WrittenLemmas.chars-encode}
 use Rattle.interpolator_render.proofs.LayoutLemmas.{byte_count-chars}
 

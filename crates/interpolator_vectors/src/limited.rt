@@ -18,7 +18,7 @@ pub struct Limited {
 impl Model for Limited {
     ghost use Rattle.std.specs.Prelude.{string_bytes};
     ghost use Rattle.std.specs.Str.{chars};
-    ghost use Rattle.interpolator_render.specs.Written.{Written, plain};
+    ghost use Rattle.interpolator_render.specs.Writers.{Written, plain};
 
     ghost Value = { Written };
 

@@ -49,10 +49,10 @@ fn report_on(alloc: Global, file: &str, text: &str) -> Result<(String, bool), Al
         return Err(AllocError);
     }
     let (rows, runs, failed) = (report.rows, report.runs, report.failed);
-    let mut told = report.told;
+    let mut reported = report.reported;
     let counts = format!(in alloc; "{file}: {rows} rows, {runs} runs, {failed} fail\n")?;
-    told.push_str(counts.as_str())?;
-    Ok((told, is_read && failed == 0))
+    reported.push_str(counts.as_str())?;
+    Ok((reported, is_read && failed == 0))
 }
 
 /// Runs the rows of a file, and prints the report on them.
@@ -62,8 +62,8 @@ fn run_file(rt: &HostRuntime, file: &str) -> io::Result<bool> {
         return Ok(false);
     };
     match report_on(rt.alloc(), file, text.as_str()) {
-        Ok((told, holds)) => {
-            rt.print(told.as_str())?;
+        Ok((reported, holds)) => {
+            rt.print(reported.as_str())?;
             Ok(holds)
         }
         Err(_) => {

@@ -38,7 +38,7 @@ pub struct Report<'a> {
     /// The name of the file.
     file: &'a str,
     /// The report on those that fail.
-    pub told: String,
+    pub reported: String,
     /// Whether memory for the report was refused.
     pub wants_memory: bool,
     pub rows: usize,
@@ -56,7 +56,7 @@ impl<'a> Report<'a> {
         Report {
             alloc,
             file,
-            told: String::new(alloc),
+            reported: String::new(alloc),
             wants_memory: false,
             rows: 0,
             runs: 0,
@@ -72,7 +72,7 @@ impl<'a> Report<'a> {
             self.wants_memory = true;
             return;
         };
-        if self.told.push_str(text.as_str()).is_err() {
+        if self.reported.push_str(text.as_str()).is_err() {
             self.wants_memory = true;
         }
     }
@@ -80,8 +80,8 @@ impl<'a> Report<'a> {
     /// Reports something about a line.
     pub fn tell(&mut self, line: usize, what: &str) {
         let file = self.file;
-        let told = format!(in self.alloc; "{file}:{line}: {what}\n");
-        self.say(told);
+        let reported = format!(in self.alloc; "{file}:{line}: {what}\n");
+        self.say(reported);
     }
 
     /// Begins a row: the next runs belong to it.
@@ -108,10 +108,10 @@ impl<'a> Report<'a> {
         self.failed = self.failed.saturating_add(1);
         let file = self.file;
         let line = self.line;
-        let told = format!(in self.alloc;
+        let reported = format!(in self.alloc;
             "{file}:{line}: by `{way}`, {part:?}\n  wanted {wanted:?}\n  came   {came:?}\n"
         );
-        self.say(told);
+        self.say(reported);
     }
 
     /// Counts a run of the row as it is, by a call that has to return what is wanted.

@@ -43,12 +43,12 @@ knows_more seen more names one value updates knows = λ name.
 
 -- after some columns, the faults of one more and those of the names after it
 pub repeats_next : {X : Type 0} (name_of : X → List ℕ) (columns : List X) (n : ℕ) (column : X)
-    (told all : List LineFault) → n < length columns
-    → told ++ repeats_after (map name_of (take n columns)) (map name_of (drop n columns)) ≡ all
-    → (told ++ with_line 1 (repeat_trouble (map name_of (take n columns))
+    (reported all : List LineFault) → n < length columns
+    → reported ++ repeats_after (map name_of (take n columns)) (map name_of (drop n columns)) ≡ all
+    → (reported ++ with_line 1 (repeat_trouble (map name_of (take n columns))
     (name_of (get_or columns n column)))) ++ repeats_after (map name_of (take (n + 1) columns))
     (map name_of (drop (n + 1) columns)) ≡ all
-repeats_next name_of columns n column told all within so_far =
+repeats_next name_of columns n column reported all within so_far =
     rw (map_more name_of columns n column within, append_assoc)
     (rw (drop_more columns n column within) at so_far)
 

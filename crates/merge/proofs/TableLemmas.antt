@@ -4,7 +4,7 @@ use Rattle.std.proofs.Common.{append-nil, append_assoc, sym, inl, inr, Option, N
 use Rattle.std.proofs.Common.{Ok, Err}
 use Rattle.std.specs.Option.{option_map}
 use Rattle.merge.specs.Letters.{IsLetter, MergesFrom, PutsIf, WritesEntry, WritesRows}
-use Rattle.merge.specs.Table.{AreFaults, AreFaultsBy, HasTrouble, IsToldOf, IsTrouble, Joins}
+use Rattle.merge.specs.Table.{AreFaults, AreFaultsBy, HasTrouble, IsReportedOf, IsTrouble, Joins}
 use Rattle.merge.specs.Table.{broken, repeats, with_line}
 use Rattle.merge.specs.declared.{columns.Kind.Kind, templates.Letters.Letters}
 use Rattle.merge.specs.declared.{table.LineFault.LineFault, table.Trouble.Trouble}
@@ -68,13 +68,13 @@ pub rows_more : (letters : Letters) (names : List (List ℕ)) (kinds : List Kind
     → WritesRows letters names kinds writes (rows ++ (row ∷ [])) old new_text new
 rows_more letters names kinds writes rows row found new old text new_text so_far one = record {
   faults = (
-    so_far.faults.0 ++ one.told,
-    join_more (IsToldOf kinds) rows row so_far.faults.0 one.told so_far.faults.1 one.is,
-    one.found ∙ (ap (λ l. l ++ one.told) so_far.faults.2
-        ∙ append_assoc (repeats names) so_far.faults.0 one.told),
+    so_far.faults.0 ++ one.reported,
+    join_more (IsReportedOf kinds) rows row so_far.faults.0 one.reported so_far.faults.1 one.is,
+    one.found ∙ (ap (λ l. l ++ one.reported) so_far.faults.2
+        ∙ append_assoc (repeats names) so_far.faults.0 one.reported),
   );
   puts = λ on none.
-      let both = split_nil found one.told (sym one.found ∙ none) in
+      let both = split_nil found one.reported (sym one.found ∙ none) in
       let first = so_far.puts on both.0 in
       let letter = one.puts on none in (
         first.0 ++ letter.0,
@@ -94,21 +94,21 @@ module _ (letters : Letters) (kinds : List Kind) (asked : Bool) (old new : List 
       → (asked ≡ false → writes ≡ false)
       → WritesEntry letters kinds asked (Ok (line, fields)) old new text new_text
   record_written true line fields None has puts found on off = record {
-    told = [];
+    reported = [];
     is = (None, has, refl);
     found = found;
     puts = λ _ _. (puts.0, (has, puts.1), puts.2);
     keeps = λ no. let both = off no in absurd (cc);
   }
   record_written false line fields None has puts found on off = record {
-    told = [];
+    reported = [];
     is = (None, has, refl);
     found = found;
     puts = λ yes none. let no = on yes (split_nil old [] (sym found ∙ none)).0 in absurd (cc);
     keeps = λ _. puts;
   }
   record_written writes line fields (Some trouble) has puts found on off = record {
-    told = with_line line (Some trouble);
+    reported = with_line line (Some trouble);
     is = (Some trouble, has, refl);
     found = found;
     puts = λ _ none. let no = (split_nil old _ (sym found ∙ none)).1 in absurd (cc);
@@ -119,7 +119,7 @@ module _ (letters : Letters) (kinds : List Kind) (asked : Bool) (old new : List 
   pub fault_written : (fault : BrokenAt) → new ≡ old ++ broken fault → new_text ≡ text
       → WritesEntry letters kinds asked (Err fault) old new text new_text
   fault_written fault found same = record {
-    told = broken fault;
+    reported = broken fault;
     is = refl;
     found = found;
     puts = λ _ none. let no = (split_nil old _ (sym found ∙ none)).1 in absurd (cc);
@@ -143,17 +143,17 @@ trouble_once ks fs (Some trouble) a b p q = p ∙ sym q
 trouble_once ks fs None a b p q =
     p.2 ∙ (ap (option_map NotNumber) (misfit_once 1 ks fs p.0 q.0 p.1 q.1) ∙ sym q.2)
 
-told_once : (ks : List Kind) (row : Entry) (a b : List LineFault) → IsToldOf ks row a
-    → IsToldOf ks row b → a ≡ b
-told_once ks (Ok (line, fields)) a b p q =
+reported_once : (ks : List Kind) (row : Entry) (a b : List LineFault) → IsReportedOf ks row a
+    → IsReportedOf ks row b → a ≡ b
+reported_once ks (Ok (line, fields)) a b p q =
     p.2 ∙ (ap (with_line line) (trouble_once ks fields _ p.0 q.0 p.1 q.1) ∙ sym q.2)
-told_once ks (Err fault) a b p q = p ∙ sym q
+reported_once ks (Err fault) a b p q = p ∙ sym q
 
 rows_once : (ks : List Kind) (rows : List Entry) (a b : List LineFault) → AreFaults ks rows a
     → AreFaults ks rows b → a ≡ b
 rows_once ks [] a b p q = p ∙ sym q
 rows_once ks (row ∷ rows) a b (part, rest, is, more, all) (other, others, has, so, whole) =
-    rw (all, whole, told_once ks row part other is has, rows_once ks rows rest others more so) refl
+    rw (all, whole, reported_once ks row part other is has, rows_once ks rows rest others more so) refl
 
 pub faults_once : (names : List (List ℕ)) (ks : List Kind) (rows : List Entry)
     (a b : List LineFault) → AreFaultsBy names ks rows a → AreFaultsBy names ks rows b → a ≡ b
@@ -178,8 +178,8 @@ settled separator letters names kinds partial from rows old mid new once are cle
   h.5 ∙ ap (λ l. l ++ h.3) same,
 )
 settled separator letters names kinds partial from rows old mid new once are clean same
-    (Err (why.Table told)) (others, have, faults, some, kept) =
-    absurd (some (faults_once names kinds rows told.items []
+    (Err (why.Table reported)) (others, have, faults, some, kept) =
+    absurd (some (faults_once names kinds rows reported.items []
     (rw (once others rows have are) at faults) clean))
 settled separator letters names kinds partial from rows old mid new once are clean same
     (Err why.Stopped) h = tt

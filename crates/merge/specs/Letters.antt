@@ -6,7 +6,8 @@ use Rattle.std.specs.{Borrow.Bor, Str.chars}
 use Rattle.interpolator.specs.Faults.{Fault as Wrong, answer_of, fault as as_answer}
 use Rattle.interpolator.specs.Prepared.Rows.{PreparedFormat, found_by_row, pair_names, row_at}
 use Rattle.interpolator.specs.Meaning.{Environments.environment, Meanings.Meaning, Meanings.means}
-use Rattle.interpolator.specs.{At.outermost, At.text_of, Contexts.found_by_pairs, Slots.slots_of}
+use Rattle.interpolator.specs.{Places.outermost, Places.text_of, Contexts.found_by_pairs}
+use Rattle.interpolator.specs.{Slots.slots_of}
 use Rattle.interpolator.specs.{Template.NodeSamples.faults_over, Views.Shown, Views.shown_as_value}
 use Rattle.interpolator_escapes.specs.{Fields.record_shows, Formats.escaped_shows, Placing.EndsFor}
 use Rattle.interpolator_escapes.specs.{Placing.FailsFor, RecordFormats.after_record}
@@ -17,7 +18,7 @@ use Rattle.interpolator_escapes.specs.declared.misplaced.PlaceError.{PlaceError}
 use Rattle.interpolator_escapes.specs.declared.misplaced.PlaceError.TheVariants as places
 use Rattle.interpolator.specs.{declared.Error.Error, declared.Formattable.Formattable}
 use Rattle.interpolator.specs.{declared.Spec.Spec, declared.Trait.Trait, declared.View.View}
-use Rattle.merge.specs.Table.{AreFaultsBy, HasNoHeader, HasTrouble, IsToldOf, Joins, kinds_of}
+use Rattle.merge.specs.Table.{AreFaultsBy, HasNoHeader, HasTrouble, IsReportedOf, Joins, kinds_of}
 use Rattle.merge.specs.Table.{names_of}
 use Rattle.merge.specs.Values.{AreShown, as_value, example_slots, is_empty_at}
 use Rattle.merge.specs.{Columns.column_named, declared.columns.Kind.Kind}
@@ -251,7 +252,7 @@ Spoils templates names kinds (why.Unfit unfit) =
     IsMisplaced templates.escape templates.letter.now unfit
 Spoils templates names kinds (why.OtherUnfit unfit) =
     IsMisplaced templates.escape templates.other.now unfit
-Spoils templates names kinds (why.Table told) = ⊥
+Spoils templates names kinds (why.Table reported) = ⊥
 Spoils templates names kinds why.Stopped = ⊤
 
 -- templates were prepared, and have no fault with the sample; or they were not
@@ -281,9 +282,9 @@ PutsIf letters kinds true fields old new None = (letter : List ℕ)
 -- found, its letter to a text
 pub record WritesEntry (letters : Letters) (kinds : List Kind) (writes : Bool) (entry : Entry)
     (old new : List LineFault) (text new_text : List ℕ) : Type 0 where
-  pub told : List LineFault
-  pub is : IsToldOf kinds entry told
-  pub found : new ≡ old ++ told
+  pub reported : List LineFault
+  pub is : IsReportedOf kinds entry reported
+  pub found : new ≡ old ++ reported
   pub puts : writes ≡ true → new ≡ []
       → (letter : List ℕ) × IsLetter letters kinds entry letter × (new_text ≡ text ++ letter)
   pub keeps : writes ≡ false → new_text ≡ text
@@ -314,9 +315,9 @@ abbrev pub MergesFrom : Separator → Letters → (names : List (List ℕ)) → 
 MergesFrom separator letters names kinds partial from old new (Ok _) = (rows : List Entry)
     × AreEntries separator rows from × AreFaultsBy names kinds rows []
     × (text : List ℕ) × AreLetters letters kinds rows text × (new ≡ old ++ text)
-MergesFrom separator letters names kinds partial from old new (Err (why.Table told)) =
-    (rows : List Entry) × AreEntries separator rows from × AreFaultsBy names kinds rows told.items
-    × (told.items ≢ []) × (partial ≡ false → new ≡ old)
+MergesFrom separator letters names kinds partial from old new (Err (why.Table reported)) =
+    (rows : List Entry) × AreEntries separator rows from × AreFaultsBy names kinds rows reported.items
+    × (reported.items ≢ []) × (partial ≡ false → new ≡ old)
 MergesFrom separator letters names kinds partial from old new (Err why.Stopped) = ⊤
 MergesFrom separator letters names kinds partial from old new (Err _) = ⊥
 
@@ -333,7 +334,7 @@ MergesAfter separator templates header partial after old new result =
 
 -- a table has no header, for these faults, or memory ran out
 abbrev pub LacksHeader : Separator → (start : At) → Fault → Type 0
-LacksHeader separator start (why.Table told) = HasNoHeader separator start told.items
+LacksHeader separator start (why.Table reported) = HasNoHeader separator start reported.items
 LacksHeader separator start why.Stopped = ⊤
 LacksHeader separator start _ = ⊥
 
@@ -347,6 +348,6 @@ Merges separator templates table partial old new result = (start : At) × Starts
 
 -- a fault is that of these lines, or memory ran out
 abbrev pub IsOneFault : Fault → List LineFault → Type 0
-IsOneFault (why.Table faults) told = faults.items ≡ told
-IsOneFault why.Stopped told = ⊤
-IsOneFault _ told = ⊥
+IsOneFault (why.Table faults) reported = faults.items ≡ reported
+IsOneFault why.Stopped reported = ⊤
+IsOneFault _ reported = ⊥

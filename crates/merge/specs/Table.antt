@@ -59,14 +59,14 @@ Joins {A} Part (row ∷ more) whole = (part : List A) × (rest : List A)
     × Part row part × Joins Part more rest × (whole ≡ part ++ rest)
 
 -- what is told of a record, or of a fault
-abbrev pub IsToldOf : List Kind → Entry → List LineFault → Type 0
-IsToldOf kinds (Ok (line, fields)) told =
-    (trouble : Option Trouble) × HasTrouble kinds fields trouble × (told ≡ with_line line trouble)
-IsToldOf kinds (Err fault) told = told ≡ broken fault
+abbrev pub IsReportedOf : List Kind → Entry → List LineFault → Type 0
+IsReportedOf kinds (Ok (line, fields)) reported =
+    (trouble : Option Trouble) × HasTrouble kinds fields trouble × (reported ≡ with_line line trouble)
+IsReportedOf kinds (Err fault) reported = reported ≡ broken fault
 
 -- these are the faults of all that comes after the header
 abbrev pub AreFaults : List Kind → (rows : List Entry) → List LineFault → Type 0
-AreFaults kinds rows told = Joins (IsToldOf kinds) rows told
+AreFaults kinds rows reported = Joins (IsReportedOf kinds) rows reported
 
 -- a name is among others
 abbrev pub is_among : List (List ℕ) → List ℕ → Bool
@@ -91,11 +91,11 @@ repeats names = repeats_after [] names
 -- these are the faults of a table with columns of these names, and these rows
 abbrev pub AreFaultsBy : (names : List (List ℕ)) → List Kind → (rows : List Entry)
     → List LineFault → Type 0
-AreFaultsBy names kinds rows told =
-    (others : List LineFault) × AreFaults kinds rows others × (told ≡ repeats names ++ others)
+AreFaultsBy names kinds rows reported =
+    (others : List LineFault) × AreFaults kinds rows others × (reported ≡ repeats names ++ others)
 
 -- a table has no header: it is empty, or goes on with no record
 abbrev pub HasNoHeader : Separator → (start : At) → List LineFault → Type 0
-HasNoHeader separator start told = ((start.text ≡ []) × (told ≡ with_line 1 (Some troubles.Empty)))
+HasNoHeader separator start reported = ((start.text ≡ []) × (reported ≡ with_line 1 (Some troubles.Empty)))
     ⊎ ((fault : Fault) × (after : At) × GivesFault separator fault start after
-    × (told ≡ broken fault))
+    × (reported ≡ broken fault))

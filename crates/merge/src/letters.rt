@@ -4,7 +4,7 @@ ghost use Rattle.std.specs.Prelude.{◌≡◌, ◌<◌, ℕ, List, IfOk, IfErr, 
 ghost use Rattle.std.specs.Prelude.{map};
 ghost use Rattle.std.specs.Str.{chars};
 ghost use Rattle.interpolator.specs.Prepared.Rows.{found_by_row, row_at};
-ghost use Rattle.interpolator.specs.{At.outermost, Faults.result_answer};
+ghost use Rattle.interpolator.specs.{Places.outermost, Faults.result_answer};
 ghost use Rattle.interpolator.specs.{Meaning.Environments.environment, Meaning.Meanings.means};
 ghost use Rattle.interpolator.specs.Meaning.Outcomes.{Outcome};
 ghost use Rattle.interpolator_escapes.specs.{Fields.record_shows, Formats.escaped_shows};

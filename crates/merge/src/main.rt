@@ -51,10 +51,10 @@ mod files;
 mod letters;
 mod output;
 mod progress;
+mod reported;
 mod samples;
 mod table;
 mod templates;
-mod told;
 mod values;
 
 use files::{FileFault, Named, write_files};
@@ -63,9 +63,9 @@ use letters::merge;
 use output::Output;
 use progress::Progress;
 use records::{Separator, advice_on, is_utf16, latin1, text_in};
+use reported::{Files, reported, reported_files};
 use std::process::ExitCode;
 use templates::{Fault, Templates};
-use told::{Files, told, told_files};
 use words::flags::{Flags, files_after};
 use words::program::{
     FAULT, REFUSED, WRITTEN, about, bytes_in, ended, out_of_memory, status_of, usage, without_mark,
@@ -201,8 +201,8 @@ fn write_named(rt: &HostRuntime, files: Files<'_>, pattern: &str) -> ExitCode {
         FileFault::Refused(..) => REFUSED,
         _ => FAULT,
     };
-    match told_files(rt.alloc(), files, pattern, &fault) {
-        Ok(told) => ended(eprint!(rt; "{told}"), status),
+    match reported_files(rt.alloc(), files, pattern, &fault) {
+        Ok(reported) => ended(eprint!(rt; "{reported}"), status),
         Err(_) => out_of_memory(rt),
     }
 }
@@ -231,8 +231,8 @@ fn write_letters(rt: &HostRuntime, files: Files<'_>) -> ExitCode {
     let Err(fault) = merged else {
         return ExitCode::from(WRITTEN);
     };
-    match told(alloc, files, &fault) {
-        Ok(told) => ended(eprint!(rt; "{told}"), FAULT),
+    match reported(alloc, files, &fault) {
+        Ok(reported) => ended(eprint!(rt; "{reported}"), FAULT),
         Err(_) => out_of_memory(rt),
     }
 }
@@ -262,8 +262,8 @@ fn merge_texts(
     other: &str,
     table: &str,
 ) -> ExitCode {
-    let told = Separator::told_by(table);
-    let separator = asked.separator.or(told).unwrap_or(Separator::Comma);
+    let detected = Separator::detected_in(table);
+    let separator = asked.separator.or(detected).unwrap_or(Separator::Comma);
     let (column, other_name) = match asked.if_empty {
         Some((column, name)) => (Some(column), name),
         None => (None, ""),

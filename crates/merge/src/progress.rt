@@ -14,7 +14,7 @@ pub struct Progress<'a> {
     // none if nothing is to be told
     began: Option<Instant>,
     // the second of the last telling; 0 before the first
-    told: u64,
+    reported: u64,
     are_written: bool,
     count: usize,
 }
@@ -30,7 +30,7 @@ impl<'a> Progress<'a> {
         Progress {
             rt,
             began,
-            told: 0,
+            reported: 0,
             are_written: false,
             count: 0,
         }
@@ -70,8 +70,8 @@ impl<'a> Progress<'a> {
             return;
         };
         match began.elapsed(self.rt) {
-            Ok(passed) if passed.as_secs() > self.told => {
-                self.told = passed.as_secs();
+            Ok(passed) if passed.as_secs() > self.reported => {
+                self.reported = passed.as_secs();
                 self.tell();
             }
             Ok(_) => {}
@@ -94,7 +94,7 @@ impl<'a> Progress<'a> {
 
     /// Clears the line, if there is one, for what else is told there.
     pub fn clear(self) {
-        if self.told > 0 {
+        if self.reported > 0 {
             let _ = eprint!(self.rt; "\r{:28}\r", "");
         }
     }

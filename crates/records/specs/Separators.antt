@@ -22,8 +22,8 @@ one_of false false true = Some Tab
 one_of _ _ _ = None
 
 -- the separator of which alone a line has any
-abbrev pub told_in : List ℕ → Option Separator
-told_in line = one_of (has line Comma) (has line Semicolon) (has line Tab)
+abbrev pub detected_in_line : List ℕ → Option Separator
+detected_in_line line = one_of (has line Comma) (has line Semicolon) (has line Tab)
 
 -- a line is `sep=` and this separator, with a carriage return at its end or without
 abbrev pub names : Separator → List ℕ → Bool
@@ -42,8 +42,8 @@ or_else (Some separator) other = Some separator
 or_else None other = other
 
 -- the separator that the first line of a text names, or else is told by
-abbrev pub told_by : List ℕ → Option Separator
-told_by text = or_else (named_in (first_line text)) (told_in (first_line text))
+abbrev pub detected_in : List ℕ → Option Separator
+detected_in text = or_else (named_in (first_line text)) (detected_in_line (first_line text))
 
 -- the separator that a word names
 abbrev pub named : List ℕ → Option Separator

@@ -30,7 +30,7 @@ pub struct Faults<'a> {
     /// The line of the header of a table.
     pub header: usize,
     file: &'a str,
-    told: String,
+    reported: String,
 }
 
 impl<'a> Faults<'a> {
@@ -40,14 +40,14 @@ impl<'a> Faults<'a> {
             alloc,
             header: 1,
             file,
-            told: String::new(alloc),
+            reported: String::new(alloc),
         }
     }
 
     /// Adds a fault that says where it is.
     pub fn add<F: fmt::Display + Drop>(&mut self, fault: F) -> Result<(), AllocError> {
         let file = self.file;
-        writeln!(self.told, "{file}:{fault}")
+        writeln!(self.reported, "{file}:{fault}")
     }
 
     /// Adds what is wrong with the line of this number.
@@ -57,11 +57,11 @@ impl<'a> Faults<'a> {
 
     /// Whether there are none.
     pub fn is_empty(&self) -> bool {
-        self.told.is_empty()
+        self.reported.is_empty()
     }
 
     /// All faults; empty if there are none.
     pub fn into_text(self) -> String {
-        self.told
+        self.reported
     }
 }

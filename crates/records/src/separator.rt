@@ -2,7 +2,7 @@
 
 ghost use Rattle.std.specs.Prelude.{◌≡◌, ◌==◌, ℕ, List};
 ghost use Rattle.std.specs.List.{before_first, list_any};
-ghost use Rattle.records.specs.Separators.{named, named_in, told_by, told_in};
+ghost use Rattle.records.specs.Separators.{named, named_in, detected_in, detected_in_line};
 ghost use Rattle.records.specs.{Heads.IsUnmarked, Marks.byte_of, Marks.line_feed};
 
 use crate::head::without_mark;
@@ -81,8 +81,8 @@ impl Separator {
     }
 
     /// The separator of the three that a line has, if it has none of the others.
-    fn told_in(line: &str) -> Option<Separator>
-        ensures { result ≡ told_in line.now }
+    fn detected_in_line(line: &str) -> Option<Separator>
+        ensures { result ≡ detected_in_line line.now }
     {
         let comma = Separator::Comma.is_in(line);
         let semicolon = Separator::Semicolon.is_in(line);
@@ -97,13 +97,13 @@ impl Separator {
 
     /// The separator that the first line of a table names, as `sep=;`; or else the one of the three
     /// that it has, if it has none of the others.
-    pub fn told_by(table: &str) -> Option<Separator>
-        ensures { (rest : List ℕ) × IsUnmarked table.now rest × (result ≡ told_by rest) }
+    pub fn detected_in(table: &str) -> Option<Separator>
+        ensures { (rest : List ℕ) × IsUnmarked table.now rest × (result ≡ detected_in rest) }
     {
         let line = first_line(without_mark(table));
         match Separator::named_in(line) {
             Some(separator) => Some(separator),
-            None => Separator::told_in(line),
+            None => Separator::detected_in_line(line),
         }
     }
 }

@@ -10,7 +10,7 @@ use Rattle.interpolator.specs.declared.{Spec.Spec, Trait.Trait, Trait.TheVariant
 use Rattle.interpolator.specs.declared.{Trait.TheVariants.Display, View.View}
 use Rattle.interpolator.specs.{Prepared.Rows.PreparedFormat, Slots.slot_at, Slots.slots_of}
 use Rattle.interpolator.specs.{Slots.values_of, Texts.view_text, Views.Shown, Views.one_character}
-use Rattle.interpolator.specs.{Views.shown_as_value, Written.AppendsWithin, Written.Written}
+use Rattle.interpolator.specs.{Views.shown_as_value, Writers.AppendsWithin, Writers.Written}
 use Rattle.interpolator_laws.specs.SamplePairs.{RowResembles}
 use Rattle.records.specs.declared.table.Record.{Record}
 use Rattle.report.specs.Lines.{AreLines, AreShown, IsLine, IsShown, IsShownAs, PutsLines, Row}

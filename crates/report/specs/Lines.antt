@@ -10,7 +10,7 @@ use Rattle.interpolator.specs.Slots.{Slots, empty_slots, slots_of, with_debug_di
 use Rattle.interpolator.specs.Meaning.{Environments.environment, Meanings.Meaning, Meanings.means}
 use Rattle.interpolator.specs.declared.{Error.Error, Formattable.Formattable, Spec.Spec}
 use Rattle.interpolator.specs.declared.{Trait.Trait, View.View}
-use Rattle.interpolator.specs.{At.outermost, At.text_of, Contexts.found_by_pairs}
+use Rattle.interpolator.specs.{Places.outermost, Places.text_of, Contexts.found_by_pairs}
 use Rattle.interpolator.specs.{Template.NodeSamples.faults_over, Views.Shown, Views.shown_as_value}
 use Rattle.interpolator.specs.declared.View.TheVariants as forms
 use Rattle.records.specs.{Spellings.text_of as field_text, declared.table.Record.Record}

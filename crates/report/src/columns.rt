@@ -22,7 +22,7 @@ pub struct Column<'a> {
 
 /// Whether most of the cells that are not empty are numbers, some with a point; and whether all
 /// are.
-fn told_by(cells: &[Cell]) -> (bool, bool) {
+fn numbers_in(cells: &[Cell]) -> (bool, bool) {
     let mut numbers = 0usize;
     let mut others = 0usize;
     let mut scale = 0;
@@ -154,7 +154,7 @@ fn column_of<'a>(
     let (name, is_marked) = name_of(entry_in(header, index));
     let entries = entries_of(alloc, records, index)?;
     let cells = cells_of(alloc, &entries)?;
-    let (has_decimals, has_numbers_alone) = told_by(&cells);
+    let (has_decimals, has_numbers_alone) = numbers_in(&cells);
     let is_summed = match asked.totals {
         Some(names) => is_among(names, name),
         None => is_marked || has_decimals,
@@ -202,7 +202,7 @@ pub fn is_shown_as_numbers(
     let (name, is_marked) = name_of(entry_in(header, index));
     let entries = entries_of(faults.alloc, records, index)?;
     let cells = cells_of(faults.alloc, &entries)?;
-    let (has_decimals, has_numbers_alone) = told_by(&cells);
+    let (has_decimals, has_numbers_alone) = numbers_in(&cells);
     if !is_marked && !has_decimals {
         return Ok(has_numbers_alone && first_large(&cells).is_none() && !has_codes(&entries));
     }

@@ -59,14 +59,14 @@ fn format_in<'a>(file: &'a str, text: &'a str) -> Format<'a>
 }
 
 /// What is wrong with a format's file that is no UTF-8.
-fn told_bad(alloc: Global, file: &str, bytes: &[u8], bad: BadByte) -> Result<String, Error> {
+fn reported_bad(alloc: Global, file: &str, bytes: &[u8], bad: BadByte) -> Result<String, Error> {
     let advice = if is_utf16(bytes) {
         "this looks like UTF-16: save it as UTF-8"
     } else {
         "save it as UTF-8"
     };
-    let told = format!(in alloc; "{file}:{bad}; {advice}\n")?;
-    Ok(told)
+    let reported = format!(in alloc; "{file}:{bad}; {advice}\n")?;
+    Ok(reported)
 }
 
 /// The format in the bytes of a file, or what is wrong with it.
@@ -77,7 +77,7 @@ pub fn format_of<'a>(
 ) -> Result<Result<Format<'a>, String>, Error> {
     let text = match text_in(bytes) {
         Ok(text) => without_mark(text),
-        Err(bad) => return Ok(Err(told_bad(alloc, file, bytes, bad)?)),
+        Err(bad) => return Ok(Err(reported_bad(alloc, file, bytes, bad)?)),
     };
     let format = format_in(file, text);
     if format.text.is_empty() {
@@ -136,7 +136,7 @@ pub fn columns_for<'a>(
 }
 
 /// A fault of a format with the columns that a header names, shown in its line.
-fn told_fault(
+fn reported_fault(
     alloc: Global,
     format: Format<'_>,
     header: &Record<'_>,
@@ -154,7 +154,7 @@ fn told_fault(
 }
 
 /// The faults of a format with the columns that a header names, each shown in its line.
-pub fn told_faults(
+pub fn reported_faults(
     alloc: Global,
     format: Format<'_>,
     header: &Record<'_>,
@@ -164,11 +164,11 @@ pub fn told_faults(
     for index in 0..header.fields.len() {
         names.push(name_of(entry_in(header, index)).0)?;
     }
-    let mut told = String::new(alloc);
+    let mut reported = String::new(alloc);
     for fault in faults {
-        let picture = told_fault(alloc, format, header, &names, fault)?;
-        told.push_str(picture.as_str())?;
-        told.push('\n')?;
+        let picture = reported_fault(alloc, format, header, &names, fault)?;
+        reported.push_str(picture.as_str())?;
+        reported.push('\n')?;
     }
-    Ok(told)
+    Ok(reported)
 }

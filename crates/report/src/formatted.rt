@@ -5,7 +5,7 @@ ghost use Rattle.report.specs.Lines.{IsReady, names_in};
 
 use crate::asked::Asked;
 use crate::columns::is_shown_as_numbers;
-use crate::formats::{Format, asked_names, columns_for, told_faults};
+use crate::formats::{Format, asked_names, columns_for, reported_faults};
 use crate::input::read_records;
 use crate::lines::{Frame, Named, lines_of, prepared_line, sample_of};
 use interpolator::{Error, Prepared, Template, View};
@@ -132,6 +132,6 @@ pub fn report_by(
     };
     match prepared_line(alloc, &template, frame)? {
         Ok(line) => report_prepared(alloc, asked, format, &line, frame, text, separator),
-        Err(found) => Ok(Answer::Faults(told_faults(alloc, format, header, &found)?)),
+        Err(found) => Ok(Answer::Faults(reported_faults(alloc, format, header, &found)?)),
     }
 }

@@ -140,8 +140,8 @@ fn report_on(
     format: Option<Format<'_>>,
     text: &str,
 ) -> Result<Answer, Error> {
-    let told = Separator::told_by(text);
-    let separator = asked.separator.or(told).unwrap_or(Separator::Comma);
+    let detected = Separator::detected_in(text);
+    let separator = asked.separator.or(detected).unwrap_or(Separator::Comma);
     let Some(format) = format else {
         return report_table(alloc, asked, text, separator);
     };
@@ -167,8 +167,8 @@ fn report_bytes(
     match text_in(bytes) {
         Ok(text) => report_on(alloc, asked, format, text),
         Err(bad) => {
-            let told = format!(in alloc; "{}:{bad}; {}\n", asked.file, advice_on(bytes))?;
-            Ok(Answer::Faults(told))
+            let reported = format!(in alloc; "{}:{bad}; {}\n", asked.file, advice_on(bytes))?;
+            Ok(Answer::Faults(reported))
         }
     }
 }
@@ -187,8 +187,8 @@ fn report(
 /// Prints the report of a file by the format in another.
 fn report_by_file(rt: &HostRuntime, asked: Asked<'_>, file: &str) -> Result<ExitCode, ExitCode> {
     if let Some(flag) = asked.beside_format() {
-        let told = eprintln!(rt; "{flag} does not go with --format\n{USAGE}");
-        return Err(ended(told, BAD_USE));
+        let reported = eprintln!(rt; "{flag} does not go with --format\n{USAGE}");
+        return Err(ended(reported, BAD_USE));
     }
     let bytes = bytes_in(rt, file)?;
     match format_of(rt.alloc(), file, &bytes) {

@@ -5,7 +5,7 @@ use Rattle.std.proofs.lemmas.Bool.Decides.{nat_tests}
 use Rattle.std.specs.Option.{option_or}
 use Rattle.interpolator_render.specs.Bounds.{BoundedText, bounded, bounded_writer}
 use Rattle.interpolator.specs.Faults.{Answer, Fault, no_memory}
-use Rattle.interpolator.specs.{Meaning.Meanings.Meaning, Meaning.Outcomes.Outcome, Written.Written}
+use Rattle.interpolator.specs.{Meaning.Meanings.Meaning, Meaning.Outcomes.Outcome, Writers.Written}
 use Rattle.interpolator.specs.{Template.NodeChecks.first_fault, Template.NodeCosts.usize_cost}
 use Rattle.interpolator.specs.declared.Cost.{Cost}
 use Rattle.strangers.specs.Serving.{Affords, IsWithin, Why, cost_why, count_why}
@@ -14,28 +14,28 @@ use Rattle.strangers.specs.declared.serving.Count.{Count}
 -- if no fault is meant and the writer did not refuse, no fault is left
 pub only_memory : (m : Meaning) (old new : Written) (answer : Answer) → m.fault ≡ None
     → new.refused ≡ false → Outcome m old new (Some answer) → answer ≡ no_memory
-only_memory m old new answer sound down (inl done) = let told = rw sound at done.told in cc
+only_memory m old new answer sound down (inl done) = let reported = rw sound at done.reported in cc
 only_memory m old new answer sound down (inr (inl refusal)) = let flag = refusal.flag in cc
-only_memory m old new answer sound down (inr (inr wants)) = let told = wants.told in cc
+only_memory m old new answer sound down (inr (inr wants)) = let reported = wants.reported in cc
 
 -- each outcome keeps the bound, if the memory for it is ready
-origin_kept : (m : Meaning) (old new : Written) (told : Option Answer) → Outcome m old new told
+origin_kept : (m : Meaning) (old new : Written) (reported : Option Answer) → Outcome m old new reported
     → new.origin ≡ old.origin
-origin_kept m old new told (inl finished) = finished.all.same_origin
-origin_kept m old new told (inr (inl refused)) = refused.same_origin
-origin_kept m old new told (inr (inr wants)) = wants.begun.same_origin
+origin_kept m old new reported (inl finished) = finished.all.same_origin
+origin_kept m old new reported (inr (inl refused)) = refused.same_origin
+origin_kept m old new reported (inr (inr wants)) = wants.begun.same_origin
 
 bound_by : (ready : Bool) (most bytes : ℕ) → (if ready then Some most else None) ≡ Some bytes
     → most ≡ bytes
 bound_by true most bytes is = grind arith
 bound_by false most bytes is = grind arith
 
-pub bound_kept : (m : Meaning) (old new : BoundedText) (told : Option Answer) (bytes : ℕ)
+pub bound_kept : (m : Meaning) (old new : BoundedText) (reported : Option Answer) (bytes : ℕ)
     → (bounded_writer old).origin ≡ bounded bytes true
-    → Outcome m (bounded_writer old) (bounded_writer new) told → new.most ≡ bytes
-bound_kept m old new told bytes begun outcome =
+    → Outcome m (bounded_writer old) (bounded_writer new) reported → new.most ≡ bytes
+bound_kept m old new reported bytes begun outcome =
     bound_by new.ready new.most bytes (ap (λ origin. origin.bound)
-    (origin_kept m (bounded_writer old) (bounded_writer new) told outcome ∙ begun))
+    (origin_kept m (bounded_writer old) (bounded_writer new) reported outcome ∙ begun))
 
 -- no first fault is no fault
 pub no_first : (fs : List Fault) → first_fault fs ≡ None → fs ≡ []

@@ -10,8 +10,8 @@ use Rattle.strangers.specs.{declared.serving.Count.Count, declared.serving.Refus
 use Rattle.strangers.specs.{declared.values.Datum.Datum, declared.values.Word.Word}
 
 -- a count that is not rejected is within its limit
-pub let_through : (count : Count) (told limit : ℕ) → value_why count told limit ≡ None → told ≤ limit
-let_through count told limit h = grind (arith, nat_tests, h)
+pub let_through : (count : Count) (reported limit : ℕ) → value_why count reported limit ≡ None → reported ≤ limit
+let_through count reported limit h = grind (arith, nat_tests, h)
 
 -- what holds, holds of a success
 pub on_ok : {P : Type 0} (result : Result (Unit {0}) Refused) → P → OnOk result P

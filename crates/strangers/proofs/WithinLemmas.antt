@@ -6,7 +6,7 @@ use Rattle.std.proofs.lemmas.{List.Elements.All-tail, List.Folds.find-append}
 use mathlib.Core.Path.{fun_ext}
 use Rattle.std.specs.Str.{bytes_eq, chars, encode_utf8_all}
 use Rattle.std.specs.{Borrow.Bor, List.find, Option.option_or, Prelude.reverse}
-use Rattle.interpolator.specs.At.{At, outermost}
+use Rattle.interpolator.specs.Places.{At, outermost}
 use Rattle.interpolator.specs.Meaning.Environments.{Environment, environment}
 use Rattle.interpolator.specs.Meaning.Limits.{FoundWithin, IsWithin, ItemsWithin, SlotsWithin}
 use Rattle.interpolator.specs.Meaning.Limits.{SlotWithin}
@@ -17,7 +17,7 @@ use Rattle.interpolator.specs.declared.{Formattable.Formattable, Limits.Limits, 
 use Rattle.interpolator.specs.declared.Trait.TheVariants.{Iter}
 use Rattle.interpolator.specs.{Contexts.found_by_pairs, Template.NodeCosts.text_cost}
 use Rattle.strangers.specs.Serving.{IsServed, IsWhole, Rejects, first_why, format_why, given_why}
-use Rattle.strangers.specs.Serving.{bytes_for, meaning_over, shows, told_cost, words_why}
+use Rattle.strangers.specs.Serving.{bytes_for, meaning_over, shows, reported_cost, words_why}
 use Rattle.strangers.specs.Values.{AreInRange, IsInRange, Row, characters_of, found_by_words}
 use Rattle.strangers.specs.Values.{given_slots, longest_of, pair_named, word_named}
 use Rattle.strangers.specs.declared.values.Datum.TheVariants.{Text, Number, Decimal as InDecimal}
@@ -133,9 +133,9 @@ KeepsToCost limits = (e : Environment Datum) (a : At)
     × ((text_work shows e a).held ≤ (text_cost limits a).buffered)
 
 -- a count that is reported below the greatest `usize` is the count itself
-as_told : (n count : ℕ) → n ≤ count → min count (2 ^ 64 - 1) < 2 ^ 64 - 1
+as_reported : (n count : ℕ) → n ≤ count → min count (2 ^ 64 - 1) < 2 ^ 64 - 1
     → n ≤ min count (2 ^ 64 - 1)
-as_told n count h k = omega (arith, h, k)
+as_reported n count h k = omega (arith, h, k)
 
 module _ (allowed : Allowed) (format : List ℕ) (words : List Word) (pairs : Row)
     (given : GiveWords words pairs) where
@@ -147,7 +147,7 @@ module _ (allowed : Allowed) (format : List ℕ) (words : List Word) (pairs : Ro
       → All (λ word. AreInRange word.given) words → words_why allowed.values words ≡ None
       → IsWhole format (found_by_pairs pairs) (chars text)
       × (format_why allowed format (found_by_pairs pairs) ≡ None)
-      × (length text ≤ bytes_for (told_cost allowed.values format).characters)
+      × (length text ≤ bytes_for (reported_cost allowed.values format).characters)
       → IsServed allowed format words text
   served_whole costs text range good done =
       let (whole, accepted, short) = rw same at done in
@@ -159,10 +159,10 @@ module _ (allowed : Allowed) (format : List ℕ) (words : List Word) (pairs : Ro
       record {
         accepted = rw good accepted;
         written = whole;
-        characters = rw as_long (as_told _ _ most.0 affords.characters.1);
+        characters = rw as_long (as_reported _ _ most.0 affords.characters.1);
         bytes = short;
-        pieces = as_told _ _ most.1 affords.pieces.1;
-        buffered = as_told _ _ most.2 affords.buffered.1;
+        pieces = as_reported _ _ most.1 affords.pieces.1;
+        buffered = as_reported _ _ most.2 affords.buffered.1;
         afforded = affords;
       }
 

@@ -9,7 +9,7 @@ use Rattle.interpolator.specs.Meaning.{Work.Work, Work.text_work}
 use Rattle.interpolator.specs.Template.{NodeChecks.first_fault, NodeCosts.usize_cost}
 use Rattle.interpolator.specs.Template.{NodeCosts.text_cost, NodeSamples.faults_over}
 use Rattle.interpolator.specs.declared.{Cost.Cost, Limits.Limits, Spec.Spec, Trait.Trait}
-use Rattle.interpolator.specs.{At.outermost, At.text_of, Slots.Slots, Views.Shown}
+use Rattle.interpolator.specs.{Places.outermost, Places.text_of, Slots.Slots, Views.Shown}
 use Rattle.strangers.specs.Values.{characters_of, datum_shows, found_by_words, longest_of}
 use Rattle.strangers.specs.{declared.serving.Allowed.Allowed, declared.serving.Count.Count}
 use Rattle.strangers.specs.declared.serving.Count.TheVariants as counts
@@ -41,20 +41,20 @@ abbrev pub faults_with : List ℕ → Names → List Fault
 faults_with format finds = faults_over shows finds (outermost (chars format))
 
 -- what it costs at most, as it is reported
-abbrev pub told_cost : Limits → List ℕ → Cost
-told_cost limits format = usize_cost (text_cost limits (outermost (chars format)))
+abbrev pub reported_cost : Limits → List ℕ → Cost
+reported_cost limits format = usize_cost (text_cost limits (outermost (chars format)))
 
 -- ---- why a format is rejected
 
 -- why: an error of the format, or a count that is past its limit
 pub data Why : Type 0 where
   failed : Answer → Why
-  past : Count → (told limit : ℕ) → Why
+  past : Count → (reported limit : ℕ) → Why
 
 -- why, as it is reported
 abbrev pub why_of : Refused → Why
 why_of (Format error) = failed (answer_of error)
-why_of (Past count told limit) = past count told limit
+why_of (Past count reported limit) = past count reported limit
 
 -- what a test reported, if it rejects
 abbrev pub why_in : Result (Unit {0}) Refused → Option Why
@@ -62,16 +62,16 @@ why_in (Ok _) = None
 why_in (Err refused) = Some (why_of refused)
 
 -- a count is past its limit; the greatest `usize` means as many or more, and is past every limit
-abbrev pub is_past : (told limit : ℕ) → Bool
-is_past told limit = nat_lt limit told || told == 2 ^ 64 - 1
+abbrev pub is_past : (reported limit : ℕ) → Bool
+is_past reported limit = nat_lt limit reported || reported == 2 ^ 64 - 1
 
 -- a count of a cost is rejected
-abbrev pub count_why : Count → (told limit : ℕ) → Option Why
-count_why count told limit = if is_past told limit then Some (past count told limit) else None
+abbrev pub count_why : Count → (reported limit : ℕ) → Option Why
+count_why count reported limit = if is_past reported limit then Some (past count reported limit) else None
 
 -- a count of values is rejected
-abbrev pub value_why : Count → (told limit : ℕ) → Option Why
-value_why count told limit = if nat_lt limit told then Some (past count told limit) else None
+abbrev pub value_why : Count → (reported limit : ℕ) → Option Why
+value_why count reported limit = if nat_lt limit reported then Some (past count reported limit) else None
 
 -- what a word gives is rejected: a text or a decimal that is too long; a list with too many items,
 -- or else for the longest text among them
@@ -100,7 +100,7 @@ cost_why most cost = option_or (count_why counts.Characters cost.characters most
 -- a format is rejected for a fault, or else for its cost
 abbrev pub format_why : Allowed → List ℕ → Names → Option Why
 format_why allowed format finds = option_or (fault_why (faults_with format finds))
-    (cost_why allowed.most (told_cost allowed.values format))
+    (cost_why allowed.most (reported_cost allowed.values format))
 
 -- a format over words is rejected for these words, or else by itself
 abbrev pub first_why : Allowed → List ℕ → List Word → Option Why
@@ -123,8 +123,8 @@ pub record IsWhole (format : List ℕ) (finds : Names) (text : List ℕ) : Type 
   pub whole : text ≡ text_of (meaning_over format finds).text
 
 -- a count is reported exactly, and is within its limit
-abbrev pub IsWithin : (told limit : ℕ) → Type 0
-IsWithin told limit = (told ≤ limit) × (told < 2 ^ 64 - 1)
+abbrev pub IsWithin : (reported limit : ℕ) → Type 0
+IsWithin reported limit = (reported ≤ limit) × (reported < 2 ^ 64 - 1)
 
 -- a cost is within limits
 pub record Affords (most cost : Cost) : Type 0 where
@@ -138,10 +138,10 @@ pub record IsServed (allowed : Allowed) (format : List ℕ) (words : List Word) 
     : Type 0 where
   pub accepted : first_why allowed format words ≡ None
   pub written : IsWhole format (found_by_words words) (chars text)
-  pub characters : length (chars text) ≤ (told_cost allowed.values format).characters
-  pub bytes : length text ≤ bytes_for (told_cost allowed.values format).characters
+  pub characters : length (chars text) ≤ (reported_cost allowed.values format).characters
+  pub bytes : length text ≤ bytes_for (reported_cost allowed.values format).characters
   pub pieces : (work_over format (found_by_words words)).pieces
-      ≤ (told_cost allowed.values format).pieces
+      ≤ (reported_cost allowed.values format).pieces
   pub buffered : (work_over format (found_by_words words)).held
-      ≤ (told_cost allowed.values format).buffered
-  pub afforded : Affords allowed.most (told_cost allowed.values format)
+      ≤ (reported_cost allowed.values format).buffered
+  pub afforded : Affords allowed.most (reported_cost allowed.values format)

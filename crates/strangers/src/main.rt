@@ -63,12 +63,16 @@ fn name_of(count: Count) -> &'static str {
 fn tell_refused(rt: &HostRuntime, refused: &Refused) -> io::Result<()> {
     match refused {
         Refused::Format(error) => eprintln!(rt; "{error}"),
-        Refused::Past { count, told, limit } => {
+        Refused::Past {
+            count,
+            reported,
+            limit,
+        } => {
             let what = name_of(*count);
-            if *told == usize::MAX {
-                eprintln!(rt; "{what}: {told} or more, where {limit} are allowed")
+            if *reported == usize::MAX {
+                eprintln!(rt; "{what}: {reported} or more, where {limit} are allowed")
             } else {
-                eprintln!(rt; "{what}: {told}, where {limit} are allowed")
+                eprintln!(rt; "{what}: {reported}, where {limit} are allowed")
             }
         }
     }

@@ -6,7 +6,7 @@ ghost use Rattle.interpolator_render.specs.Bounds.{bounded, bounded_writer};
 ghost use Rattle.interpolator.specs.{Contexts.found_by_pairs, Faults.answer_of, Faults.no_memory};
 ghost use Rattle.strangers.specs.Serving.{IsServed, IsWhole, Rejects, bytes_for, cost_why};
 ghost use Rattle.strangers.specs.Serving.{count_why, faults_with, first_why, format_why, given_why};
-ghost use Rattle.strangers.specs.Serving.{is_past, told_cost, value_why, why_in, words_why};
+ghost use Rattle.strangers.specs.Serving.{is_past, reported_cost, value_why, why_in, words_why};
 ghost use Rattle.strangers.specs.{Values.AreInRange, declared.serving.Refused.TheVariants.Format};
 
 use crate::lending::{entries_of, pairs_of};
@@ -54,7 +54,7 @@ pub enum Refused {
     /// past every limit.
     Past {
         count: Count,
-        told: usize,
+        reported: usize,
         limit: usize,
     },
 }
@@ -68,28 +68,36 @@ impl From<Error> for Refused {
 }
 
 /// Whether a count is past its limit.
-fn is_past(told: usize, limit: usize) -> bool
-    ensures { result ≡ is_past told limit }
+fn is_past(reported: usize, limit: usize) -> bool
+    ensures { result ≡ is_past reported limit }
 {
-    told > limit || told == usize::MAX
+    reported > limit || reported == usize::MAX
 }
 
 /// Rejects a count of a cost that is past its limit.
-fn check(count: Count, told: usize, limit: usize) -> Result<(), Refused>
-    ensures { why_in result ≡ count_why count told limit }
+fn check(count: Count, reported: usize, limit: usize) -> Result<(), Refused>
+    ensures { why_in result ≡ count_why count reported limit }
 {
-    if is_past(told, limit) {
-        return Err(Refused::Past { count, told, limit });
+    if is_past(reported, limit) {
+        return Err(Refused::Past {
+            count,
+            reported,
+            limit,
+        });
     }
     Ok(())
 }
 
 /// Rejects a count of values that is more than its limit.
-fn check_value(count: Count, told: usize, limit: usize) -> Result<(), Refused>
-    ensures { why_in result ≡ value_why count told limit }
+fn check_value(count: Count, reported: usize, limit: usize) -> Result<(), Refused>
+    ensures { why_in result ≡ value_why count reported limit }
 {
-    if told > limit {
-        return Err(Refused::Past { count, told, limit });
+    if reported > limit {
+        return Err(Refused::Past {
+            count,
+            reported,
+            limit,
+        });
     }
     Ok(())
 }
@@ -174,7 +182,7 @@ fn decided<'a>(
         IsWhole template.now (found_by_pairs pairs.now) (chars (string_bytes text))
         × (format_why allowed.now template.now (found_by_pairs pairs.now) ≡ None)
         × (length (string_bytes text)
-        ≤ bytes_for (told_cost allowed.now.values template.now).characters)) }
+        ≤ bytes_for (reported_cost allowed.now.values template.now).characters)) }
     ensures err { IfErr result (λ refused.
         Rejects (format_why allowed.now template.now (found_by_pairs pairs.now)) refused) }
 {

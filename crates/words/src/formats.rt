@@ -26,12 +26,17 @@ pub fn source_of<'a>(name: &'a str, text: &'a str) -> Source<'a>
 }
 
 /// What is wrong at a place of a format, shown in its line, with a newline after it.
-pub fn told_at(alloc: Global, source: &Source<'_>, place: usize, why: &str) -> Result<String, Error>
-    ensures told { IfOk result (λ told.
-        string_bytes told ≡ explanation source.now (Some place) why.now ++ (10 ∷ [])) }
+pub fn reported_at(
+    alloc: Global,
+    source: &Source<'_>,
+    place: usize,
+    why: &str,
+) -> Result<String, Error>
+    ensures reported { IfOk result (λ reported.
+        string_bytes reported ≡ explanation source.now (Some place) why.now ++ (10 ∷ [])) }
     ensures refused { IfErr result (λ error. answer_of error ≡ no_memory) }
 {
-    let mut told = explain_place(alloc, source, place, why)?;
-    told.push('\n')?;
-    Ok(told)
+    let mut reported = explain_place(alloc, source, place, why)?;
+    reported.push('\n')?;
+    Ok(reported)
 }

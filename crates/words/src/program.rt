@@ -115,7 +115,7 @@ pub fn print_text(rt: &HostRuntime, text: &str) -> ExitCode {
 pub fn print_answer(rt: &HostRuntime, answer: Result<Answer, Error>) -> ExitCode {
     match answer {
         Ok(Answer::Text(text)) => print_text(rt, text.as_str()),
-        Ok(Answer::Faults(told)) => ended(eprint!(rt; "{told}"), FAULT),
+        Ok(Answer::Faults(reported)) => ended(eprint!(rt; "{reported}"), FAULT),
         Err(error) => ended(eprintln!(rt; "{error}"), FAULT),
     }
 }

@@ -8,7 +8,7 @@
  *
  * After a call the header leaves nothing open: "Of each code it is said what each field is, what
  * each room holds, and that the rest is as it was." The contracts have it so (specs/ of
- * crates/interpolator_border): the answer equals a record of all its fields, and `Told`, `Put` and
+ * crates/interpolator_border): the answer equals a record of all its fields, and `Reported`, `Put` and
  * `FillsFront` say of each byte of a room or an array what it is. No struct that a call writes has
  * padding. So nothing of an answer is filled, and the rest of a room is as it was.
  *
@@ -211,8 +211,8 @@ static interpolator_answer handed(interpolator_answer answer, int named) {
 
 /* ---- The calls */
 
-/* The room has the text of OK (`ToldText`), and the sentence of any other code (`ToldAlone`,
- * `ToldAside`). */
+/* The room has the text of OK (`ReportedText`), and the sentence of any other code (`ReportedAlone`,
+ * `ReportedAside`). */
 interpolator_answer interpolator_format(
     const char *format, size_t format_length,
     const interpolator_field *fields, size_t field_count,
@@ -231,7 +231,7 @@ interpolator_answer interpolator_format(
   return handed(answer, said_by(answer.code));
 }
 
-/* The same, with the sentence of what is out of place (`ToldMisplaced`), or that there is no such
+/* The same, with the sentence of what is out of place (`ReportedMisplaced`), or that there is no such
  * escape. */
 interpolator_answer interpolator_escaped(
     uint32_t escape,
@@ -253,7 +253,7 @@ interpolator_answer interpolator_escaped(
 }
 
 /* The room has `length` bytes, whatever the code is (`Put`), and the second room the sentence of
- * each code but OK (`ToldBy`, `ToldFault`, `ToldAside`). */
+ * each code but OK (`ReportedBy`, `ReportedFault`, `ReportedAside`). */
 interpolator_answer interpolator_write(
     const char *format, size_t format_length,
     const interpolator_field *fields, size_t field_count,
@@ -272,7 +272,7 @@ interpolator_answer interpolator_write(
   return handed(answer, said_by(answer.code) | LENGTH);
 }
 
-/* The room is as it was of OK (`ToldNone`), and has the sentence of any other code. `length` is 0
+/* The room is as it was of OK (`ReportedNone`), and has the sentence of any other code. `length` is 0
  * of each. */
 interpolator_answer interpolator_check(
     const char *format, size_t format_length,
@@ -322,8 +322,8 @@ interpolator_answer interpolator_faults(
   return handed(answer, LENGTH);
 }
 
-/* The room is as it was of OK (`ToldNone`, with `message` 0), has the picture of a fault
- * (`ToldPicture`), and the sentence of any other code. */
+/* The room is as it was of OK (`ReportedNone`, with `message` 0), has the picture of a fault
+ * (`ReportedPicture`), and the sentence of any other code. */
 interpolator_answer interpolator_explain(
     const interpolator_source *source,
     const char *format, size_t format_length,

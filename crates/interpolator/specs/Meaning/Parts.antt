@@ -3,7 +3,7 @@ use Rattle.std.specs.Prelude.{◌≢◌, ℕ, ◌+◌, ⊤, IsTrue, List, [], �
 use Rattle.std.specs.{Str.chars, Borrow.Bor}
 use Rattle.interpolator_render.specs.{declared.view.Trait.Trait, declared.view.Spec.Spec}
 use Rattle.interpolator_render.specs.Views.{Shown}
-use Rattle.interpolator_syntax.specs.{At.size, Grammar.from_place}
+use Rattle.interpolator_syntax.specs.{Places.size, Grammar.from_place}
 use Rattle.interpolator.specs.{Seams.ending, Seams.seam_of, declared.parts.Ending.TheVariants.Open}
 use Rattle.interpolator_eval.specs.Meaning.Environments.{Environment}
 use Rattle.interpolator_eval.specs.Meaning.Meanings.{Meaning, nothing, chain, means}

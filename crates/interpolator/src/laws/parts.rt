@@ -2,7 +2,7 @@
 
 ghost use Rattle.std.specs.Prelude.{◌≡◌, ◌≢◌, ℕ, ◌+◌, ◌++◌, List, [], ◌∷◌, IsTrue, IsFalse, Ok};
 ghost use Rattle.std.specs.Prelude.{None, codes};
-ghost use Rattle.interpolator_syntax.specs.At.{At, size, outermost};
+ghost use Rattle.interpolator_syntax.specs.Places.{At, size, outermost};
 ghost use Rattle.interpolator_syntax.specs.Arguments.{Argument, argument_at};
 ghost use Rattle.interpolator_syntax.specs.{Classes.close_brace, Grammar.from_place, Pieces.pieces};
 ghost use Rattle.interpolator.specs.Seams.{EndsClosed, ending, may_follow, seam_of};

@@ -3,7 +3,7 @@ use Rattle.std.proofs.Common.{◌≡◌, ℕ, zero, suc, ◌<◌, List, [], ◌�
 use Rattle.std.proofs.Common.{true, false, filter}
 use Rattle.interpolator_syntax.specs.Nodes.{nodes, group_branch, piece_node}
 use Rattle.interpolator_syntax.specs.Pieces.{Piece, PieceKind, pieces}
-use Rattle.interpolator_syntax.specs.{At.At, Groups.Group, Groups.inside, SpecTexts.Kind}
+use Rattle.interpolator_syntax.specs.{Places.At, Groups.Group, Groups.inside, SpecTexts.Kind}
 use Rattle.interpolator_eval.specs.Meaning.AskedGrammar.{is_named, GroupAsks, KindAsks, PieceAsks}
 use Rattle.interpolator_eval.specs.Meaning.AskedGrammar.{PiecesAsk, AsksWithin, AsksNames}
 use Rattle.interpolator_eval.specs.Meaning.AskedNames.{without_empty, branch_asks, node_asks}

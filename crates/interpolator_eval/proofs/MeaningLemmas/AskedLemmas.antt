@@ -2,8 +2,8 @@
 use Rattle.std.proofs.Common.{◌≡◌, ℕ, List, [], ◌∷◌, arith, refl, true, Option, Some, ◌&&◌}
 use Rattle.std.proofs.lemmas.Slice.Eq.{bytes_eq-Decides}
 use Rattle.interpolator_render.specs.{declared.view.Trait.Trait, declared.view.Spec.Spec}
-use Rattle.interpolator_render.specs.{Views.Shown, Written.Written}
-use Rattle.interpolator_syntax.specs.{At.At, Faults.Answer}
+use Rattle.interpolator_render.specs.{Views.Shown, Writers.Written}
+use Rattle.interpolator_syntax.specs.{Places.At, Faults.Answer}
 use Rattle.interpolator_eval.specs.Meaning.AskedNames.{asked_names, AgreeOn}
 use Rattle.interpolator_eval.specs.Meaning.Environments.{Environment, is_among, within, names_among}
 use Rattle.interpolator_eval.specs.Meaning.Environments.{cut}

@@ -5,7 +5,7 @@ use Rattle.std.specs.Char.{len_utf8}
 use Rattle.interpolator_syntax.specs.Nodes.{Node, node, Branch, no_branch, branch, as_forest}
 use Rattle.interpolator_syntax.specs.Nodes.{Forest, no_nodes, nodes_and, nodes, group_branch}
 use Rattle.interpolator_syntax.specs.Nodes.{item_branch, join_branch, Content}
-use Rattle.interpolator_syntax.specs.{At.At, Groups.Group, Pieces.Piece, Pieces.pieces}
+use Rattle.interpolator_syntax.specs.{Places.At, Groups.Group, Pieces.Piece, Pieces.pieces}
 use Rattle.interpolator_syntax.specs.{SpecTexts.Kind, Splits.literal_nodes, Splits.node_alone}
 use Rattle.interpolator_syntax.proofs.SplitLemmas.{gathered_alone}
 use Rattle.interpolator_eval.specs.Meaning.AskedNames.{content_names, node_asks, branch_asks}

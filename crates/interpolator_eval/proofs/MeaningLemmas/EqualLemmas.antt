@@ -3,11 +3,11 @@ use Rattle.std.proofs.Common.{map, option_map, ◌≡◌, ℕ, true, false, List
 use Rattle.std.proofs.Common.{◌++◌, arith, refl, Option, Some, None}
 use Rattle.interpolator_render.specs.declared.view.Trait.{Trait}
 use Rattle.interpolator_render.specs.declared.view.Trait.TheVariants as traits
-use Rattle.interpolator_render.specs.{declared.view.Spec.Spec, Views.Shown, Written.Written}
+use Rattle.interpolator_render.specs.{declared.view.Spec.Spec, Views.Shown, Writers.Written}
 use Rattle.interpolator_syntax.specs.Nodes.{Node, node, Branch, no_branch, branch, Forest, no_nodes}
 use Rattle.interpolator_syntax.specs.Nodes.{nodes_and, Content, Target}
 use Rattle.interpolator_syntax.specs.declared.{piece_kind.PieceKind.PieceKind, range.Range.Range}
-use Rattle.interpolator_syntax.specs.{At.At, Faults.Answer, SpecTexts.plain_spec}
+use Rattle.interpolator_syntax.specs.{Places.At, Faults.Answer, SpecTexts.plain_spec}
 use Rattle.interpolator_eval.specs.Slots.{Slots, SlotsList, bare, listed, no_slots, slots_and}
 use Rattle.interpolator_eval.specs.Slots.{values_of, Values, slots_listed, items}
 use Rattle.interpolator_eval.specs.Meaning.AskedNames.{without_empty, content_names, branch_asks}
@@ -169,10 +169,10 @@ module _ {X Y : Type 0} (shows : X → Trait → Spec → Shown) (others : Y →
   -- so if both finish, they have the same outcome
   pub outcomes_equal :
       (e : Environment X) (d : Environment Y) (a : At) (old new other : Written)
-      (answer told : Option Answer) → Agree e d (asked_names a)
-      → Finished (means shows e a) old new answer → Finished (means others d a) old other told
-      → (new ≡ other) × (answer ≡ told)
-  outcomes_equal e d a old new other answer told agree h k = grind (arith, means_equal)
+      (answer reported : Option Answer) → Agree e d (asked_names a)
+      → Finished (means shows e a) old new answer → Finished (means others d a) old other reported
+      → (new ≡ other) × (answer ≡ reported)
+  outcomes_equal e d a old new other answer reported agree h k = grind (arith, means_equal)
 
 -- ---- one type of values
 

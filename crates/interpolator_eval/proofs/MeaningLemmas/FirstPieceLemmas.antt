@@ -1,11 +1,11 @@
 -- Pieces up to their first list: from the first piece, and from those after it.
 use Rattle.std.proofs.Common.{◌≡◌, refl, arith, ℕ, ◌+◌, ◌≤◌, Bool, true, false, Option, None, Some}
-use Rattle.interpolator_render.specs.{Written.Written, declared.view.Trait.Trait}
+use Rattle.interpolator_render.specs.{Writers.Written, declared.view.Trait.Trait}
 use Rattle.interpolator_render.specs.{declared.view.Spec.Spec, Views.Shown}
 use Rattle.interpolator_syntax.specs.Nodes.{Node, node, Forest, no_nodes, nodes_and, nodes}
 use Rattle.interpolator_syntax.specs.Nodes.{token_node}
 use Rattle.interpolator_syntax.specs.Tokens.{Token, first_token, past_token}
-use Rattle.interpolator_syntax.specs.{Faults.Answer, At.At}
+use Rattle.interpolator_syntax.specs.{Faults.Answer, Places.At}
 use Rattle.interpolator_eval.specs.Meaning.Sources.{asks_list, before_list, first_holds, from_list}
 use Rattle.interpolator_eval.specs.Meaning.Sources.{unlisted_means}
 use Rattle.interpolator_eval.specs.Meaning.{ScannedLists.text_forest, Environments.Environment}
@@ -38,12 +38,12 @@ module _ (x : Node) (xs : Forest) where
     abbrev Before : Forest → Meaning
     Before ys = forest_means shows e (before_list ys)
 
-    abbrev Gone : Forest → ℕ
-    Gone ys = (forest_work shows e (before_list ys)).pieces
+    abbrev Visited : Forest → ℕ
+    Visited ys = (forest_work shows e (before_list ys)).pieces
 
     -- nothing is gone through before it
-    pub none_gone : asks_list x ≡ true → Gone Whole ≡ 0
-    none_gone listed = grind (arith, before_none)
+    pub none_visited : asks_list x ≡ true → Visited Whole ≡ 0
+    none_visited listed = grind (arith, before_none)
 
     module _ (s t : Written) where
       -- it is done, and the rest is written
@@ -70,16 +70,16 @@ module _ (x : Node) (xs : Forest) where
       module _ (one : 1 ≤ (node_work shows e x).pieces) where
         -- and is a piece itself
         pub piece_stops : (q : Answer)
-            → Outcome (unlisted_means shows e x) s t (Some q) → 1 ≤ Gone Whole
+            → Outcome (unlisted_means shows e x) s t (Some q) → 1 ≤ Visited Whole
         piece_stops q o = by_asked (asks_list x) refl
           where
-            by_asked : (b : Bool) → asks_list x ≡ b → 1 ≤ Gone Whole
+            by_asked : (b : Bool) → asks_list x ≡ b → 1 ≤ Visited Whole
             by_asked false other = grind (arith, before_after)
             by_asked true listed = absurd (nothing_fails _ _ q (rw listed at o))
 
         -- it is done, and the pieces after it come to it
         pub piece_goes : asks_list x ≡ false → Outcome (unlisted_means shows e x) s t None
-            → 1 + Gone xs ≡ Gone Whole
+            → 1 + Visited xs ≡ Visited Whole
         piece_goes other o = grind (arith, before_after)
 
 -- ---- pieces in order, one after another
@@ -102,7 +102,7 @@ module _ {X : Type 0} (shows : X → Trait → Spec → Shown) (e : Environment 
     pub so_far : (new : Written) (answer : Option Answer)
         → Outcome (Means rest) s new answer → Outcome (Means all) old new answer
     pub left : from_list all ≡ from_list rest
-    pub gone : count + Pieces rest ≡ n + Pieces all
+    pub visited : count + Pieces rest ≡ n + Pieces all
 
   -- no pieces are left
   pub passed_all : {all : Forest} (a : At) {old s : Written} {n count : ℕ}
@@ -112,7 +112,7 @@ module _ {X : Type 0} (shows : X → Trait → Spec → Shown) (e : Environment 
   passed_all a p h = (
     p.so_far _ None (rw (text_none a h) (nothing_done _)),
     rw (p.left, text_none _ h) refl,
-    grind (arith, p.gone, text_none _ h),
+    grind (arith, p.visited, text_none _ h),
   )
 
   module _ {all rest after : Forest} {x : Node} {old s : Written} {n count now : ℕ}
@@ -121,15 +121,15 @@ module _ {X : Type 0} (shows : X → Trait → Spec → Shown) (e : Environment 
     counts : 1 ≤ (node_work shows e x).pieces
     counts = holds_counts x after (rw first at holds)
 
-    gone_so_far : count + Pieces (nodes_and x after) ≡ n + Pieces all
-    gone_so_far = rw (← first) p.gone
+    visited_so_far : count + Pieces (nodes_and x after) ≡ n + Pieces all
+    visited_so_far = rw (← first) p.visited
 
     -- the first piece ends the run
     pub first_stops : {t : Written} {q : Answer} → Outcome (unlisted_means shows e x) s t (Some q)
         → Outcome (Means all) old t (Some q) × (now ≤ n + (Pieces all + 0))
     first_stops o = (
       p.so_far _ _ (rw first (piece_fault x after shows e _ _ _ o)),
-      omega (arith, gone_so_far, one, piece_stops x after shows e _ _ counts _ o),
+      omega (arith, visited_so_far, one, piece_stops x after shows e _ _ counts _ o),
     )
 
     -- it is a list
@@ -140,7 +140,7 @@ module _ {X : Type 0} (shows : X → Trait → Spec → Shown) (e : Environment 
     first_list listed o = (
       p.so_far _ None (rw first (list_at x after shows e _ _ listed o)),
       rw (p.left, first) (left_here x after listed),
-      omega (arith, gone_so_far, one, none_gone x after shows e listed),
+      omega (arith, visited_so_far, one, none_visited x after shows e listed),
     )
 
     -- it is done
@@ -150,7 +150,7 @@ module _ {X : Type 0} (shows : X → Trait → Spec → Shown) (e : Environment 
       so_far = λ new answer k. p.so_far new answer
           (rw first (piece_runs x after shows e _ _ _ _ other o k));
       left = rw (p.left, first) (left_after x after other);
-      gone = omega (arith, gone_so_far, one, piece_goes x after shows e _ _ counts other o);
+      visited = omega (arith, visited_so_far, one, piece_goes x after shows e _ _ counts other o);
     }
 
   -- the same of the piece of a token

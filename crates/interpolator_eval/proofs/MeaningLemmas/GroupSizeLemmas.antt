@@ -2,7 +2,7 @@
 use Rattle.std.proofs.Common.{◌≡◌, arith, ℕ, ◌≤◌, max, length, Option, None, Some, Ok}
 use Rattle.interpolator_syntax.specs.SpecTexts.{Kind, of_value, of_list}
 use Rattle.interpolator_syntax.specs.Arguments.{Argument, argument_at}
-use Rattle.interpolator_syntax.specs.{At.At, Groups.Group, Lists.ListRequest}
+use Rattle.interpolator_syntax.specs.{Places.At, Groups.Group, Lists.ListRequest}
 use Rattle.interpolator_syntax.proofs.SizeLemmas.{GroupIfIn, KindIn, argument_in}
 
 -- those of a group; none if there is no group

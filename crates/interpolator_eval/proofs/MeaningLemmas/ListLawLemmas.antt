@@ -6,7 +6,8 @@ use Rattle.std.proofs.lemmas.{Grind.common_steps, List.length-map, List.replicat
 use Rattle.interpolator_render.proofs.{LawLemmas.padded_text_count, NumberLemmas.before_within}
 use Rattle.interpolator_render.specs.{declared.view.Trait.Trait, declared.view.Spec.Spec}
 use Rattle.interpolator_render.specs.{Padding.fill_of, Padding.padded_text, Views.Shown}
-use Rattle.interpolator_syntax.specs.{At.Placed, At.placed_at, At.text_of, Arguments.Argument}
+use Rattle.interpolator_syntax.specs.{Places.Placed, Places.placed_at, Places.text_of}
+use Rattle.interpolator_syntax.specs.{Arguments.Argument}
 use Rattle.interpolator_syntax.specs.{Lists.ListRequest, Faults.Fault, Faults.parse, Faults.iter}
 use Rattle.interpolator_eval.specs.Meaning.ListArguments.{FindsList, AllFinish, joined_texts}
 use Rattle.interpolator_eval.specs.Meaning.ListArguments.{FirstFault, in_item, in_join}

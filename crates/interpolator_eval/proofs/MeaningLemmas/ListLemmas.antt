@@ -2,7 +2,7 @@
 use Rattle.std.proofs.Common.{rules, ◌≡◌, ℕ, ◌+◌, ◌<◌, ◌≤◌, List, [], ◌∷◌, map, drop, length}
 use Rattle.std.proofs.Common.{get_or, Option, arith, None, Some, refl}
 use Rattle.std.proofs.lemmas.List.{drop_more, drop_all}
-use Rattle.interpolator_render.specs.Written.{Written}
+use Rattle.interpolator_render.specs.Writers.{Written}
 use Rattle.interpolator_syntax.specs.Faults.{Answer}
 use Rattle.interpolator_eval.specs.Meaning.Meanings.{Meaning, items_after, items_mean}
 use Rattle.interpolator_eval.specs.Meaning.Sinks.{SameEnd, Writes, taken_by}
@@ -35,7 +35,7 @@ module _ {F X W : Type 0} (into : W → Written) (join : Meaning) (joins : Work)
         → Outcome (items_after join item (map slots rest)) (taken_by into s) new answer
         → Outcome (All all) (taken_by into old) new answer
     pub same : SameEnd old s
-    pub gone : count + (work_after join joins item each (map slots rest)).pieces ≡ n + Pieces all
+    pub visited : count + (work_after join joins item each (map slots rest)).pieces ≡ n + Pieces all
 
   module _ (xs : List F) (x : F) (rest : List F) (s t : Sink W) (split : xs ≡ x ∷ rest) where
     -- the first item is done
@@ -44,7 +44,7 @@ module _ {F X W : Type 0} (into : W → Written) (join : Meaning) (joins : Work)
     first_passed n now o exact = record {
       so_far = λ new answer k. rw split (and_then _ _ _ _ _ _ o.outcome k);
       same = o.same;
-      gone = grind (arith, no_fault _ _ _ o.outcome);
+      visited = grind (arith, no_fault _ _ _ o.outcome);
     }
 
 module _ {F X W : Type 0} {into : W → Written} {join : Meaning} {joins : Work} {item : X → Meaning}
@@ -56,7 +56,7 @@ module _ {F X W : Type 0} {into : W → Written} {join : Meaning} {joins : Work}
       × (count ≡ n + Pieces into join joins item each slots all)
   items_done h = (
     goes_on _ _ _ _ _ _ _ p.so_far p.same (search (rules, drop_all i xs h, nothing_done, same_end)),
-    omega (arith, rw (drop_all i xs h) at p.gone),
+    omega (arith, rw (drop_all i xs h) at p.visited),
   )
 
   module _ {x : F} (h : i < length xs) (is : x ≡ get_or xs i x) where
@@ -72,7 +72,7 @@ module _ {F X W : Type 0} {into : W → Written} {join : Meaning} {joins : Work}
         → now ≤ count + joins.pieces → Ends t q now
     join_stops o most = (
       goes_on _ _ _ _ _ _ _ p.so_far p.same (search (rules, next_item, fault_first)),
-      grind (arith, rw next_item at p.gone),
+      grind (arith, rw next_item at p.visited),
     )
 
     module _ {mid now : ℕ} {t u : Sink W} (j : Writes into join s t None)
@@ -83,7 +83,7 @@ module _ {F X W : Type 0} {into : W → Written} {join : Meaning} {joins : Work}
       item_stops o most = (
         goes_on _ _ _ _ _ _ _ p.so_far p.same
             (search (rules, next_item, and_then, fault_first, same_then)),
-        grind (arith, rw next_item at p.gone, no_fault _ _ _ j.outcome),
+        grind (arith, rw next_item at p.visited, no_fault _ _ _ j.outcome),
       )
 
       -- it is done
@@ -93,9 +93,9 @@ module _ {F X W : Type 0} {into : W → Written} {join : Meaning} {joins : Work}
         so_far = λ new answer k. p.so_far new answer (rw next_item
             (and_then _ _ _ _ _ _ j.outcome (and_then _ _ _ _ _ _ o.outcome k)));
         same = same_then _ _ _ p.same (same_then _ _ _ j.same o.same);
-        gone = grind (
+        visited = grind (
           arith,
-          rw next_item at p.gone,
+          rw next_item at p.visited,
           no_fault _ _ _ j.outcome,
           no_fault _ _ _ o.outcome,
         );

@@ -3,7 +3,7 @@ use Rattle.std.proofs.Common.{◌≡◌, ◌∙◌, sym, ap, subst, refl, arith,
 use Rattle.std.proofs.Common.{Some, None, Option, Result}
 use Rattle.interpolator_syntax.specs.Nodes.{Node, Forest, nodes_and, nodes, piece_node, token_node}
 use Rattle.interpolator_syntax.specs.Tokens.{Token, argument, first_token, past_token}
-use Rattle.interpolator_syntax.specs.{Arguments.Argument, Arguments.argument_at, At.At}
+use Rattle.interpolator_syntax.specs.{Arguments.Argument, Arguments.argument_at, Places.At}
 use Rattle.interpolator_syntax.specs.{Faults.Fault, Pieces.argument_from, Pieces.argument_or_broken}
 use Rattle.interpolator_syntax.proofs.LocalityLemmas.{Takes, stands, takes_then}
 use Rattle.interpolator_syntax.proofs.NodeLemmas.{by_token}

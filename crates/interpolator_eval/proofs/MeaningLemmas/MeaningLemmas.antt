@@ -5,7 +5,7 @@ use Rattle.std.proofs.lemmas.List.{map-append}
 use Rattle.std.specs.Char.{len_utf8}
 use Rattle.interpolator_render.specs.{declared.view.Trait.Trait, declared.view.Spec.Spec}
 use Rattle.interpolator_render.specs.Views.{Shown}
-use Rattle.interpolator_syntax.specs.At.{At, placed_from, size}
+use Rattle.interpolator_syntax.specs.Places.{At, placed_from, size}
 use Rattle.interpolator_syntax.specs.Nodes.{Node, as_forest, piece_node, nodes}
 use Rattle.interpolator_syntax.specs.Pieces.{piece_from, past, Piece, pieces}
 use Rattle.interpolator_syntax.specs.{Faults.Fault, Splits.literal_nodes, Splits.node_alone}

@@ -4,7 +4,7 @@ use Rattle.std.proofs.Common.{None, option_map}
 use Rattle.std.proofs.lemmas.List.{map-append, length-map}
 use Rattle.interpolator_render.specs.{declared.view.Trait.Trait, declared.view.Spec.Spec}
 use Rattle.interpolator_render.specs.Views.{Shown}
-use Rattle.interpolator_syntax.specs.At.{At, Placed, placed_at, text_of, outermost}
+use Rattle.interpolator_syntax.specs.Places.{At, Placed, placed_at, text_of, outermost}
 use Rattle.interpolator_syntax.specs.Pieces.{Piece, PieceKind, pieces}
 use Rattle.interpolator_syntax.specs.Moved.{moved_at, moved_group, moved_piece_kind, moved_piece}
 use Rattle.interpolator_syntax.specs.Nodes.{nodes, piece_node}

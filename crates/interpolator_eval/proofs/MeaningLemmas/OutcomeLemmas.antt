@@ -4,8 +4,8 @@ use Rattle.std.proofs.Common.{Some, inl, inr, append_assoc, length-append, Conta
 use Rattle.std.proofs.{lemmas.Grind.common_steps, lemmas.List.map-append, lemmas.List.length-map}
 use Rattle.std.proofs.{Math.ListN.get_or-map, lemmas.List.Elements.Contains-append_right}
 use Rattle.interpolator_render.proofs.LayoutLemmas.{appends_both}
-use Rattle.interpolator_render.specs.Written.{Written}
-use Rattle.interpolator_syntax.specs.{At.Placed, At.text_of, Faults.Fault, Faults.Answer}
+use Rattle.interpolator_render.specs.Writers.{Written}
+use Rattle.interpolator_syntax.specs.{Places.Placed, Places.text_of, Faults.Fault, Faults.Answer}
 use Rattle.interpolator_eval.specs.Meaning.Meanings.{Meaning, or_fault, chain}
 use Rattle.interpolator_eval.specs.Meaning.Outcomes.{Finished, Outcome}
 
@@ -31,7 +31,7 @@ pub after_finished :
     → Outcome k mid new answer → Outcome (chain m k) old new answer
 after_finished m k old mid new answer h (inl o) = rw (no_fault m old mid (inl h)) (inl (record {
   all = rw (text_of-append m.text k.text) (appends_both old mid new _ _ h.all o.all);
-  told = o.told;
+  reported = o.reported;
 }))
 after_finished m k old mid new answer h (inr (inl o)) = rw (no_fault m old mid (inl h))
     (inr (inl (record {
@@ -45,7 +45,7 @@ after_finished m k old mid new answer h (inr (inl o)) = rw (no_fault m old mid (
       none_after_refusal = grind (arith, text_of-append);
       same_origin = o.same_origin ∙ h.all.same_origin;
       over = rw (h.all.same_origin, h.all.same_flag) at o.over;
-      told = o.told;
+      reported = o.reported;
     })))
 after_finished m k old mid new answer h (inr (inr o)) = rw (no_fault m old mid (inl h))
     (inr (inr (record {
@@ -55,7 +55,7 @@ after_finished m k old mid new answer h (inr (inr o)) = rw (no_fault m old mid (
       point = rw (length-append m.text o.front) (Contains-append_right m.memory_points _ _
           (Contains-map (λ n. length m.text + n) k.memory_points _ o.point));
       begun = rw (text_of-append m.text o.front) (appends_both old mid new _ _ h.all o.begun);
-      told = o.told;
+      reported = o.reported;
     })))
 
 -- a fault ends the run: what would come next is neither written nor read

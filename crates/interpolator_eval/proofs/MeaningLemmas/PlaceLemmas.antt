@@ -3,8 +3,8 @@ use Rattle.std.proofs.Common.{◌≡◌, ℕ, ◌+◌, ◌≤◌, List, [], ◌�
 use Rattle.std.proofs.Common.{option_map}
 use Rattle.std.specs.{Char.len_utf8, Prelude.⊤}
 use Rattle.interpolator_render.specs.{declared.view.Trait.Trait, declared.view.Spec.Spec}
-use Rattle.interpolator_render.specs.{Views.Shown, Written.Written}
-use Rattle.interpolator_syntax.specs.At.{At, Placed, placed_at, placed_from, size}
+use Rattle.interpolator_render.specs.{Views.Shown, Writers.Written}
+use Rattle.interpolator_syntax.specs.Places.{At, Placed, placed_at, placed_from, size}
 use Rattle.interpolator_syntax.specs.Faults.{Answer, fault, PlaceWithin}
 use Rattle.interpolator_syntax.specs.Nodes.{Node, node, Branch, no_branch, branch, Forest, no_nodes}
 use Rattle.interpolator_syntax.specs.Nodes.{nodes_and, Content, argument_content, Target}

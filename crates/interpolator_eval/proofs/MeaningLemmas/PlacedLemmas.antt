@@ -7,9 +7,9 @@ use Rattle.std.specs.Char.{len_utf8}
 use Rattle.interpolator_render.specs.declared.{view.Trait.Trait, view.RenderFault.RenderFault}
 use Rattle.interpolator_render.specs.declared.view.RenderFault.TheVariants as render_faults
 use Rattle.interpolator_render.specs.Texts.{ViewText, Renders}
-use Rattle.interpolator_render.specs.Written.{Written, Appends, AppendsBeginning, Refuses, GoesOver}
-use Rattle.interpolator_render.specs.Written.{byte_count, first_size}
-use Rattle.interpolator_syntax.specs.At.{Placed, text_of, placed_at, placed_from, size}
+use Rattle.interpolator_render.specs.Writers.{Written, Appends, AppendsBeginning, Refuses, GoesOver}
+use Rattle.interpolator_render.specs.Writers.{byte_count, first_size}
+use Rattle.interpolator_syntax.specs.Places.{Placed, text_of, placed_at, placed_from, size}
 use Rattle.interpolator_syntax.specs.Faults.{fault, fmt}
 use Rattle.interpolator_eval.specs.Meaning.Meanings.{text_alone, view_means}
 use Rattle.interpolator_eval.specs.Meaning.Outcomes.{Outcome}
@@ -50,7 +50,7 @@ module _ (placed : List ℕ → Placed) (own : (cs : List ℕ) → text_of (plac
         none_after_refusal = rw (own h.beginning) h.none_after_refusal;
         same_origin = h.same_origin;
         over = o;
-        told = refl;
+        reported = refl;
       }))
 
   refused : Outcome (text_alone (placed cs)) old new (Some (fault (fmt (end h.beginning))))

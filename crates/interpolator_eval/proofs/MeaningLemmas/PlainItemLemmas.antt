@@ -4,7 +4,8 @@ use Rattle.std.proofs.Common.{inl, inr, option_map}
 use Rattle.interpolator_render.specs.{declared.view.Spec.Spec, declared.view.Trait.Trait}
 use Rattle.interpolator_render.specs.{declared.view.Trait.TheVariants.Display, Views.Shown}
 use Rattle.interpolator_syntax.specs.Groups.{Group, group_of, inside}
-use Rattle.interpolator_syntax.specs.{Arguments.Argument, Arguments.argument_at, At.At, At.strip}
+use Rattle.interpolator_syntax.specs.{Arguments.Argument, Arguments.argument_at, Places.At}
+use Rattle.interpolator_syntax.specs.{Places.strip}
 use Rattle.interpolator_syntax.specs.{Classes.close_brace, Faults.Fault}
 use Rattle.interpolator_syntax.specs.declared.group.Group as code_group
 use Rattle.interpolator_syntax.specs.Nodes.{Forest, group_branch, no_nodes, nodes, token_node}

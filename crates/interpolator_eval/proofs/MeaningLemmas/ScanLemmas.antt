@@ -2,14 +2,15 @@
 -- the outcome of an argument, from that of its value.
 use Rattle.std.proofs.Common.{◌≡◌, ◌≢◌, refl, arith, ℕ, true, false, [], Option, None, Some}
 use Rattle.std.proofs.Common.{option_map, Ok, Err}
-use Rattle.interpolator_render.specs.{Written.Written, declared.view.Trait.Trait}
+use Rattle.interpolator_render.specs.{Writers.Written, declared.view.Trait.Trait}
 use Rattle.interpolator_render.specs.{declared.view.Spec.Spec, Views.Shown}
 use Rattle.interpolator_syntax.specs.Arguments.{Argument, argument_at, argument_after, asked_at}
 use Rattle.interpolator_syntax.specs.Arguments.{named_argument, plain_argument}
 use Rattle.interpolator_syntax.specs.Nodes.{Node, no_nodes, nodes_and, nodes, group_branch}
 use Rattle.interpolator_syntax.specs.Nodes.{piece_node, token_node}
 use Rattle.interpolator_syntax.specs.Tokens.{Token, first_token, past_token, argument}
-use Rattle.interpolator_syntax.specs.{At.At, At.at, At.strip, Classes.close_brace, Faults.Fault}
+use Rattle.interpolator_syntax.specs.{Places.At, Places.at, Places.strip, Classes.close_brace}
+use Rattle.interpolator_syntax.specs.{Faults.Fault}
 use Rattle.interpolator_syntax.specs.{Faults.Answer, Faults.fault, Lists.ListRequest}
 use Rattle.interpolator_syntax.specs.{Pieces.argument_from, Pieces.argument_step, SpecTexts.Request}
 use Rattle.interpolator_syntax.specs.{SpecTexts.of_value, SpecTexts.of_list}
@@ -64,10 +65,10 @@ module _ (a : At) (p : ℕ) where
     -- one that is a value
     module _ (t : Trait) (value : x.kind ≡ of_value t) where
       -- what follows it, if it is closed
-      pub value_told : (rest : At) → strip close_brace q ≡ Some rest
+      pub value_reported : (rest : At) → strip close_brace q ≡ Some rest
           → (asks_list Here ≡ false) × (rest ≡ (argument_from a.place a).rest)
       unfolding argument_from
-      value_told rest d = grind (arith, here_is)
+      value_reported rest d = grind (arith, here_is)
 
       module _ {X : Type 0} (shows : X → Trait → Spec → Shown) (e : Environment X) where
         -- it means its value, and then the missing brace
@@ -97,10 +98,10 @@ module _ (a : At) (p : ℕ) where
       }
 
       -- it is a list, and the first
-      pub list_told : (asks_list Here ≡ true) × FirstAsks Asked (option_map text_forest (strip close_brace q))
+      pub list_reported : (asks_list Here ≡ true) × FirstAsks Asked (option_map text_forest (strip close_brace q))
           (nodes_and Here (text_forest (argument_from a.place a).rest))
       unfolding argument_from
-      list_told = grind (arith, asks_for_list)
+      list_reported = grind (arith, asks_for_list)
 
 -- ---- a text by its first token
 

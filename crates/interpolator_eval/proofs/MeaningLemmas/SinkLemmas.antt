@@ -1,9 +1,9 @@
 -- What is written to a sink, one after another.
 use Rattle.std.proofs.Common.{ap, length, length-append, rules, ◌≡◌, ℕ, [], ◌∷◌, Option, None, Some}
 use Rattle.std.proofs.Common.{option_map, false, inl, inr, arith, refl}
-use Rattle.interpolator_render.specs.{declared.view.Spec.Spec, Written.Written}
+use Rattle.interpolator_render.specs.{declared.view.Spec.Spec, Writers.Written}
 use Rattle.interpolator_render.proofs.LayoutLemmas.{appends_none}
-use Rattle.interpolator_syntax.specs.At.{text_of}
+use Rattle.interpolator_syntax.specs.Places.{text_of}
 use Rattle.interpolator_syntax.specs.Faults.{Fault, Answer, fault, no_memory}
 use Rattle.interpolator_eval.specs.Meaning.Meanings.{Meaning, nothing, fault_alone, buffered_means}
 use Rattle.interpolator_eval.specs.Meaning.Meanings.{chain, fault_wanting_memory}
@@ -25,7 +25,7 @@ fault_first m k s t q h = grind (arith, before_fault)
 -- if no text is meant, nothing is written
 stops : (m : Meaning) (s : Written) (answer : Option Answer) → m.text ≡ []
     → answer ≡ option_map fault m.fault → Outcome m s s answer
-stops m s answer none told = grind (arith, appends_none)
+stops m s answer none reported = grind (arith, appends_none)
 
 pub nothing_done : (s : Written) → Outcome nothing s s None
 nothing_done s = grind (arith, stops)
@@ -35,7 +35,7 @@ ended f s = grind (arith, stops)
 
 -- if nothing is meant, no fault is returned
 pub nothing_fails : (s t : Written) (q : Answer) → Outcome nothing s t (Some q) → ⊥
-nothing_fails s t q (inl k) = let told = k.told in cc
+nothing_fails s t q (inl k) = let reported = k.reported in cc
 nothing_fails s t q (inr (inl k)) =
     omega (arith, ap length k.split, length-append k.front ((k.c, k.place) ∷ k.back))
 nothing_fails s t q (inr (inr k)) = omega (arith, k.point.1)
@@ -68,11 +68,11 @@ module _ (spec : Spec) (q : ℕ) where
   pub whole_fault : (m : Meaning) (out empty now : Written) (f : Answer) → now.refused ≡ false
       → Outcome m empty now (Some f)
       → Outcome (buffered_means spec q m.fault (text_of m.text)) out out (Some f)
-  whole_fault m out empty now f kept (inl o) = told m.fault o.told
+  whole_fault m out empty now f kept (inl o) = reported m.fault o.reported
     where
-      told : (g : Option Fault) → Some f ≡ option_map fault g
+      reported : (g : Option Fault) → Some f ≡ option_map fault g
           → Outcome (buffered_means spec q g (text_of m.text)) out out (Some f)
-      told None e = absurd (let same = e in cc)
-      told (Some x) e = stops (fault_wanting_memory x) out (Some f) refl e
+      reported None e = absurd (let same = e in cc)
+      reported (Some x) e = stops (fault_wanting_memory x) out (Some f) refl e
   whole_fault m out empty now f kept (inr (inl o)) = absurd (let set = o.flag in cc)
-  whole_fault m out empty now f kept (inr (inr o)) = rw o.told (whole_refused m out)
+  whole_fault m out empty now f kept (inr (inr o)) = rw o.reported (whole_refused m out)

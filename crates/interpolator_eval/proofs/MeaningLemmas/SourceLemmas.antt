@@ -2,7 +2,7 @@
 -- gone through, and how many there are.
 use Rattle.std.proofs.Common.{rules, ◌≡◌, ◌∙◌, refl, sym, arith, ℕ, suc, ◌+◌, ◌<◌, ◌≤◌, Option}
 use Rattle.std.proofs.Common.{None, Some, if◌then◌else◌}
-use Rattle.interpolator_render.specs.{Written.Written, declared.view.Trait.Trait}
+use Rattle.interpolator_render.specs.{Writers.Written, declared.view.Trait.Trait}
 use Rattle.interpolator_render.specs.{declared.view.Spec.Spec, Views.Shown}
 use Rattle.interpolator_syntax.specs.Nodes.{Node, node, Branch, no_branch, branch, Forest, no_nodes}
 use Rattle.interpolator_syntax.specs.Nodes.{nodes_and, argument_content, target_list}
@@ -59,8 +59,8 @@ module _ {X : Type 0} (shows : X → Trait → Spec → Shown) (e : Environment 
   abbrev All : Forest → Meaning
   All xs = forest_means shows e xs
 
-  abbrev Gone : Forest → ℕ
-  Gone xs = (forest_work shows e xs).pieces
+  abbrev Visited : Forest → ℕ
+  Visited xs = (forest_work shows e xs).pieces
 
   -- ---- what they mean
 
@@ -72,13 +72,13 @@ module _ {X : Type 0} (shows : X → Trait → Spec → Shown) (e : Environment 
   -- ---- how many are gone through
 
   -- those before the first list
-  before_stops : (xs : Forest) → Gone (before_list xs) ≤ Gone xs
+  before_stops : (xs : Forest) → Visited (before_list xs) ≤ Visited xs
   before_stops no_nodes = omega arith
   before_stops (nodes_and x xs) = grind (arith, before_stops xs)
 
   -- and, if they are done, those from it on
   before_goes : (xs : Forest) → (All (before_list xs)).fault ≡ None
-      → Gone (before_list xs) + Gone (from_list xs) ≡ Gone xs
+      → Visited (before_list xs) + Visited (from_list xs) ≡ Visited xs
   before_goes no_nodes none = refl
   before_goes (nodes_and x xs) none = grind (arith, before_goes xs)
 
@@ -97,10 +97,10 @@ module _ {X : Type 0} (shows : X → Trait → Spec → Shown) (e : Environment 
         ≡ chain (All (before_list xs)) (chain (list_with_brace shows e x after) (All h.rest))
     list_split = grind (arith, means_split, argument_is)
 
-    from_gone : Gone (from_list xs)
+    from_visited : Visited (from_list xs)
         ≡ (or_stop (list_with_brace shows e x after).fault (node_work shows e First)
         (forest_work shows e h.rest)).pieces
-    from_gone = grind (arith, argument_is)
+    from_visited = grind (arith, argument_is)
 
   -- ---- what is written before the first list, and then from it on
 
@@ -138,44 +138,44 @@ module _ {X : Type 0} (shows : X → Trait → Spec → Shown) (e : Environment 
           → Outcome (All rest) (taken_by written s) new answer
           → Outcome (All all) (taken_by written old) new answer
       pub same : SameEnd old s
-      pub gone : count + Gone rest ≡ n + Gone all
+      pub visited : count + Visited rest ≡ n + Visited all
 
 module _ {X : Type 0} {shows : X → Trait → Spec → Shown} {e : Environment X} {W : Type 0}
     {written : W → Written} {all xs : Forest} {old s : Sink W} {n count : ℕ}
     (p : ListsPassed shows e written all xs old s n count) {t : Sink W} {mid : ℕ} where
   -- what comes before the first list ends the run
   pub before_ends : {q : Answer} → Writes written (All shows e (before_list xs)) s t (Some q)
-      → mid ≤ count + Gone shows e (before_list xs)
-      → Writes written (All shows e all) old t (Some q) × (mid ≤ n + Gone shows e all)
+      → mid ≤ count + Visited shows e (before_list xs)
+      → Writes written (All shows e all) old t (Some q) × (mid ≤ n + Visited shows e all)
   before_ends o most = (
     goes_on _ _ _ _ _ _ _ p.so_far p.same (search (rules, means_split shows e xs, fault_first)),
-    omega (arith, p.gone, before_stops shows e xs),
+    omega (arith, p.visited, before_stops shows e xs),
   )
 
   module _ (before : Writes written (All shows e (before_list xs)) s t None) where
     -- nothing comes after it
-    pub all_done : from_list xs ≡ no_nodes → mid ≡ count + Gone shows e (before_list xs)
-        → Writes written (All shows e all) old t None × (mid ≡ n + Gone shows e all)
+    pub all_done : from_list xs ≡ no_nodes → mid ≡ count + Visited shows e (before_list xs)
+        → Writes written (All shows e all) old t None × (mid ≡ n + Visited shows e all)
     all_done none exact = (
       goes_on _ _ _ _ _ _ _ p.so_far p.same
           (search (rules, means_split shows e xs, none, and_then, nothing_done)),
-      grind (arith, p.gone, before_goes shows e xs (no_fault _ _ _ before.outcome)),
+      grind (arith, p.visited, before_goes shows e xs (no_fault _ _ _ before.outcome)),
     )
 
     module _ {x : ListArgument} {after : Option Forest} (h : FirstAsks x after (from_list xs))
-        (exact : mid ≡ count + (Gone shows e (before_list xs) + 1)) {u : Sink W} {now : ℕ} where
+        (exact : mid ≡ count + (Visited shows e (before_list xs) + 1)) {u : Sink W} {now : ℕ} where
       -- the first list ends the run
       pub list_ends : {q : Answer} → Writes written (list_with_brace shows e x after) t u (Some q)
           → now ≤ mid + (list_work shows e x).pieces
-          → Writes written (All shows e all) old u (Some q) × (now ≤ n + Gone shows e all)
+          → Writes written (All shows e all) old u (Some q) × (now ≤ n + Visited shows e all)
       list_ends o most = (
         goes_on _ _ _ _ _ _ _ p.so_far p.same
             (search (rules, list_split shows e x after xs h, and_then, fault_first, same_then)),
         grind (
           arith,
-          p.gone,
+          p.visited,
           before_goes shows e xs (no_fault _ _ _ before.outcome),
-          from_gone shows e x after xs h,
+          from_visited shows e x after xs h,
         ),
       )
 
@@ -184,16 +184,16 @@ module _ {X : Type 0} {shows : X → Trait → Spec → Shown} {e : Environment 
           → Writes written (list_with_brace shows e x after) t u None
           → now ≡ mid + (list_work shows e x).pieces
           → ListsPassed shows e written all rest old u n now
-      list_passed is o gone = record {
+      list_passed is o visited = record {
         so_far = λ new answer k. p.so_far new answer
             (rw (list_split shows e x after xs h, brace_rest h.kind h.rest _ (sym h.closing ∙ is))
             (and_then _ _ _ _ _ _ before.outcome (and_then _ _ _ _ _ _ o.outcome k)));
         same = same_then _ _ _ p.same (same_then _ _ _ before.same o.same);
-        gone = grind (
+        visited = grind (
           arith,
-          p.gone,
+          p.visited,
           before_goes shows e xs (no_fault _ _ _ before.outcome),
-          from_gone shows e x after xs h,
+          from_visited shows e x after xs h,
           no_fault _ _ _ o.outcome,
           brace_rest h.kind h.rest _ (sym h.closing ∙ is),
         );

@@ -4,7 +4,7 @@ use Rattle.std.specs.Prelude.{◌≡◌, ℕ, zero, suc, Bool, true, false, List
 use Rattle.std.specs.Prelude.{Option, None, Some}
 use Rattle.interpolator_syntax.specs.SpecTexts.{Kind, of_value, of_list}
 use Rattle.interpolator_syntax.specs.Pieces.{Piece, PieceKind, closed, unclosed, pieces}
-use Rattle.interpolator_syntax.specs.{At.At, Groups.Group, Groups.inside, Arguments.Argument}
+use Rattle.interpolator_syntax.specs.{Places.At, Groups.Group, Groups.inside, Arguments.Argument}
 
 -- a name that is not empty
 abbrev pub is_named : List ℕ → Bool

@@ -1,6 +1,6 @@
 -- The names that a text looks up in its environment, computed from its tree.
 use Rattle.std.specs.Prelude.{ℕ, Bool, true, false, ⊤, ◌≡◌, List, [], ◌∷◌, ◌++◌, Option, None, Some}
-use Rattle.interpolator_syntax.specs.At.{At}
+use Rattle.interpolator_syntax.specs.Places.{At}
 use Rattle.interpolator_syntax.specs.Nodes.{Node, node, Branch, no_branch, branch, as_forest}
 use Rattle.interpolator_syntax.specs.Nodes.{Forest, no_nodes, nodes_and, nodes}
 use Rattle.interpolator_syntax.specs.Nodes.{Content, text_content, argument_content, fault_content}

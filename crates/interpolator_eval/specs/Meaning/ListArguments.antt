@@ -2,7 +2,7 @@
 use Rattle.std.specs.Prelude.{◌≡◌, ℕ, ⊤, ◌⊎◌, List, [], ◌∷◌, ◌++◌, flat_map, None, Some}
 use Rattle.interpolator_render.specs.{declared.view.Trait.Trait, declared.view.Spec.Spec}
 use Rattle.interpolator_render.specs.Views.{Shown}
-use Rattle.interpolator_syntax.specs.{At.Placed, Lists.ListRequest, SpecTexts.of_list}
+use Rattle.interpolator_syntax.specs.{Places.Placed, Lists.ListRequest, SpecTexts.of_list}
 use Rattle.interpolator_syntax.specs.{Arguments.Argument, Faults.Fault}
 use Rattle.interpolator_eval.specs.Slots.{Slots, items}
 use Rattle.interpolator_eval.specs.Meaning.Choices.{chosen_items}

@@ -1,7 +1,7 @@
 -- Lists: what is written for the list under a name, and a text that is made whole.
 use Rattle.std.specs.Prelude.{◌≡◌, ℕ, List, Option, Some, option_map}
-use Rattle.interpolator_render.specs.{declared.view.Spec.Spec, Written.Written}
-use Rattle.interpolator_syntax.specs.{At.text_of, declared.range.Range.Range}
+use Rattle.interpolator_render.specs.{declared.view.Spec.Spec, Writers.Written}
+use Rattle.interpolator_syntax.specs.{Places.text_of, declared.range.Range.Range}
 use Rattle.interpolator_syntax.specs.{declared.error.Error.Error, Faults.answer_of}
 use Rattle.interpolator_eval.specs.Slots.{Slots, items}
 use Rattle.interpolator_eval.specs.Meaning.Environments.{Environment, slots_under}

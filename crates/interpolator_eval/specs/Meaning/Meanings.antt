@@ -7,7 +7,7 @@ use Rattle.interpolator_render.specs.declared.view.Sign.{Sign}
 use Rattle.interpolator_render.specs.declared.view.Sign.TheVariants as signs
 use Rattle.interpolator_render.specs.Texts.{ViewText, has_text, has_no_text, has_failed, view_text}
 use Rattle.interpolator_render.specs.{declared.view.Spec.Spec, Padding.padded_text, Views.Shown}
-use Rattle.interpolator_syntax.specs.At.{At, Placed, placed_at, placed_from, text_of}
+use Rattle.interpolator_syntax.specs.Places.{At, Placed, placed_at, placed_from, text_of}
 use Rattle.interpolator_syntax.specs.Faults.{Fault, missing_value, missing_trait_impl, fmt, parse}
 use Rattle.interpolator_syntax.specs.Faults.{expected, iter}
 use Rattle.interpolator_syntax.specs.Nodes.{Node, node, Branch, no_branch, branch, as_forest}

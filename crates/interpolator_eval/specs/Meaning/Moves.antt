@@ -1,6 +1,6 @@
 -- What a meaning is at another base: the same, with every place moved by `by` bytes.
 use Rattle.std.specs.Prelude.{ℕ, ◌+◌, map, option_map}
-use Rattle.interpolator_syntax.specs.{At.Placed, Moved.moved_fault}
+use Rattle.interpolator_syntax.specs.{Places.Placed, Moved.moved_fault}
 use Rattle.interpolator_eval.specs.Meaning.Meanings.{Meaning}
 
 module _ (by : ℕ) where

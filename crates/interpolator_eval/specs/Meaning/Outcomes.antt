@@ -3,9 +3,9 @@ use Rattle.std.specs.Prelude.{◌≡◌, ℕ, [], ◌∷◌, ◌++◌, length, C
 use Rattle.std.specs.Prelude.{option_map, true, ◌⊎◌, Result, MatchResult, string_bytes, encode_utf8}
 use Rattle.std.specs.Prelude.{◌+◌}
 use Rattle.std.specs.{Str.chars, declared.string.String.String}
-use Rattle.interpolator_render.specs.Written.{Written, Appends, GoesOver, byte_count}
+use Rattle.interpolator_render.specs.Writers.{Written, Appends, GoesOver, byte_count}
 use Rattle.interpolator_syntax.specs.Faults.{Answer, fault, no_memory, fmt, answer_of}
-use Rattle.interpolator_syntax.specs.{declared.error.Error.Error, At.Placed, At.text_of}
+use Rattle.interpolator_syntax.specs.{declared.error.Error.Error, Places.Placed, Places.text_of}
 use Rattle.interpolator_eval.specs.Meaning.Meanings.{Meaning}
 
 -- a meaning, what the writer had taken before and has after, and what was returned
@@ -13,7 +13,7 @@ module _ (m : Meaning) (old new : Written) (answer : Option Answer) where
   -- all of the meaning's text is appended, and its fault is returned, or Ok if it has none
   pub record Finished : Type 0 where
     pub all : Appends old (text_of m.text) new
-    pub told : answer ≡ option_map fault m.fault
+    pub reported : answer ≡ option_map fault m.fault
 
   -- a proper beginning of the text is appended, or none of it if the writer had refused before;
   -- `Fmt` is returned, at the place of the first character that was not appended. Of a writer that
@@ -30,7 +30,7 @@ module _ (m : Meaning) (old new : Written) (answer : Option Answer) where
     pub same_origin : new.origin ≡ old.origin
     pub over : GoesOver old.origin.bound old.refused
         (byte_count new.text + length (encode_utf8 c))
-    pub told : answer ≡ Some (fault (fmt place))
+    pub reported : answer ≡ Some (fault (fmt place))
 
   -- memory ran out: exactly the characters before one of the memory points are appended
   pub record WantsMemory : Type 0 where
@@ -39,7 +39,7 @@ module _ (m : Meaning) (old new : Written) (answer : Option Answer) where
     pub split : m.text ≡ front ++ back
     pub point : Contains m.memory_points (length front)
     pub begun : Appends old (text_of front) new
-    pub told : answer ≡ Some no_memory
+    pub reported : answer ≡ Some no_memory
 
   -- finished, refused by the writer, or out of memory
   abbrev pub Outcome : Type 0

@@ -1,7 +1,7 @@
 -- What the scan of a text keeps of a list that it met.
 use Rattle.std.specs.Prelude.{◌≡◌, ℕ, ◌+◌, List, ◌++◌, true, false, Option, None, Some, option_map}
 use Rattle.std.specs.Str.{chars}
-use Rattle.interpolator_syntax.specs.At.{At, at, size, strip}
+use Rattle.interpolator_syntax.specs.Places.{At, at, size, strip}
 use Rattle.interpolator_syntax.specs.Nodes.{Forest, no_nodes, nodes_and, as_forest, nodes}
 use Rattle.interpolator_syntax.specs.Nodes.{group_branch, token_node}
 use Rattle.interpolator_syntax.specs.{Arguments.list_of, Classes.close_brace, Pieces.argument_from}
@@ -31,12 +31,12 @@ scanned_rest l = option_map text_forest (strip close_brace (at l.end))
 
 -- the result for an argument that begins at a, after a brace at p: None if it is this list, or what
 -- follows it if it is no list
-abbrev pub ArgumentTold : (p : ℕ) → (a : At) → ScannedList → Option Cursor → Type 0
-ArgumentTold p a l None =
+abbrev pub ArgumentReported : (p : ℕ) → (a : At) → ScannedList → Option Cursor → Type 0
+ArgumentReported p a l None =
     (asks_list (token_node nodes p argument a) ≡ true)
     × FirstAsks (scanned_list l) (scanned_rest l)
     (nodes_and (token_node nodes p argument a) (text_forest (argument_from a.place a).rest))
-ArgumentTold p a l (Some rest) =
+ArgumentReported p a l (Some rest) =
     (asks_list (token_node nodes p argument a) ≡ false)
     × (at rest ≡ (argument_from a.place a).rest)
 

@@ -1,6 +1,6 @@
 -- What is written to a sink: a writer, or a buffer in its place.
 use Rattle.std.specs.Prelude.{◌≡◌, ◌⊎◌, ℕ, ◌-◌, ◌^◌, Option, None, Some, Result, Ok, Err}
-use Rattle.interpolator_render.specs.{Written.Written, Bounds.bounded_writer, Bounds.bytes_left}
+use Rattle.interpolator_render.specs.{Writers.Written, Bounds.bounded_writer, Bounds.bytes_left}
 use Rattle.interpolator_syntax.specs.Faults.{Answer, fault, missing_trait_impl, fmt}
 use Rattle.interpolator_eval.specs.declared.evaluate.sink.Sink.TheVariants.{Writer, Buffer}
 use Rattle.interpolator_eval.specs.declared.evaluate.sink.WriteFault.TheVariants.{MissingTraitImpl}

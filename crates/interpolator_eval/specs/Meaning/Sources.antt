@@ -10,7 +10,7 @@ use Rattle.interpolator_syntax.specs.Nodes.{target_value, target_list}
 use Rattle.interpolator_syntax.specs.Groups.{Group, group_of}
 use Rattle.interpolator_syntax.specs.declared.piece_kind.PieceKind.TheVariants.{Closed, Literal}
 use Rattle.interpolator_syntax.specs.declared.piece_kind.PieceKind.TheVariants.{Unclosed}
-use Rattle.interpolator_syntax.specs.{At.placed_from, declared.piece_kind.PieceKind.PieceKind}
+use Rattle.interpolator_syntax.specs.{Places.placed_from, declared.piece_kind.PieceKind.PieceKind}
 use Rattle.interpolator_syntax.specs.{SpecTexts.plain_spec, declared.range.Range.Range}
 use Rattle.interpolator_eval.specs.Slots.{Slots, items}
 use Rattle.interpolator_eval.specs.declared.evaluate.plain_item.PlainItem.{PlainItem}

@@ -7,7 +7,7 @@ use Rattle.interpolator_syntax.specs.Nodes.{Node, node, Branch, no_branch, branc
 use Rattle.interpolator_syntax.specs.Nodes.{nodes_and, as_forest, nodes, Content, text_content}
 use Rattle.interpolator_syntax.specs.Nodes.{argument_content, fault_content, Target, target_value}
 use Rattle.interpolator_syntax.specs.Nodes.{target_list}
-use Rattle.interpolator_syntax.specs.{At.At, Faults.Fault, declared.range.Range.Range}
+use Rattle.interpolator_syntax.specs.{Places.At, Faults.Fault, declared.range.Range.Range}
 use Rattle.interpolator_eval.specs.Meaning.Environments.{Environment, slots_under, bind}
 use Rattle.interpolator_eval.specs.Meaning.Meanings.{Meaning, forbids_list, items_mean}
 use Rattle.interpolator_eval.specs.Meaning.Meanings.{join_branch_means, item_branch_means}

@@ -108,7 +108,7 @@ impl<'a, C: Context> Environment<'a, C, C::Object> {
     /// Returns the fault of an absent name, which is copied; `NoMemory` if it cannot be.
     #[inline(never)]
     pub fn missing(&self, name: &str, start: usize) -> Error
-        ensures told { (answer_of result ≡ fault (missing_value (chars name.now) start))
+        ensures reported { (answer_of result ≡ fault (missing_value (chars name.now) start))
             ⊎ (answer_of result ≡ no_memory) }
     {
         match String::from_str(self.alloc, name) {

@@ -36,7 +36,7 @@ pub fn write_source<'a, W: TextWrite, C: Context, E: Escaper, S: FormatSource, L
         (forest_means (shows_by E.shown C.Object.shows) (environment_of C.finds environment.now)
         (S.tree source))
         sink.old sink.new (result_answer result) }
-    ensures gone { count.new ≤ count.old + (forest_work (shows_by E.shown C.Object.shows)
+    ensures visited { count.new ≤ count.old + (forest_work (shows_by E.shown C.Object.shows)
         (environment_of C.finds environment.now) (S.tree source)).pieces }
     ensures exact { IfOk result (λ _. count.new ≡ count.old + (forest_work
         (shows_by E.shown C.Object.shows)
@@ -65,7 +65,7 @@ fn write_argument<'a, W: TextWrite, C: Context, E: Escaper, S: FormatSource, L: 
         (S.follows list.now))
         sink.old sink.new (result_answer result) }
     ensures rest { IfOk result (λ rest. S.follows list.now ≡ Some (S.tree rest)) }
-    ensures gone { count.new ≤ count.old + (list_work (shows_by E.shown C.Object.shows)
+    ensures visited { count.new ≤ count.old + (list_work (shows_by E.shown C.Object.shows)
         (environment_of C.finds environment.now) (S.asks list.now)).pieces }
     ensures exact { IfOk result (λ _. count.new ≡ count.old + (list_work
         (shows_by E.shown C.Object.shows)
@@ -92,7 +92,7 @@ fn write_list<'a, W: TextWrite, C: Context, E: Escaper, S: FormatSource, L: Ledg
         (list_meaning (shows_by E.shown C.Object.shows) (environment_of C.finds environment.now)
         (S.asks list.now))
         sink.old sink.new (result_answer result) }
-    ensures gone { count.new ≤ count.old + (list_work (shows_by E.shown C.Object.shows)
+    ensures visited { count.new ≤ count.old + (list_work (shows_by E.shown C.Object.shows)
         (environment_of C.finds environment.now) (S.asks list.now)).pieces }
     ensures exact { IfOk result (λ _. count.new ≡ count.old + (list_work
         (shows_by E.shown C.Object.shows)
@@ -129,7 +129,7 @@ fn write_padded_list<'a, W: TextWrite, C: Context, E: Escaper, S: FormatSource, 
         (S.asks list.now)
         (map slots_of items.now)))
         sink.old sink.new (result_answer result) }
-    ensures gone { count.new ≤ count.old + (list_items_work (shows_by E.shown C.Object.shows)
+    ensures visited { count.new ≤ count.old + (list_items_work (shows_by E.shown C.Object.shows)
         (environment_of C.finds environment.now) (S.asks list.now)
         (map slots_of items.now)).pieces }
     ensures exact { IfOk result (λ _. count.new ≡ count.old + (list_items_work

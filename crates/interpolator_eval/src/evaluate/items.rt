@@ -38,7 +38,7 @@ pub(super) fn write_items<'a, W: TextWrite, C: Context, E: Escaper, S: FormatSou
         (S.asks list.now)
         (map slots_of items.now))
         sink.old sink.new (result_answer result) }
-    ensures gone { count.new ≤ count.old + (list_items_work (shows_by E.shown C.Object.shows)
+    ensures visited { count.new ≤ count.old + (list_items_work (shows_by E.shown C.Object.shows)
         (environment_of C.finds environment.now) (S.asks list.now)
         (map slots_of items.now)).pieces }
     ensures exact { IfOk result (λ _. count.new ≡ count.old + (list_items_work
@@ -66,7 +66,7 @@ pub(super) fn write_several<'a, W: TextWrite, C: Context, E: Escaper, S: FormatS
         (S.asks list.now)
         (map slots_of items.now))
         sink.old sink.new (result_answer result) }
-    ensures gone { count.new ≤ count.old + (list_items_work (shows_by E.shown C.Object.shows)
+    ensures visited { count.new ≤ count.old + (list_items_work (shows_by E.shown C.Object.shows)
         (environment_of C.finds environment.now) (S.asks list.now)
         (map slots_of items.now)).pieces }
     ensures exact { IfOk result (λ _. count.new ≡ count.old + (list_items_work
@@ -101,7 +101,7 @@ fn write_plain_items<'a, W: TextWrite, C: Context, E: Escaper, S: FormatSource, 
         (S.asks list.now)
         (map slots_of items.now))
         sink.old sink.new (result_answer result) }
-    ensures gone { count.new ≤ count.old + (list_items_work (shows_by E.shown C.Object.shows)
+    ensures visited { count.new ≤ count.old + (list_items_work (shows_by E.shown C.Object.shows)
         (environment_of C.finds environment.now) (S.asks list.now)
         (map slots_of items.now)).pieces }
     ensures exact { IfOk result (λ _. count.new ≡ count.old + (list_items_work
@@ -140,7 +140,7 @@ fn write_each<'a, W: TextWrite, C: Context, E: Escaper, S: FormatSource, L: Ledg
         (S.asks list.now)
         (map slots_of items.now))
         sink.old sink.new (result_answer result) }
-    ensures gone { count.new ≤ count.old + (list_items_work (shows_by E.shown C.Object.shows)
+    ensures visited { count.new ≤ count.old + (list_items_work (shows_by E.shown C.Object.shows)
         (environment_of C.finds environment.now) (S.asks list.now)
         (map slots_of items.now)).pieces }
     ensures exact { IfOk result (λ _. count.new ≡ count.old + (list_items_work
@@ -179,7 +179,7 @@ fn write_item<'a, W: TextWrite, C: Context, E: Escaper, S: FormatSource, L: Ledg
         (S.asks list.now)
         (slots_of item.now))
         sink.old sink.new (result_answer result) }
-    ensures gone { count.new ≤ count.old + (list_item_work (shows_by E.shown C.Object.shows)
+    ensures visited { count.new ≤ count.old + (list_item_work (shows_by E.shown C.Object.shows)
         (environment_of C.finds environment.now) (S.asks list.now) (slots_of item.now)).pieces }
     ensures exact { IfOk result (λ _. count.new ≡ count.old + (list_item_work
         (shows_by E.shown C.Object.shows)
@@ -207,7 +207,7 @@ pub(super) fn write_formatted<'a, W: TextWrite, C: Context, E: Escaper, S: Forma
         (S.asks list.now)
         (slots_of item.now))
         sink.old sink.new (result_answer result) }
-    ensures gone { count.new ≤ count.old + (list_item_work (shows_by E.shown C.Object.shows)
+    ensures visited { count.new ≤ count.old + (list_item_work (shows_by E.shown C.Object.shows)
         (environment_of C.finds environment.now) (S.asks list.now) (slots_of item.now)).pieces }
     ensures exact { IfOk result (λ _. count.new ≡ count.old + (list_item_work
         (shows_by E.shown C.Object.shows)
@@ -253,7 +253,7 @@ fn write_join<'a, W: TextWrite, C: Context, E: Escaper, S: FormatSource, L: Ledg
         (list_join (shows_by E.shown C.Object.shows) (environment_of C.finds environment.now)
         (S.asks list.now))
         sink.old sink.new (result_answer result) }
-    ensures gone { count.new ≤ count.old + (list_join_work (shows_by E.shown C.Object.shows)
+    ensures visited { count.new ≤ count.old + (list_join_work (shows_by E.shown C.Object.shows)
         (environment_of C.finds environment.now) (S.asks list.now)).pieces }
     ensures exact { IfOk result (λ _. count.new ≡ count.old + (list_join_work
         (shows_by E.shown C.Object.shows)
@@ -283,7 +283,7 @@ fn write_formatted_join<'a, W: TextWrite, C: Context, E: Escaper, S: FormatSourc
         (list_join (shows_by E.shown C.Object.shows) (environment_of C.finds environment.now)
         (S.asks list.now))
         sink.old sink.new (result_answer result) }
-    ensures gone { count.new ≤ count.old + (list_join_work (shows_by E.shown C.Object.shows)
+    ensures visited { count.new ≤ count.old + (list_join_work (shows_by E.shown C.Object.shows)
         (environment_of C.finds environment.now) (S.asks list.now)).pieces }
     ensures exact { IfOk result (λ _. count.new ≡ count.old + (list_join_work
         (shows_by E.shown C.Object.shows)

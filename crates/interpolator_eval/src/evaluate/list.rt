@@ -25,7 +25,7 @@ pub fn forbids_list(spec: &Spec) -> bool
 }
 
 /// Returns the index that a bound stands for in a list of `len` items.
-fn place_of(bound: isize, len: usize) -> usize
+fn index_of_bound(bound: isize, len: usize) -> usize
     ensures { result ≡ bound_in len bound }
 {
     if bound < 0 {
@@ -56,11 +56,11 @@ pub fn chosen(len: usize, range: Option<Range>) -> (usize, usize)
         return (0, len);
     };
     let lower = match range.lower {
-        Some(bound) => place_of(bound, len),
+        Some(bound) => index_of_bound(bound, len),
         None => 0,
     };
     let upper = match range.upper {
-        Some(bound) => place_of(bound, len),
+        Some(bound) => index_of_bound(bound, len),
         None => len,
     };
     let past = if range.inclusive {

@@ -58,7 +58,7 @@ pub fn write_by_plain_format<'a, W: TextWrite, V: Value, E: Escaper, L: Ledger>(
         (option_map group_of plain.entry.after)
         (plain_item_means (shows_by E.shown V.shows) plain.entry.place (slots_of item.now)))
         sink.old sink.new (result_answer result) }
-    ensures gone { count.new ≤ count.old + framed_pieces (option_map group_of plain.entry.before)
+    ensures visited { count.new ≤ count.old + framed_pieces (option_map group_of plain.entry.before)
         (option_map group_of plain.entry.after)
         (plain_item_means (shows_by E.shown V.shows) plain.entry.place (slots_of item.now)).fault }
     ensures exact { IfOk result (λ _. count.new ≡ count.old
@@ -89,7 +89,7 @@ fn write_framed<'a, W: TextWrite, V: Value, E: Escaper, L: Ledger>(
         (option_map group_of plain.entry.after)
         (plain_item_means (shows_by E.shown V.shows) plain.entry.place (slots_of item.now)))
         sink.old sink.new (result_answer result) }
-    ensures gone { count.new ≤ count.old + framed_pieces (option_map group_of plain.entry.before)
+    ensures visited { count.new ≤ count.old + framed_pieces (option_map group_of plain.entry.before)
         (option_map group_of plain.entry.after)
         (plain_item_means (shows_by E.shown V.shows) plain.entry.place (slots_of item.now)).fault }
     ensures exact { IfOk result (λ _. count.new ≡ count.old
@@ -120,7 +120,7 @@ fn write_framed_apart<'a, V: Value, E: Escaper, L: Ledger>(
         (option_map group_of plain.entry.after)
         (plain_item_means (shows_by E.shown V.shows) plain.entry.place (slots_of item.now)))
         (bounded_writer buffer.old) (bounded_writer buffer.new) (write_answered result) }
-    ensures gone { count.new ≤ count.old + framed_pieces (option_map group_of plain.entry.before)
+    ensures visited { count.new ≤ count.old + framed_pieces (option_map group_of plain.entry.before)
         (option_map group_of plain.entry.after)
         (plain_item_means (shows_by E.shown V.shows) plain.entry.place (slots_of item.now)).fault }
     ensures exact { IfOk result (λ _. count.new ≡ count.old
@@ -144,7 +144,7 @@ fn write_framed_to<'a, W: TextWrite, V: Value, E: Escaper, L: Ledger>(
         (option_map group_of plain.entry.after)
         (plain_item_means (shows_by E.shown V.shows) plain.entry.place (slots_of item.now)))
         (W.written out.old) (W.written out.new) (write_answered result) }
-    ensures gone { count.new ≤ count.old + framed_pieces (option_map group_of plain.entry.before)
+    ensures visited { count.new ≤ count.old + framed_pieces (option_map group_of plain.entry.before)
         (option_map group_of plain.entry.after)
         (plain_item_means (shows_by E.shown V.shows) plain.entry.place (slots_of item.now)).fault }
     ensures exact { IfOk result (λ _. count.new ≡ count.old
@@ -169,7 +169,7 @@ fn write_then_run<'a, W: TextWrite, V: Value, E: Escaper, L: Ledger>(
         (chain (plain_item_means (shows_by E.shown V.shows) place (slots_of item.now))
         (run_means (option_map group_of after.entry)))
         (W.written out.old) (W.written out.new) (write_answered result) }
-    ensures gone { count.new ≤ count.old + framed_pieces None (option_map group_of after.entry)
+    ensures visited { count.new ≤ count.old + framed_pieces None (option_map group_of after.entry)
         (plain_item_means (shows_by E.shown V.shows) place (slots_of item.now)).fault }
     ensures exact { IfOk result (λ _. count.new ≡ count.old
         + framed_pieces None (option_map group_of after.entry)
@@ -189,7 +189,7 @@ fn write_run_if<W: TextWrite, L: Ledger>(
 ) -> Result<(), WriteFault>
     ensures outcome { Outcome (run_means (option_map group_of text.entry))
         (W.written out.old) (W.written out.new) (write_answered result) }
-    ensures gone { count.new ≡ count.old + run_pieces (option_map group_of text.entry) }
+    ensures visited { count.new ≡ count.old + run_pieces (option_map group_of text.entry) }
 {
     match text {
         Some(run) => {

@@ -221,7 +221,7 @@ impl<'a, C: Context> SampleEnvironment<'a, C, C::Object> {
 
     /// Returns the fault of an absent name, which is copied; `NoMemory` if it cannot be.
     pub fn missing(&self, name: &str, start: usize) -> Error
-        ensures told { (answer_of result ≡ fault (missing_value (chars name.now) start))
+        ensures reported { (answer_of result ≡ fault (missing_value (chars name.now) start))
             ⊎ (answer_of result ≡ no_memory) }
     {
         Environment::outermost(self.alloc, self.context).missing(name, start)

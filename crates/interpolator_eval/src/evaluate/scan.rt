@@ -1,7 +1,7 @@
 //! A text as a source: it is written while it is read. Callers come before what they call.
 ghost use Rattle.std.specs.Prelude.{◌≡◌, ◌+◌, ◌<◌, ◌≤◌, ⊤, IfOk, None, Some};
 ghost use Rattle.interpolator_render.specs.Bounds.{bounded_writer};
-ghost use Rattle.interpolator_syntax.specs.{At.at, At.strip, Faults.result_answer};
+ghost use Rattle.interpolator_syntax.specs.{Places.at, Places.strip, Faults.result_answer};
 ghost use Rattle.interpolator_eval.specs.Meaning.ScannedLists.{ListPlace, scanned_list};
 ghost use Rattle.interpolator_eval.specs.Meaning.ScannedLists.{scanned_rest, text_forest};
 ghost use Rattle.interpolator_eval.specs.Meaning.Sources.{Met, before_list, from_list, met_pieces};
@@ -202,7 +202,7 @@ fn write_to_sink<'t, 'a, W: TextWrite, C: Context, E: Escaper, L: Ledger, Loop>(
         sink.old sink.new (result_answer result) }
     ensures met { IfOk result (λ met. Met met ⊤ (scanned_list list.new) (scanned_rest list.new)
         (from_list (text_forest (at text.entry)))) }
-    ensures gone { count.new ≤ count.old + ((forest_work (shows_by E.shown C.Object.shows)
+    ensures visited { count.new ≤ count.old + ((forest_work (shows_by E.shown C.Object.shows)
         (environment_of C.finds environment.now) (before_list (text_forest (at text.entry)))).pieces
         + met_pieces result) }
     ensures exact { IfOk result (λ _. count.new ≡ count.old + ((forest_work
@@ -236,7 +236,7 @@ fn write_to_buffer<'t, 'a, C: Context, E: Escaper, L: Ledger>(
         (bounded_writer buffer.old) (bounded_writer buffer.new) (result_answer result) }
     ensures met { IfOk result (λ met. Met met ⊤ (scanned_list list.new) (scanned_rest list.new)
         (from_list (text_forest (at text.entry)))) }
-    ensures gone { count.new ≤ count.old + ((forest_work (shows_by E.shown C.Object.shows)
+    ensures visited { count.new ≤ count.old + ((forest_work (shows_by E.shown C.Object.shows)
         (environment_of C.finds environment.now) (before_list (text_forest (at text.entry)))).pieces
         + met_pieces result) }
     ensures exact { IfOk result (λ _. count.new ≡ count.old + ((forest_work
@@ -263,7 +263,7 @@ fn write_apart<'t, 'a, C: Context, E: Escaper, L: Ledger>(
         (bounded_writer buffer.old) (bounded_writer buffer.new) (result_answer result) }
     ensures met { IfOk result (λ met. Met met ⊤ (scanned_list list.new) (scanned_rest list.new)
         (from_list (text_forest (at text.entry)))) }
-    ensures gone { count.new ≤ count.old + ((forest_work (shows_by E.shown C.Object.shows)
+    ensures visited { count.new ≤ count.old + ((forest_work (shows_by E.shown C.Object.shows)
         (environment_of C.finds environment.now) (before_list (text_forest (at text.entry)))).pieces
         + met_pieces result) }
     ensures exact { IfOk result (λ _. count.new ≡ count.old + ((forest_work
@@ -289,7 +289,7 @@ fn write_tokens<'t, 'a, W: TextWrite, C: Context, E: Escaper, L: Ledger, Loop>(
         (W.written out.old) (W.written out.new) (result_answer result) }
     ensures met { IfOk result (λ met. Met met ⊤ (scanned_list list.new) (scanned_rest list.new)
         (from_list (text_forest (at text.entry)))) }
-    ensures gone { count.new ≤ count.old + ((forest_work (shows_by E.shown C.Object.shows)
+    ensures visited { count.new ≤ count.old + ((forest_work (shows_by E.shown C.Object.shows)
         (environment_of C.finds environment.now) (before_list (text_forest (at text.entry)))).pieces
         + met_pieces result) }
     ensures exact { IfOk result (λ _. count.new ≡ count.old + ((forest_work

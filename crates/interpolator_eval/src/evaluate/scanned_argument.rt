@@ -3,13 +3,13 @@ ghost use Rattle.std.specs.Prelude.{◌≡◌, ◌≢◌, ◌<◌, ℕ, IfOk, No
 ghost use Rattle.interpolator_render.specs.declared.view.Trait.TheVariants.{Iter};
 ghost use Rattle.interpolator_syntax.specs.Arguments.{argument_at, argument_after, plain_argument};
 ghost use Rattle.interpolator_syntax.specs.Arguments.{named_argument, request_of};
-ghost use Rattle.interpolator_syntax.specs.{At.at, At.strip, Classes.close_brace};
+ghost use Rattle.interpolator_syntax.specs.{Places.at, Places.strip, Classes.close_brace};
 ghost use Rattle.interpolator_syntax.specs.{Faults.result_answer, Nodes.nodes, Nodes.token_node};
 ghost use Rattle.interpolator_syntax.specs.Tokens.{argument as argument_token};
 ghost use Rattle.interpolator_eval.specs.Meaning.Sources.{unlisted_means, with_brace};
 ghost use Rattle.interpolator_eval.specs.Meaning.CodeEnvironments.{environment_of};
 ghost use Rattle.interpolator_eval.specs.Meaning.Meanings.{argument_means};
-ghost use Rattle.interpolator_eval.specs.Meaning.{ScannedLists.ArgumentTold, Outcomes.Outcome};
+ghost use Rattle.interpolator_eval.specs.Meaning.{ScannedLists.ArgumentReported, Outcomes.Outcome};
 ghost use Rattle.interpolator_eval.specs.Escaping.{shows_by};
 
 use crate::context::Context;
@@ -38,7 +38,7 @@ pub(super) fn write_argument<'t, 'a, W: TextWrite, C: Context, E: Escaper, Loop>
         (unlisted_means (shows_by E.shown C.Object.shows) (environment_of C.finds environment.now)
         (token_node nodes p argument_token (at here.entry)))
         (W.written out.old) (W.written out.new) (result_answer result) }
-    ensures rest { (p : ℕ) → IfOk result (λ told. ArgumentTold p (at here.entry) list.new told) }
+    ensures rest { (p : ℕ) → IfOk result (λ reported. ArgumentReported p (at here.entry) list.new reported) }
 {
     let named = take_name(here);
     match named.end.strip(b'}') {
@@ -74,7 +74,7 @@ fn write_asked<'t, 'a, W: TextWrite, C: Context, E: Escaper>(
         (unlisted_means (shows_by E.shown C.Object.shows) (environment_of C.finds environment.now)
         (token_node nodes p argument_token (at here.entry)))
         (W.written out.old) (W.written out.new) (result_answer result) }
-    ensures rest { (p : ℕ) → IfOk result (λ told. ArgumentTold p (at here.entry) list.new told) }
+    ensures rest { (p : ℕ) → IfOk result (λ reported. ArgumentReported p (at here.entry) list.new reported) }
 {
     let mut end = named.end;
     let mut asked = Request::plain();

@@ -1,7 +1,7 @@
 //! Groups of a list in a text: what is read of them once, before the items are written.
 ghost use Rattle.std.specs.Prelude.{◌≡◌, ℕ, IfSome, option_map};
 ghost use Rattle.interpolator_syntax.specs.Nodes.{group_branch, no_nodes, nodes, token_node};
-ghost use Rattle.interpolator_syntax.specs.{At.at, Groups.group_of, Pieces.argument_from};
+ghost use Rattle.interpolator_syntax.specs.{Places.at, Groups.group_of, Pieces.argument_from};
 ghost use Rattle.interpolator_syntax.specs.Tokens.{argument as argument_token};
 ghost use Rattle.interpolator_eval.specs.Meaning.ScannedLists.{text_forest};
 ghost use Rattle.interpolator_eval.specs.Meaning.Sources.{IsBare, IsBareFirst, IsFramed, IsText};

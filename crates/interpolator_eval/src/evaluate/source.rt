@@ -75,7 +75,7 @@ pub trait FormatSource: Copy {
         ensures met { IfOk result (λ met. Met met (is_met list.new) (asks list.new)
             (follows list.new)
             (from_list (tree self.now))) }
-        ensures gone { count.new ≤ count.old + ((forest_work (shows_by E.shown C.Object.shows)
+        ensures visited { count.new ≤ count.old + ((forest_work (shows_by E.shown C.Object.shows)
             (environment_of C.finds environment.now) (before_list (tree self.now))).pieces
             + met_pieces result) }
         ensures exact { IfOk result (λ _. count.new ≡ count.old + ((forest_work

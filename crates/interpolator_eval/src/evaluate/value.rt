@@ -1,7 +1,7 @@
 //! The value and the list under a name, for formats as texts and for formats that were parsed.
 ghost use Rattle.std.specs.Prelude.{◌≡◌, ◌⊎◌, [], IfOk, MatchResult, Some, false, map};
 ghost use Rattle.std.specs.{Str.chars, Option.option_copied};
-ghost use Rattle.interpolator_render.specs.{Bounds.bounded_writer, Written.plain};
+ghost use Rattle.interpolator_render.specs.{Bounds.bounded_writer, Writers.plain};
 ghost use Rattle.interpolator_render.specs.declared.view.Trait.TheVariants.{Display};
 ghost use Rattle.interpolator_syntax.specs.Faults.{result_answer, fault, missing_value, no_memory};
 ghost use Rattle.interpolator_syntax.specs.SpecTexts.{plain_spec};
@@ -36,12 +36,12 @@ pub struct LookUp<'n> {
 /// Returns the fault of an absent name, for an argument that starts at `start`. It is a function of
 /// its own, since a function zeroes its error slot on entry.
 #[inline(always)]
-fn refused<'a, C: Context>(
+fn absent_name<'a, C: Context>(
     environment: &Environment<'a, C, C::Object>,
     start: usize,
     name: &str,
 ) -> Result<(), Error>
-    ensures told { (result_answer result ≡ Some (fault (missing_value (chars name.now) start)))
+    ensures reported { (result_answer result ≡ Some (fault (missing_value (chars name.now) start)))
         ⊎ (result_answer result ≡ Some no_memory) }
 {
     Err(environment.missing(name, start))
@@ -64,7 +64,7 @@ pub fn write_value<'a, W: TextWrite, C: Context, E: Escaper>(
         (W.written out.old) (W.written out.new) (result_answer result) }
 {
     let Some(value) = environment.value(look_up.name, wanted) else {
-        return refused(environment, look_up.start, look_up.name);
+        return absent_name(environment, look_up.start, look_up.name);
     };
     write_shown::<W, C::Object, E>(out, value, wanted, spec, look_up.end)?;
     Ok(())
@@ -88,7 +88,7 @@ pub fn write_plain_value<'a, W: TextWrite, C: Context, E: Escaper>(
         (W.written out.old) (W.written out.new) (result_answer result) }
 {
     let Some(value) = environment.value(name, Trait::Display) else {
-        return refused(environment, start, name);
+        return absent_name(environment, start, name);
     };
     write_plain::<W, C::Object, E>(out, value, end)?;
     Ok(())

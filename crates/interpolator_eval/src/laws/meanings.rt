@@ -3,7 +3,7 @@
 ghost use Rattle.std.specs.Prelude.{◌≡◌, ℕ, List, [], ◌∷◌, None, Some, false, if◌then◌else◌, ◌++◌};
 ghost use Rattle.std.specs.Prelude.{codes, length, max, replicate, unwrap_or};
 ghost use Rattle.interpolator_render.specs.Padding.{fill_of, padded_text};
-ghost use Rattle.interpolator_syntax.specs.At.{At, outermost, placed_at, text_of};
+ghost use Rattle.interpolator_syntax.specs.Places.{At, outermost, placed_at, text_of};
 ghost use Rattle.interpolator_syntax.specs.Faults.{Fault, expected, iter, parse};
 ghost use Rattle.interpolator_syntax.specs.Groups.{Group, inside};
 ghost use Rattle.interpolator_syntax.specs.Pieces.{Piece, closed, pieces, unclosed};

@@ -1,8 +1,8 @@
 //! Laws of the names that a format uses, each the contract of a small function.
 
 ghost use Rattle.std.specs.Prelude.{◌≡◌, ℕ, List, [], ◌∷◌, Option, codes};
-ghost use Rattle.interpolator_render.specs.Written.{Written};
-ghost use Rattle.interpolator_syntax.specs.{At.At, At.outermost, Faults.Answer};
+ghost use Rattle.interpolator_render.specs.Writers.{Written};
+ghost use Rattle.interpolator_syntax.specs.{Places.At, Places.outermost, Faults.Answer};
 ghost use Rattle.interpolator_eval.specs.Meaning.AskedNames.{asked_names, AgreeOn};
 ghost use Rattle.interpolator_eval.specs.Meaning.Environments.{Environment, cut};
 ghost use Rattle.interpolator_eval.specs.Meaning.{AskedGrammar.AsksNames, EqualValues.EqualOn};
@@ -53,7 +53,7 @@ pub fn equal_values_mean_the_same<V: Value, W: Value>()
         → EqualOn V.shows W.shows e d (asked_names a)
         → means V.shows e a ≡ means W.shows d a }
     ensures outcome { (e : Environment V) (d : Environment W) (a : At) (old new other : Written)
-        (answer told : Option Answer) → EqualOn V.shows W.shows e d (asked_names a)
+        (answer reported : Option Answer) → EqualOn V.shows W.shows e d (asked_names a)
         → Finished (means V.shows e a) old new answer
-        → Finished (means W.shows d a) old other told → (new ≡ other) × (answer ≡ told) }
+        → Finished (means W.shows d a) old other reported → (new ≡ other) × (answer ≡ reported) }
 {}

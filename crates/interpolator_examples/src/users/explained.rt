@@ -39,7 +39,12 @@ fn letter_fault(alloc: Global, letter: &str) -> Result<String, Error> {
 }
 
 /// Appends what is wrong with the format in a line `key = format` of a file, if anything is.
-fn push_fault(alloc: Global, told: &mut String, number: usize, line: &str) -> Result<(), Error> {
+fn push_fault(
+    alloc: Global,
+    reported: &mut String,
+    number: usize,
+    line: &str,
+) -> Result<(), Error> {
     let (_, format) = line.split_once(" = ").unwrap_or(("", line));
     let Err(error) = check(alloc, format) else {
         return Ok(());
@@ -51,18 +56,18 @@ fn push_fault(alloc: Global, told: &mut String, number: usize, line: &str) -> Re
         start: line.len().saturating_sub(format.len()),
         format,
     };
-    told.push_str(explain_in(alloc, &source, &error)?.as_str())?;
-    told.push('\n')?;
+    reported.push_str(explain_in(alloc, &source, &error)?.as_str())?;
+    reported.push('\n')?;
     Ok(())
 }
 
 /// What is wrong with the lines of a file.
 fn file_faults(alloc: Global, file: &str) -> Result<String, Error> {
-    let mut told = String::new(alloc);
+    let mut reported = String::new(alloc);
     for (index, line) in file.lines().enumerate() {
-        push_fault(alloc, &mut told, index.saturating_add(1), line)?;
+        push_fault(alloc, &mut reported, index.saturating_add(1), line)?;
     }
-    Ok(told)
+    Ok(reported)
 }
 
 /// A file of three lines: the first and the last have faults.

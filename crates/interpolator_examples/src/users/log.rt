@@ -94,8 +94,8 @@ fn show_by(page: &mut Page, name: &str, layout: &str) -> Result<(), Error> {
     match laid_out(page.alloc, layout, &RECORDS) {
         Ok(log) => page.put(name, log.as_str()),
         Err(error) => {
-            let told = format!(in page.alloc; "{error:?}")?;
-            page.put(name, told.as_str());
+            let reported = format!(in page.alloc; "{error:?}")?;
+            page.put(name, reported.as_str());
         }
     }
     Ok(())

@@ -1,6 +1,6 @@
 //! A log in a file: once all is written, the file has exactly the texts of the records.
 ghost use Rattle.std.specs.Prelude.{OnOk, IfOk};
-ghost use Rattle.interpolator.specs.Written.{Appends};
+ghost use Rattle.interpolator.specs.Writers.{Appends};
 ghost use Rattle.interpolator_examples.specs.Logs.{GetsTexts, log_text, found_in};
 
 use crate::page::Page;

@@ -47,7 +47,7 @@ fn ordered<'a>(
 }
 
 /// The order of a payer and these things, written by a format.
-fn told(alloc: Global, payer: &str, things: &[View<'_>], text: &str) -> Result<String, Error> {
+fn reported(alloc: Global, payer: &str, things: &[View<'_>], text: &str) -> Result<String, Error> {
     let items = items_of(alloc, things)?;
     ordered(alloc, payer, &items, text)
 }
@@ -59,6 +59,6 @@ const THINGS: [View<'static>; 2] = [View::Text("bread"), View::Text("crème")];
 pub fn show(page: &mut Page) {
     let alloc = page.alloc;
     for text in ["{payer} pays {items:i({:?})( and )}", "{items:i}{payee}"] {
-        page.put_made("order", told(alloc, "Ann", &THINGS, text));
+        page.put_made("order", reported(alloc, "Ann", &THINGS, text));
     }
 }

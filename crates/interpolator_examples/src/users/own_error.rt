@@ -42,12 +42,12 @@ fn listed(alloc: Global, text: &str, format: &str) -> Result<String, ListError> 
         }
     }
     let items = items_of(alloc, &numbers)?;
-    let told = Pairs(&[("numbers", Formattable::iter(&items))]).format(alloc, format)?;
-    Ok(told)
+    let reported = Pairs(&[("numbers", Formattable::iter(&items))]).format(alloc, format)?;
+    Ok(reported)
 }
 
 /// A list, or why there is none.
-fn told(alloc: Global, text: &str, format: &str) -> Result<String, AllocError> {
+fn reported(alloc: Global, text: &str, format: &str) -> Result<String, AllocError> {
     match listed(alloc, text, format) {
         Ok(list) => Ok(list),
         Err(error) => format!(in alloc; "{error:?}"),
@@ -62,8 +62,8 @@ pub fn show(page: &mut Page) -> Result<(), Error> {
         ("1 two", "{numbers:i({})( + )}"),
         ("1 20", "{number:i}"),
     ] {
-        let told = told(alloc, text, format)?;
-        page.put("numbers", told.as_str());
+        let reported = reported(alloc, text, format)?;
+        page.put("numbers", reported.as_str());
     }
     Ok(())
 }

@@ -5,7 +5,7 @@ use interpolator::{Error, Formattable, Interpolate, Pairs};
 use std::alloc::Global;
 
 /// The output of a format that has these slots under the name `n`.
-fn told(alloc: Global, slots: Formattable<'_, u64>, format: &str) -> Result<String, Error> {
+fn reported(alloc: Global, slots: Formattable<'_, u64>, format: &str) -> Result<String, Error> {
     Pairs(&[("n", slots)]).format(alloc, format)
 }
 
@@ -84,6 +84,6 @@ pub fn show(page: &mut Page) {
         (set_several(&n), NUMBER_USES),
     ];
     for (slots, format) in rows {
-        page.put_made(format, told(alloc, slots, format));
+        page.put_made(format, reported(alloc, slots, format));
     }
 }

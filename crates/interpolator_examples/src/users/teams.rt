@@ -28,7 +28,7 @@ fn push_team<'a>(
 
 /// Teams, written by a format. The people of each team are rows of cells, and the teams are rows of
 /// these rows.
-fn told<'a>(
+fn reported<'a>(
     alloc: Global,
     people: &'a [Formattable<'a, View<'a>>],
     ends: &[usize],
@@ -52,7 +52,7 @@ fn hours(alloc: Global, text: &str) -> Result<String, Error> {
     let items = items_of(alloc, &cells)?;
     let people = rows_of(alloc, &items, &people)?;
     let format = "{teams:i##({:i#({:i0({})}: {:i1..({}h)( )})#(; )})##(\n)}";
-    told(alloc, &people, &teams, format)
+    reported(alloc, &people, &teams, format)
 }
 
 pub fn show(page: &mut Page) {

@@ -2,7 +2,7 @@
 
 ghost use Rattle.std.specs.Prelude.{◌≡◌, ◌⊎◌, ℕ, ◌+◌, ◌≤◌, List, length, Ok, Err};
 ghost use Rattle.std.specs.Str.{IsUtf8, IsCharBoundary};
-ghost use Rattle.interpolator_syntax.specs.At.{At, size};
+ghost use Rattle.interpolator_syntax.specs.Places.{At, size};
 ghost use Rattle.interpolator_syntax.specs.ArgumentFaults.{IsArgumentFault};
 ghost use Rattle.interpolator_syntax.specs.ArgumentGrammar.{IsArgument, IsNoArgument};
 ghost use Rattle.interpolator_syntax.specs.Arguments.{Argument, argument_at, from_byte};

@@ -3,7 +3,7 @@
 ghost use Rattle.std.specs.Prelude.{◌≡◌, ℕ, Ok, Err};
 ghost use Rattle.interpolator_syntax.specs.Groups.{Group, group_at};
 ghost use Rattle.interpolator_syntax.specs.GroupGrammar.{IsGroup, IsNoGroup};
-ghost use Rattle.interpolator_syntax.specs.{At.At, Faults.Fault};
+ghost use Rattle.interpolator_syntax.specs.{Places.At, Faults.Fault};
 
 /// A group is what opens it, its text and what closes it, one after the other: all the signs `#`
 /// that are there and a `(`; the text; and a `)` with as many signs. No `)` of the text has that

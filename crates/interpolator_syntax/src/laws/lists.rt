@@ -3,7 +3,7 @@
 ghost use Rattle.std.specs.Prelude.{◌≡◌, ℕ, Option, Ok, Err};
 ghost use Rattle.interpolator_syntax.specs.Lists.{ListRequest, list_at};
 ghost use Rattle.interpolator_syntax.specs.ListGrammar.{IsRange, IsNoRange, IsList, IsNoList};
-ghost use Rattle.interpolator_syntax.specs.{At.At, Ranges.range_at, Faults.Fault};
+ghost use Rattle.interpolator_syntax.specs.{Places.At, Ranges.range_at, Faults.Fault};
 ghost use Rattle.interpolator_syntax.specs.declared.range.Range.{Range};
 
 /// A range is its parts, one after the other, each of which is there exactly when its beginning is:

@@ -4,7 +4,7 @@ ghost use Rattle.std.specs.Prelude.{◌≡◌, ℕ, map, Ok, Err};
 ghost use Rattle.interpolator_syntax.specs.Arguments.{Argument, argument_at};
 ghost use Rattle.interpolator_syntax.specs.Moved.{moved_at, moved_argument, moved_fault};
 ghost use Rattle.interpolator_syntax.specs.Moved.{moved_piece};
-ghost use Rattle.interpolator_syntax.specs.{At.At, Pieces.pieces, Faults.Fault};
+ghost use Rattle.interpolator_syntax.specs.{Places.At, Pieces.pieces, Faults.Fault};
 
 /// A text reads the same wherever it is. At a base that is `by` bytes further on, there is the same
 /// argument or the same fault, and there are the same pieces, with every place moved by `by` bytes:

@@ -6,7 +6,7 @@ ghost use Rattle.interpolator_syntax.specs.PieceGrammar.{ClosedStands, UnclosedS
 ghost use Rattle.interpolator_syntax.specs.PieceGrammar.{BrokenStands, token_pieces};
 ghost use Rattle.interpolator_syntax.specs.Pieces.{Piece, pieces};
 ghost use Rattle.interpolator_syntax.specs.Tokens.{Token, first_token, past_token};
-ghost use Rattle.interpolator_syntax.specs.{Arguments.Argument, At.At, Faults.Fault};
+ghost use Rattle.interpolator_syntax.specs.{Arguments.Argument, Places.At, Faults.Fault};
 
 /// The texts of the pieces, joined, are the text: no character is lost, and none is read twice.
 pub fn pieces_join()

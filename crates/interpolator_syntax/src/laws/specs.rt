@@ -1,7 +1,7 @@
 //! Laws of the specs in a format text, each the contract of a small function.
 
 ghost use Rattle.std.specs.Prelude.{◌≡◌, ℕ, Ok, Err};
-ghost use Rattle.interpolator_syntax.specs.{At.At, SpecTexts.Request, SpecTexts.spec_after};
+ghost use Rattle.interpolator_syntax.specs.{Places.At, SpecTexts.Request, SpecTexts.spec_after};
 ghost use Rattle.interpolator_syntax.specs.{SpecGrammar.IsSpec, SpecGrammar.IsNoSpec, Faults.Fault};
 
 /// The text after a colon is a spec exactly when it is these parts, one after the other, each of

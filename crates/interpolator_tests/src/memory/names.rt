@@ -77,7 +77,7 @@ fn escapes(report: &mut Report) {
 /// Checks that the missing name is reported, and returns whether there was memory for it. If its
 /// copy is refused, the call returns `NoMemory`, and the text before it stays. The writer has its
 /// room already.
-fn is_told(report: &mut Report) -> bool {
+fn is_reported(report: &mut Report) -> bool {
     let alloc = report.alloc;
     let Ok(room) = String::with_capacity(alloc, 8) else {
         return false;
@@ -95,7 +95,7 @@ fn is_told(report: &mut Report) -> bool {
 pub fn run(report: &mut Report) -> Result<(), Error> {
     maps(report);
     escapes(report);
-    let told = is_told(report) || is_told(report);
-    report.holds("a missing name is told", told);
+    let reported = is_reported(report) || is_reported(report);
+    report.holds("a missing name is told", reported);
     faults(report)
 }

@@ -1,5 +1,5 @@
 use Rattle.std.specs.Str.{chars}
-use Rattle.interpolator.specs.At.{outermost}
+use Rattle.interpolator.specs.Places.{outermost}
 use Rattle.catalogue.specs.Examples.{view_shows}
 use Rattle.catalogue.proofs.OwnLemmas.{own_faults}
 use Rattle.catalogue.proofs.examples.own_faults.Goals as goal

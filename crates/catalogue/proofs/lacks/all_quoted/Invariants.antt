@@ -6,5 +6,5 @@ use Rattle.catalogue.proofs.lacks.all_quoted.Given as goal
 
 abbrev pub invariant-loop-text : goal.invariant-loop-text
 invariant-loop-text l =
-    string_bytes l.told ++ concat (map with_comma (texts_of (drop l.text-index l.more)))
+    string_bytes l.reported ++ concat (map with_comma (texts_of (drop l.text-index l.more)))
     ≡ all_quoted l.first (texts_of l.more)

@@ -1,12 +1,12 @@
 use Rattle.std.proofs.Common.{◌∙◌, map, sym}
 use Rattle.interpolator.specs.Faults.{answer_of}
 use Rattle.catalogue.specs.{Entries.held_by_entry, Messages.message_means}
-use Rattle.catalogue.proofs.{AnswerLemmas.told_fault, HeldLemmas.found_held}
+use Rattle.catalogue.proofs.{AnswerLemmas.reported_fault, HeldLemmas.found_held}
 use Rattle.catalogue.proofs.messages.said.Goals as goal
 
 pub returns-clause-said : goal.returns-clause-said
 returns-clause-said c =
-    let t = told_fault (answer_of c.in-Err.error)
+    let t = reported_fault (answer_of c.in-Err.error)
     (message_means c.args.escape c.args.found.now.template
     (map held_by_entry c.args.entries.now)).fault
     c.in-Some.field-0 (sym c.in-Some.is ∙ c.place.ensures)
@@ -18,7 +18,7 @@ returns-clause-said c =
     record {
       f = t.0;
       faulty = t.2;
-      says = rw (c.text-format.ensures.text, t.1) at c.in_ok-told-in-Some.ensures.told;
+      says = rw (c.text-format.ensures.text, t.1) at c.in_ok-reported-in-Some.ensures.reported;
     }
 
 pub returns-in-Ok-clause-said : goal.returns-in-Ok-clause-said

@@ -9,11 +9,11 @@ loop-file-preserved c = left_next_file _ _ _ _ _ _
     (drop_item page_of c.args.files.now c.loop-file.file-index c.file-item.result
     c.loop-file-test.true c.file-item.is) c.loop-file.invariant c.in_ok-leave_file.ensures.left
 
-pub returns-clause-told : goal.returns-clause-told
-returns-clause-told c = rw (
+pub returns-clause-reported : goal.returns-clause-reported
+returns-clause-reported c = rw (
   c.first_name.ensures,
   c.as_slice.ensures.value,
   left_last_file _ _ _
       (at_drop_all (map page_of) c.args.files.now c.loop-file.file-index c.loop-file-test.false)
       c.loop-file.invariant,
-) at c.in_ok-told.ensures
+) at c.in_ok-reported.ensures

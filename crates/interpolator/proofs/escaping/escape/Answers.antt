@@ -1,6 +1,6 @@
 use Rattle.std.proofs.Common.{◌≡◌, ◌∙◌, length, ap, rules}
 use Rattle.std.specs.Str.{chars}
-use Rattle.interpolator_render.specs.Written.{Buffered}
+use Rattle.interpolator_render.specs.Writers.{Buffered}
 use Rattle.interpolator.proofs.EscapeLemmas.{nothing_appended, all_appended, escaped_plain}
 use Rattle.interpolator.proofs.escaping.escape.Goals as goal
 

@@ -1,5 +1,5 @@
 use Rattle.std.proofs.Common.{sym, arith}
-use Rattle.interpolator_syntax.specs.At.{at}
+use Rattle.interpolator_syntax.specs.Places.{at}
 use Rattle.interpolator.proofs.EndingLemmas.{scanned, scanned_end}
 use Rattle.interpolator.proofs.parts.ending_of.Goals as goal
 

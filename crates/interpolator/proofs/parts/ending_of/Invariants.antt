@@ -1,5 +1,5 @@
 use Rattle.std.proofs.Common.{◌≡◌, length}
-use Rattle.interpolator_syntax.specs.{At.at, Pieces.pieces}
+use Rattle.interpolator_syntax.specs.{Places.at, Pieces.pieces}
 use Rattle.interpolator.specs.Seams.{ending, last_ending}
 use Rattle.interpolator.proofs.parts.ending_of.Given as goal
 

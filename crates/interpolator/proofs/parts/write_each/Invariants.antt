@@ -3,7 +3,7 @@ use Rattle.interpolator_syntax.specs.Faults.{Answer}
 use Rattle.interpolator.specs.Meaning.Parts.{texts_of, bytes_of, parts_mean}
 use Rattle.interpolator_eval.specs.Meaning.Sinks.{SameEnd, taken_by}
 use Rattle.interpolator_eval.specs.Meaning.{CodeEnvironments.environment_of, Outcomes.Outcome}
-use Rattle.interpolator_render.specs.Written.{Written}
+use Rattle.interpolator_render.specs.Writers.{Written}
 use Rattle.interpolator.proofs.parts.write_each.Given as goal
 
 -- what was written, and then what the parts that are left mean, is what all parts mean

@@ -7,7 +7,7 @@ loop-pair-preserved g c =
     let pairs = c.args.pairs.now in
     let i = c.loop-pair.pair-index in
     rw (take_more pairs i c.pair-item.result c.loop-pair-test.true, ← c.pair-item.is)
-    (c.in_ok-add.ensures.added (take i pairs) c.loop-pair.invariant)
+    (c.in_ok-add_pair.ensures.added (take i pairs) c.loop-pair.invariant)
 
 pub returns : goal.returns
 returns g c =

@@ -14,4 +14,4 @@ pub returns : goal.returns
 returns c =
     row_fails c.args.line.now.names c.args.line.now.text (length c.args.table.columns.now)
     c.args.table.cells.now c.in-Err.wrong c.args.ends.now c.put_rows.new.ends c.args.room.now
-    c.told_fault.new.room c.told_fault.result _ c.in-Err.ensures c.told_fault.ensures.fault refl
+    c.reported_fault.new.room c.reported_fault.result _ c.in-Err.ensures c.reported_fault.ensures.fault refl

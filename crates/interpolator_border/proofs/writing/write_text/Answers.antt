@@ -14,8 +14,8 @@ returns c =
     let fits : length c.as_str-made.result.now ≤ length c.args.room.now =
     subst (λ bytes. length c.as_str-made.result.now ≤ bytes) kept c.as_str-made.ensures.within in
     writes (bounded_writer c.write_row-written.new.out) c.as_str-made.result.now c.args.room.now
-    c.put.new.room c.args.sentence.now c.told_written.new.sentence c.told_written.result
+    c.put.new.room c.args.sentence.now c.reported_written.new.sentence c.reported_written.result
     c.as_str-made.ensures.text c.as_str-made.utf8 fits
     (rw c.as_bytes.ensures.value at c.put.ensures) c.args.row.fields.now c.args.row.items.now
     c.args.text.now c.write_row-written.result (is_utf8-from_IsUtf8 c.args.text.now c.utf8.text) row
-    (rw c.refused.ensures at c.told_written.ensures)
+    (rw c.refused.ensures at c.reported_written.ensures)

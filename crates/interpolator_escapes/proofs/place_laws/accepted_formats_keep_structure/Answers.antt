@@ -1,7 +1,7 @@
 use Rattle.std.proofs.Common.{◌≡◌, None, inl}
 use Rattle.interpolator_render.specs.{declared.view.Spec.Spec, declared.view.Trait.Trait}
 use Rattle.interpolator_render.specs.Views.{Shown}
-use Rattle.interpolator_syntax.specs.At.{At}
+use Rattle.interpolator_syntax.specs.Places.{At}
 use Rattle.interpolator_eval.specs.{Meaning.Environments.Environment, Meaning.Meanings.means}
 use Rattle.interpolator_escapes.specs.Csv.{field_start, csv_step, is_csv_place}
 use Rattle.interpolator_escapes.specs.Escapes.{html_escape, csv_escape, json_escape, shell_escape}

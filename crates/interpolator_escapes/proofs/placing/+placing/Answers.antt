@@ -5,8 +5,10 @@ use Rattle.interpolator_pieces.specs.{Stored.detail_of, StoredLists.is_list_form
 use Rattle.interpolator_pieces.proofs.RunLemmas.{text_fits}
 use Rattle.interpolator_pieces.proofs.WholePieceLemmas.{fits_text, piece_whole, most_at, in_item}
 use Rattle.interpolator_pieces.proofs.WholePieceLemmas.{in_join}
-use Rattle.interpolator_escapes.proofs.PlacingLemmas.{text_told, broken_told, value_told}
-use Rattle.interpolator_escapes.proofs.PlacingLemmas.{plain_told, item_told, join_told, fill_told}
+use Rattle.interpolator_escapes.proofs.PlacingLemmas.{text_reported, broken_reported}
+use Rattle.interpolator_escapes.proofs.PlacingLemmas.{value_reported}
+use Rattle.interpolator_escapes.proofs.PlacingLemmas.{plain_reported, item_reported, join_reported}
+use Rattle.interpolator_escapes.proofs.PlacingLemmas.{fill_reported}
 use Rattle.interpolator_escapes.proofs.PlacingLemmas.{lies, list_lies, plain_lies, value_lies}
 use Rattle.interpolator_escapes.specs.declared.misplaced.Why.TheVariants.{Value, Item, Join, Fill}
 use Rattle.interpolator_escapes.proofs.placing.+placing.Goals as goal
@@ -29,61 +31,61 @@ place_join-place_all-requires g t c κs within =
     let smaller = group.smaller in
     grind (arith, smaller, group.whole, within)
 
-pub place_list-returns-in_err-place_item-clause-told :
-    goal.place_list-returns-in_err-place_item-clause-told
-place_list-returns-in_err-place_item-clause-told g t c =
+pub place_list-returns-in_err-place_item-clause-reported :
+    goal.place_list-returns-in_err-place_item-clause-reported
+place_list-returns-in_err-place_item-clause-reported g t c =
     let fits = fits_text c.args.text.now c.args.piece.now (search rules) in
     let p = err_from_is_err_and c.from_residual.result c.from_residual.ensures.1 in
     rw (p.1, p.2)
-    (item_told g.R.Reader.step g.R.Reader.places c.args.text.now c.args.piece.now
+    (item_reported g.R.Reader.step g.R.Reader.places c.args.text.now c.args.piece.now
     (g.R.Reader.state c.args.reader.now) fits.held (search rules) _
-    c.in_err-place_item.ensures.told)
+    c.in_err-place_item.ensures.reported)
 
-pub place_list-returns-in_err-place_join-clause-told :
-    goal.place_list-returns-in_err-place_join-clause-told
-place_list-returns-in_err-place_join-clause-told g t c =
+pub place_list-returns-in_err-place_join-clause-reported :
+    goal.place_list-returns-in_err-place_join-clause-reported
+place_list-returns-in_err-place_join-clause-reported g t c =
     let fits = fits_text c.args.text.now c.args.piece.now (search rules) in
     let p = err_from_is_err_and c.from_residual-in_err-place_join.result
     c.from_residual-in_err-place_join.ensures.1 in
     rw (p.1, p.2)
-    (join_told g.R.Reader.step g.R.Reader.places c.args.text.now c.args.piece.now
+    (join_reported g.R.Reader.step g.R.Reader.places c.args.text.now c.args.piece.now
     (g.R.Reader.state c.args.reader.now) fits.held (search rules) _
-    c.in_ok-place_item.ensures.told c.in_err-place_join.ensures.told)
+    c.in_ok-place_item.ensures.reported c.in_err-place_join.ensures.reported)
 
-pub place_list-returns-clause-told : goal.place_list-returns-clause-told
-place_list-returns-clause-told g t c =
+pub place_list-returns-clause-reported : goal.place_list-returns-clause-reported
+place_list-returns-clause-reported g t c =
     let fits = fits_text c.args.text.now c.args.piece.now (search rules) in
-    fill_told g.R.Reader.step g.R.Reader.places c.args.text.now c.args.piece.now
+    fill_reported g.R.Reader.step g.R.Reader.places c.args.text.now c.args.piece.now
     (g.R.Reader.state c.args.reader.now) fits.held (search rules) _ _ c.spec_of.ensures
-    c.in_ok-place_item.ensures.told c.in_ok-place_join.ensures.told c.place_fill.ensures
+    c.in_ok-place_item.ensures.reported c.in_ok-place_join.ensures.reported c.place_fill.ensures
 
 pub place_piece-text_of-requires : goal.place_piece-text_of-requires
 place_piece-text_of-requires g t c = grind (arith, text_fits, fits_text)
 
-pub place_piece-returns-in-Text-clause-told : goal.place_piece-returns-in-Text-clause-told
-place_piece-returns-in-Text-clause-told g t c =
-    text_told g.R.Reader.step g.R.Reader.places c.args.text.now c.args.piece.now
+pub place_piece-returns-in-Text-clause-reported : goal.place_piece-returns-in-Text-clause-reported
+place_piece-returns-in-Text-clause-reported g t c =
+    text_reported g.R.Reader.step g.R.Reader.places c.args.text.now c.args.piece.now
     (g.R.Reader.state c.args.reader.now) _ _ _ (search rules) c.text_of.ensures.text
     c.read_text.ensures
 
-pub place_piece-returns-in-Plain-clause-told :
-    goal.place_piece-returns-in-Plain-clause-told
-place_piece-returns-in-Plain-clause-told g t c =
+pub place_piece-returns-in-Plain-clause-reported :
+    goal.place_piece-returns-in-Plain-clause-reported
+place_piece-returns-in-Plain-clause-reported g t c =
     let fits = fits_text c.args.text.now c.args.piece.now (search rules) in
-    plain_told g.R.Reader.step g.R.Reader.places c.args.text.now c.args.piece.now
+    plain_reported g.R.Reader.step g.R.Reader.places c.args.text.now c.args.piece.now
     (g.R.Reader.state c.args.reader.now) fits.held _ (search rules) c.place_plain.ensures
 
-pub place_piece-returns-in-Value-clause-told :
-    goal.place_piece-returns-in-Value-clause-told
-place_piece-returns-in-Value-clause-told g t c =
+pub place_piece-returns-in-Value-clause-reported :
+    goal.place_piece-returns-in-Value-clause-reported
+place_piece-returns-in-Value-clause-reported g t c =
     let fits = fits_text c.args.text.now c.args.piece.now (search rules) in
-    value_told g.R.Reader.step g.R.Reader.places c.args.text.now c.args.piece.now
+    value_reported g.R.Reader.step g.R.Reader.places c.args.text.now c.args.piece.now
     (g.R.Reader.state c.args.reader.now) fits.held c.in-Value.wanted _ _ (search rules)
     c.spec_of.ensures c.place_value.ensures
 
-pub place_piece-returns-in-Broken-clause-told : goal.place_piece-returns-in-Broken-clause-told
-place_piece-returns-in-Broken-clause-told g t c =
-    broken_told g.R.Reader.step g.R.Reader.places c.args.text.now c.args.piece.now
+pub place_piece-returns-in-Broken-clause-reported : goal.place_piece-returns-in-Broken-clause-reported
+place_piece-returns-in-Broken-clause-reported g t c =
+    broken_reported g.R.Reader.step g.R.Reader.places c.args.text.now c.args.piece.now
     (g.R.Reader.state c.args.reader.now) c.in-Broken.field-0 (search rules)
 
 -- ---- where what does not stand begins

@@ -18,4 +18,4 @@ returns-in_err-place_all-clause-refused g c =
     rw (p.1, p.2, ← c.requires, ← same)
     (refused g.R.Reader.step g.R.Reader.places (g.R.Reader.state c.in_ok-reader.reader)
     (g.R.Reader.state c.place_all.new.reader)
-    (as_forest (nodes_of c.args.text.now c.args.pieces.now)) _ c.in_err-place_all.ensures.told)
+    (as_forest (nodes_of c.args.text.now c.args.pieces.now)) _ c.in_err-place_all.ensures.reported)

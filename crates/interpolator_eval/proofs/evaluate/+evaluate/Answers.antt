@@ -44,10 +44,10 @@ items::write_each-returns-in_err-write_item-clause-writes g t c =
     rw (err.1, err.2, split)
     (record { outcome = fault_first _ _ _ _ _ o.outcome; same = o.same })
 
-pub items::write_each-returns-in_err-write_item-clause-gone :
-    goal.items::write_each-returns-in_err-write_item-clause-gone
-items::write_each-returns-in_err-write_item-clause-gone g t c =
-    grind (arith, c.in_err-write_item.ensures.gone)
+pub items::write_each-returns-in_err-write_item-clause-visited :
+    goal.items::write_each-returns-in_err-write_item-clause-visited
+items::write_each-returns-in_err-write_item-clause-visited g t c =
+    grind (arith, c.in_err-write_item.ensures.visited)
 
 pub items::write_each-loop-item-init : goal.items::write_each-loop-item-init
 items::write_each-loop-item-init g t c =
@@ -59,8 +59,8 @@ items::write_each-returns-in_err-write_join g t c =
     let residual = c.from_residual-in_err-write_join in
     let err = err_from_is_err_and residual.result residual.ensures.1 in
     let stops = join_stops _ _ c.loop-item.invariant c.loop-item-test.true c.item-item.is
-    c.in_err-write_join.ensures.writes c.in_err-write_join.ensures.gone in
-    rw (err.1, err.2) (record { writes = stops.0; gone = stops.1; exact = tt })
+    c.in_err-write_join.ensures.writes c.in_err-write_join.ensures.visited in
+    rw (err.1, err.2) (record { writes = stops.0; visited = stops.1; exact = tt })
 
 pub items::write_each-returns-in_err-write_item-2 : goal.items::write_each-returns-in_err-write_item-2
 items::write_each-returns-in_err-write_item-2 g t c =
@@ -69,8 +69,8 @@ items::write_each-returns-in_err-write_item-2 g t c =
     let join = c.in_ok-write_join.ensures in
     let item = c.in_err-write_item-2.ensures in
     let stops = item_stops _ _ c.loop-item.invariant c.loop-item-test.true c.item-item.is
-    join.writes join.exact item.writes item.gone in
-    rw (err.1, err.2) (record { writes = stops.0; gone = stops.1; exact = tt })
+    join.writes join.exact item.writes item.visited in
+    rw (err.1, err.2) (record { writes = stops.0; visited = stops.1; exact = tt })
 
 pub items::write_each-loop-item-preserved : goal.items::write_each-loop-item-preserved
 items::write_each-loop-item-preserved g t c =
@@ -82,7 +82,7 @@ items::write_each-loop-item-preserved g t c =
 pub items::write_each-returns : goal.items::write_each-returns
 items::write_each-returns g t c =
     let done = items_done _ _ c.loop-item.invariant c.loop-item-test.false in
-    record { writes = done.0; gone = omega (arith, done.1); exact = done.1 }
+    record { writes = done.0; visited = omega (arith, done.1); exact = done.1 }
 
 pub items::write_item-returns-in-Some-clause-writes : goal.items::write_item-returns-in-Some-clause-writes
 items::write_item-returns-in-Some-clause-writes g t c =
@@ -90,11 +90,11 @@ items::write_item-returns-in-Some-clause-writes g t c =
     let plain = rw c.in-Some.is at c.requires.plain in
     rw (item_framed _ _ _ c.in-Some.plain asked plain) c.write_by_plain_format.ensures.writes
 
-pub items::write_item-returns-in-Some-clause-gone : goal.items::write_item-returns-in-Some-clause-gone
-items::write_item-returns-in-Some-clause-gone g t c =
+pub items::write_item-returns-in-Some-clause-visited : goal.items::write_item-returns-in-Some-clause-visited
+items::write_item-returns-in-Some-clause-visited g t c =
     let asked = g.S.FormatSource.asks c.args.list.now in
     let plain = rw c.in-Some.is at c.requires.plain in
-    rw (item_framed_pieces _ _ _ c.in-Some.plain asked plain) c.write_by_plain_format.ensures.gone
+    rw (item_framed_pieces _ _ _ c.in-Some.plain asked plain) c.write_by_plain_format.ensures.visited
 
 pub items::write_item-returns-in-Some-clause-exact : goal.items::write_item-returns-in-Some-clause-exact
 items::write_item-returns-in-Some-clause-exact g t c =
@@ -130,8 +130,8 @@ evaluator::write_source-returns-in_err-write_to_list g t c =
     let err = err_from_is_err_and c.from_residual.result c.from_residual.ensures.1 in
     let before = c.in_err-write_to_list.ensures in
     let ends = before_ends c.loop-sink.invariant.passed before.writes
-    (omega (arith, before.gone)) in
-    rw (err.1, err.2) (record { writes = ends.0; gone = ends.1; exact = tt })
+    (omega (arith, before.visited)) in
+    rw (err.1, err.2) (record { writes = ends.0; visited = ends.1; exact = tt })
 
 pub evaluator::write_source-write_argument-requires : goal.evaluator::write_source-write_argument-requires
 evaluator::write_source-write_argument-requires g t c κs within =
@@ -164,8 +164,8 @@ evaluator::write_source-returns-in_err-here g t c =
     let err = err_from_is_err_and residual.result residual.ensures.1 in
     let before = rw c.if-branch.true at c.in_ok-write_to_list.ensures in
     let ends = list_ends c.loop-sink.invariant.passed before.writes before.met.1 before.exact
-    c.in_err-here.ensures.writes c.in_err-here.ensures.gone in
-    rw (err.1, err.2) (record { writes = ends.0; gone = ends.1; exact = tt })
+    c.in_err-here.ensures.writes c.in_err-here.ensures.visited in
+    rw (err.1, err.2) (record { writes = ends.0; visited = ends.1; exact = tt })
 
 pub evaluator::write_source-loop-sink-smaller : goal.evaluator::write_source-loop-sink-smaller
 evaluator::write_source-loop-sink-smaller g t c =
@@ -189,4 +189,4 @@ evaluator::write_source-returns g t c =
     let before = rw c.if-branch.false at c.in_ok-write_to_list.ensures in
     let done = all_done c.loop-sink.invariant.passed before.writes before.met
     (omega (arith, before.exact)) in
-    record { writes = done.0; gone = omega (arith, done.1); exact = done.1 }
+    record { writes = done.0; visited = omega (arith, done.1); exact = done.1 }

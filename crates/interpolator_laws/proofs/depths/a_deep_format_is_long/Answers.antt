@@ -3,7 +3,7 @@ use Rattle.interpolator_syntax.specs.SpecTexts.{spec_from_sign, spec_after}
 use Rattle.interpolator_syntax.specs.{Arguments.argument_at, Groups.group_at, Lists.list_at}
 use Rattle.interpolator_syntax.specs.{Pieces.argument_from, Ranges.range_at, Tokens.first_token}
 use Rattle.interpolator_syntax.specs.Nodes.{nodes}
-use Rattle.interpolator.proofs.DeepLemmas.{deep_is_long}
+use Rattle.interpolator.proofs.LongNestingLemmas.{deep_is_long}
 use Rattle.interpolator_laws.proofs.depths.a_deep_format_is_long.Goals as goal
 
 pub returns-clause-long : goal.returns-clause-long

@@ -1,5 +1,5 @@
 use Rattle.std.proofs.Common.{chars, ◌≡◌, [], filter}
-use Rattle.interpolator_syntax.specs.At.{outermost}
+use Rattle.interpolator_syntax.specs.Places.{outermost}
 use Rattle.interpolator_eval.specs.{Meaning.Environments.environment, Meaning.Meanings.means}
 use Rattle.interpolator_escapes.specs.{Escapes.is_control, Formats.escaped_shows}
 use Rattle.interpolator_laws.proofs.EscapedLemmas.{made_text, line_meant}

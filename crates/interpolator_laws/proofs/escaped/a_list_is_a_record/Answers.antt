@@ -1,5 +1,5 @@
 use Rattle.std.proofs.Common.{chars, ◌≡◌, ◌∷◌, map}
-use Rattle.interpolator_syntax.specs.At.{outermost}
+use Rattle.interpolator_syntax.specs.Places.{outermost}
 use Rattle.interpolator_eval.specs.{Meaning.Environments.environment, Meaning.Meanings.means}
 use Rattle.interpolator_escapes.specs.{Formats.escaped_shows, Languages.read_by, Records.fields_of}
 use Rattle.interpolator_escapes.specs.{Records.item_text, declared.escape.Escape.TheVariants.Csv}

@@ -1,5 +1,5 @@
 use Rattle.std.proofs.Common.{arith, chars}
-use Rattle.interpolator_syntax.specs.At.{outermost}
+use Rattle.interpolator_syntax.specs.Places.{outermost}
 use Rattle.interpolator_eval.specs.Meaning.Environments.{environment}
 use Rattle.interpolator_laws.proofs.escaped.no_value_leaves_its_place.Goals as goal
 

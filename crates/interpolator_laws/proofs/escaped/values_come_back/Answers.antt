@@ -1,5 +1,5 @@
 use Rattle.std.proofs.Common.{chars, ◌≡◌}
-use Rattle.interpolator_syntax.specs.At.{outermost}
+use Rattle.interpolator_syntax.specs.Places.{outermost}
 use Rattle.interpolator_eval.specs.{Meaning.Environments.environment, Meaning.Meanings.means}
 use Rattle.interpolator_escapes.specs.Languages.{read_by, read_parts_by}
 use Rattle.interpolator_escapes.specs.{FormatParts.parts_by, Formats.escaped_shows}

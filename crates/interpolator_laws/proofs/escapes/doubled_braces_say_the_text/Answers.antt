@@ -1,5 +1,5 @@
 use Rattle.std.proofs.Common.{refl}
-use Rattle.interpolator_syntax.specs.At.{outermost}
+use Rattle.interpolator_syntax.specs.Places.{outermost}
 use Rattle.interpolator.specs.Escaping.{braces_doubled}
 use Rattle.interpolator.proofs.EscapeLemmas.{escaped_plain, plain_means}
 use Rattle.interpolator_laws.proofs.escapes.doubled_braces_say_the_text.Goals as goal

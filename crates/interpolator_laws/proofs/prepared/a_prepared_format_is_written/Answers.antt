@@ -1,5 +1,5 @@
 use Rattle.std.proofs.Common.{chars}
-use Rattle.interpolator_syntax.specs.At.{outermost}
+use Rattle.interpolator_syntax.specs.Places.{outermost}
 use Rattle.interpolator_laws.proofs.RowSampleLemmas.{wants_no_memory, writes_all}
 use Rattle.interpolator_laws.proofs.prepared.a_prepared_format_is_written.Goals as goal
 

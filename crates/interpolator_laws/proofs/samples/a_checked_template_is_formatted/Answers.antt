@@ -1,5 +1,5 @@
 use Rattle.std.proofs.Common.{chars}
-use Rattle.interpolator_syntax.specs.At.{outermost}
+use Rattle.interpolator_syntax.specs.Places.{outermost}
 use Rattle.interpolator_eval.specs.{Meaning.Environments.environment, Meaning.Meanings.means}
 use Rattle.interpolator_laws.proofs.{ResembleLemmas.no_fault, UnfailingLemmas.only_memory_refused}
 use Rattle.interpolator_laws.proofs.samples.a_checked_template_is_formatted.Goals as goal

@@ -1,5 +1,5 @@
 use Rattle.std.specs.Str.{chars}
-use Rattle.interpolator_syntax.specs.At.{outermost}
+use Rattle.interpolator_syntax.specs.Places.{outermost}
 use Rattle.interpolator_eval.specs.Meaning.Environments.{environment}
 use Rattle.interpolator_laws.proofs.ResembleLemmas.{no_fault, no_memory_point}
 use Rattle.interpolator_laws.proofs.UnfailingLemmas.{only_refused, wants_none}

@@ -1,5 +1,6 @@
 use Rattle.std.proofs.Common.{◌∙◌, refl, sym, arith, map, append-nil}
-use Rattle.interpolator_syntax.specs.{Arguments.argument_of, At.at, At.strip, Classes.close_brace}
+use Rattle.interpolator_syntax.specs.{Arguments.argument_of, Places.at, Places.strip}
+use Rattle.interpolator_syntax.specs.{Classes.close_brace}
 use Rattle.interpolator_syntax.specs.{Tokens.argument, Tokens.token_of}
 use Rattle.interpolator_syntax.proofs.TokenLemmas.{token_shorter, scan_shorter}
 use Rattle.interpolator_pieces.proofs.AllArgumentLemmas.{no_argument, gathers_on, all_gathered}

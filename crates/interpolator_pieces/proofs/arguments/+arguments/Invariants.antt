@@ -1,6 +1,6 @@
 use Rattle.std.proofs.Common.{map, length, ◌+◌, ◌*◌, option_map, chars}
 use Rattle.interpolator_syntax.specs.Arguments.{argument_of, kind_of}
-use Rattle.interpolator_syntax.specs.{At.at, Groups.group_of}
+use Rattle.interpolator_syntax.specs.{Places.at, Groups.group_of}
 use Rattle.interpolator_eval.proofs.MeaningLemmas.GroupSizeLemmas.{group_size, kind_size}
 use Rattle.interpolator_pieces.proofs.AllArgumentLemmas.{Gathering}
 use Rattle.interpolator_pieces.proofs.arguments.+arguments.Given as goal

@@ -11,5 +11,5 @@ invariant-cost_of-loop-piece l =
       so_far : usize_cost (then_cost l.cost
           (forest_cost l.limits (as_forest (nodes_of l.text (drop l.piece-index l.pieces)))))
           ≡ usize_cost (forest_cost l.limits (as_forest (nodes_of l.text l.pieces)));
-      told : l.cost ≡ usize_cost l.cost;
+      reported : l.cost ≡ usize_cost l.cost;
     }

@@ -1,5 +1,5 @@
 use Rattle.std.proofs.{Common.chars, Common.inl, lemmas.Result.err_from_is_err_and}
-use Rattle.interpolator_syntax.specs.At.{outermost}
+use Rattle.interpolator_syntax.specs.Places.{outermost}
 use Rattle.interpolator_eval.specs.Meaning.ScannedLists.{text_forest}
 use Rattle.interpolator_eval.proofs.MeaningLemmas.SourceLemmas.{before_fails, from_on, before_all}
 use Rattle.interpolator_pieces.proofs.ListTextLemmas.{or_else}

@@ -1,5 +1,5 @@
 use Rattle.std.proofs.Common.{arith, rules, chars, IsUtf8}
-use Rattle.interpolator_syntax.specs.At.{outermost}
+use Rattle.interpolator_syntax.specs.Places.{outermost}
 use Rattle.interpolator_eval.specs.{Meaning.Environments.environment, Escaping.shows_by}
 use Rattle.interpolator_pieces.proofs.{CallLemmas.text_written, CostLawLemmas.text_at_most}
 use Rattle.interpolator_pieces.proofs.RunLemmas.{text_whole}
@@ -14,8 +14,8 @@ returns-clause-written g c =
     text_written (shows_by g.E.Escaper.shown g.C.Object.Value.shows) (g.C.Context.finds c.args.context.now)
     c.args.format.text.now _ _ _ utf8 (grind arith)
 
-pub returns-clause-gone : goal.returns-clause-gone
-returns-clause-gone g c = grind arith
+pub returns-clause-visited : goal.returns-clause-visited
+returns-clause-visited g c = grind arith
 
 pub returns-clause-within : goal.returns-clause-within
 returns-clause-within g c limits within =

@@ -1,7 +1,7 @@
 use Rattle.std.proofs.Common.{refl, sym, arith, rules}
 use Rattle.interpolator_syntax.specs.declared.piece_kind.PieceKind.TheVariants.{Literal, Doubled}
 use Rattle.interpolator_syntax.specs.declared.piece_kind.PieceKind.TheVariants.{LoneClose}
-use Rattle.interpolator_syntax.specs.{At.at, Tokens.argument}
+use Rattle.interpolator_syntax.specs.{Places.at, Tokens.argument}
 use Rattle.interpolator_syntax.proofs.TokenLemmas.{scan_shorter, token_shorter}
 use Rattle.interpolator_syntax.proofs.TokenTextLemmas.{takes_token}
 use Rattle.interpolator_eval.proofs.MeaningLemmas.GroupSizeLemmas.{groups_within}
@@ -12,8 +12,8 @@ use Rattle.interpolator_pieces.proofs.ParseLemmas.{text_reads, name_pushed, name
 use Rattle.interpolator_pieces.proofs.ParseLemmas.{reads_on, all_read}
 use Rattle.interpolator_pieces.proofs.parse.+parse.Goals as goal
 
-pub parse_pieces-push_argument-requires : goal.parse_pieces-push_argument-requires
-parse_pieces-push_argument-requires t c =
+pub parse_pieces-push_argument_piece-requires : goal.parse_pieces-push_argument_piece-requires
+parse_pieces-push_argument_piece-requires t c =
     let here = at c.loop-token.here in
     let token = rw c.in-Argument.is at (sym c.in-Some.ensures.token) in
     let left = left_within (at c.args.text) here _ c.loop-token.invariant in
@@ -72,30 +72,30 @@ pub parse_pieces-returns : goal.parse_pieces-returns
 parse_pieces-returns t c =
     record { stand = all_read _ _ _ c.loop-token.invariant (sym c.in_default.ensures.token) }
 
-pub push_argument-returns-then-named-here-clause-rest : goal.push_argument-returns-then-named-here-clause-rest
-push_argument-returns-then-named-here-clause-rest t c =
+pub push_argument_piece-returns-then-named-here-clause-rest : goal.push_argument_piece-returns-then-named-here-clause-rest
+push_argument_piece-returns-then-named-here-clause-rest t c =
     let named = c.take_name-named in
     name_rest c.args.place _ named.result _ named.ensures.read c.in-Some.ensures c.requires.start
     named.ensures.end_place
 
-pub push_argument-returns-then-named-here-clause-pushed : goal.push_argument-returns-then-named-here-clause-pushed
-push_argument-returns-then-named-here-clause-pushed t c =
+pub push_argument_piece-returns-then-named-here-clause-pushed : goal.push_argument_piece-returns-then-named-here-clause-pushed
+push_argument_piece-returns-then-named-here-clause-pushed t c =
     let named = c.take_name-named in
     let closes = name_closes named.result _ c.in-Some.ensures in
     name_pushed c.args.place _ named.result _ named.ensures.read c.in-Some.ensures c.requires.start
     named.ensures.end_place _ _ c.bare_piece-piece.result c.in_ok-push_piece-in-Some.ensures (λ bs.
     grind (arith, c.bare_piece-piece.ensures.node bs, closes))
 
-pub push_argument-returns-in_ok-push_piece-in-Some-2-clause-rest :
-    goal.push_argument-returns-in_ok-push_piece-in-Some-2-clause-rest
-push_argument-returns-in_ok-push_piece-in-Some-2-clause-rest t c =
+pub push_argument_piece-returns-in_ok-push_piece-in-Some-2-clause-rest :
+    goal.push_argument_piece-returns-in_ok-push_piece-in-Some-2-clause-rest
+push_argument_piece-returns-in_ok-push_piece-in-Some-2-clause-rest t c =
     let named = c.take_name-named in
     name_rest c.args.place _ named.result _ named.ensures.read c.in-Some.ensures c.requires.start
     named.ensures.end_place
 
-pub push_argument-returns-in_ok-push_piece-in-Some-2-clause-pushed :
-    goal.push_argument-returns-in_ok-push_piece-in-Some-2-clause-pushed
-push_argument-returns-in_ok-push_piece-in-Some-2-clause-pushed t c =
+pub push_argument_piece-returns-in_ok-push_piece-in-Some-2-clause-pushed :
+    goal.push_argument_piece-returns-in_ok-push_piece-in-Some-2-clause-pushed
+push_argument_piece-returns-in_ok-push_piece-in-Some-2-clause-pushed t c =
     let named = c.take_name-named in
     name_pushed c.args.place _ named.result _ named.ensures.read c.in-Some.ensures c.requires.start
     named.ensures.end_place _ _ _ c.in_ok-push_piece-in-Some-2.ensures

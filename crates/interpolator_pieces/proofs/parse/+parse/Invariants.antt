@@ -1,5 +1,5 @@
 use Rattle.std.proofs.Common.{length, ◌+◌, ◌*◌, option_map, chars}
-use Rattle.interpolator_syntax.specs.{At.at, Groups.group_of}
+use Rattle.interpolator_syntax.specs.{Places.at, Groups.group_of}
 use Rattle.interpolator_eval.proofs.MeaningLemmas.GroupSizeLemmas.{group_size}
 use Rattle.interpolator_pieces.proofs.ParseLemmas.{Reading}
 use Rattle.interpolator_pieces.proofs.parse.+parse.Given as goal
@@ -9,8 +9,8 @@ use Rattle.interpolator_pieces.proofs.parse.+parse.Given as goal
 abbrev pub decreases-parse_pieces : goal.decreases-parse_pieces
 decreases-parse_pieces l = 16 * length (chars l.text.rest.now)
 
-abbrev pub decreases-push_argument : goal.decreases-push_argument
-decreases-push_argument l = 16 * length (chars l.here.rest.now) + 8
+abbrev pub decreases-push_argument_piece : goal.decreases-push_argument_piece
+decreases-push_argument_piece l = 16 * length (chars l.here.rest.now) + 8
 
 abbrev pub decreases-push_asked : goal.decreases-push_asked
 decreases-push_asked l = 16 * length (chars l.opening.here.rest.now) + 7

@@ -1,5 +1,5 @@
 use Rattle.std.proofs.Common.{◌∙◌, ap, refl}
-use Rattle.interpolator_syntax.specs.At.{At}
+use Rattle.interpolator_syntax.specs.Places.{At}
 use Rattle.interpolator_pieces.proofs.parse.push_broken.Goals as goal
 
 pub returns-clause-pushed : goal.returns-clause-pushed

@@ -5,7 +5,8 @@ use Rattle.interpolator_eval.specs.Meaning.Samples.{sample_of}
 use Rattle.interpolator_pieces.proofs.CollectLemmas.{collects_nothing, collects_before}
 use Rattle.interpolator_pieces.proofs.CollectLemmas.{collects_after}
 use Rattle.interpolator_pieces.proofs.CollectLemmas.{asked_ends, own_ends, item_ends}
-use Rattle.interpolator_pieces.proofs.CollectLemmas.{join_ends, last_told, group_deep, item_told}
+use Rattle.interpolator_pieces.proofs.CollectLemmas.{join_ends, last_reported, group_deep}
+use Rattle.interpolator_pieces.proofs.CollectLemmas.{item_reported}
 use Rattle.interpolator_pieces.proofs.StoredLemmas.{left_next, left_none}
 use Rattle.interpolator_pieces.proofs.WalkLemmas.{piece_depth, piece_within}
 use Rattle.interpolator_pieces.proofs.WholePieceLemmas.{in_item, in_join, fits_text}
@@ -53,40 +54,40 @@ collect_parts-returns-in_err-collect_asked g t c = grind (arith, err_from_is_err
 pub collect_parts-returns-in_err-collect_checked : goal.collect_parts-returns-in_err-collect_checked
 collect_parts-returns-in_err-collect_checked g t c =
     let own = c.in_err-collect_checked.ensures _ c.check_own.ensures.own in
-    let told = own_ends g.C.Object.Value.shows (sample_of g.C.Context.finds c.args.sample.now) _
+    let reported = own_ends g.C.Object.Value.shows (sample_of g.C.Context.finds c.args.sample.now) _
     c.args.piece.now (search rules) c.args.collector.now c.collect_asked.new.collector
     c.in_ok-collect_asked.ensures.collects c.collect_checked.new.self _ own in
-    grind (arith, err_from_is_err_and, told)
+    grind (arith, err_from_is_err_and, reported)
 
 pub collect_parts-returns-in_err-collect_item : goal.collect_parts-returns-in_err-collect_item
 collect_parts-returns-in_err-collect_item g t c =
     let own = c.in_ok-collect_checked.ensures _ c.check_own.ensures.own in
-    let told = item_ends g.C.Object.Value.shows (sample_of g.C.Context.finds c.args.sample.now)
+    let reported = item_ends g.C.Object.Value.shows (sample_of g.C.Context.finds c.args.sample.now)
     c.args.text.now c.args.piece.now (search rules) c.args.collector.now
     c.collect_asked.new.collector c.in_ok-collect_asked.ensures.collects c.collect_checked.new.self
     own c.collect_item.new.collector _ c.in_err-collect_item.ensures.collects in
-    grind (arith, err_from_is_err_and, told)
+    grind (arith, err_from_is_err_and, reported)
 
 pub collect_parts-returns-in_err-collect_join : goal.collect_parts-returns-in_err-collect_join
 collect_parts-returns-in_err-collect_join g t c =
     let own = c.in_ok-collect_checked.ensures _ c.check_own.ensures.own in
-    let told = join_ends g.C.Object.Value.shows (sample_of g.C.Context.finds c.args.sample.now)
+    let reported = join_ends g.C.Object.Value.shows (sample_of g.C.Context.finds c.args.sample.now)
     c.args.text.now c.args.piece.now (search rules) c.args.collector.now
     c.collect_asked.new.collector c.in_ok-collect_asked.ensures.collects c.collect_checked.new.self
     own c.collect_item.new.collector c.in_ok-collect_item.ensures.collects
     c.collect_join.new.collector _ c.in_err-collect_join.ensures.collects in
-    grind (arith, err_from_is_err_and, told)
+    grind (arith, err_from_is_err_and, reported)
 
 pub collect_parts-returns : goal.collect_parts-returns
 collect_parts-returns g t c =
     let own = c.in_ok-collect_checked.ensures _ c.check_own.ensures.own in
     let last = c.collect_checked-2.ensures _ c.check_end.ensures.end in
-    grind (arith, last_told, own, last)
+    grind (arith, last_reported, own, last)
 
 -- ---- groups
 
 pub collect_item-returns-in-Some : goal.collect_item-returns-in-Some
-collect_item-returns-in-Some g t c = grind (arith, fits_text, item_told)
+collect_item-returns-in-Some g t c = grind (arith, fits_text, item_reported)
 
 pub collect_item-collect_pieces-requires : goal.collect_item-collect_pieces-requires
 collect_item-collect_pieces-requires g t c κs within =

@@ -5,8 +5,8 @@ use Rattle.interpolator_pieces.proofs.sample.collect_values.Goals as goal
 
 pub returns-in_err-collect_if : goal.returns-in_err-collect_if
 returns-in_err-collect_if g c =
-    let told = c.in_err-collect_if.ensures (missing_trait_impl c.args.t c.args.end) refl in
-    grind (arith, err_from_is_err_and, collects_before, told)
+    let reported = c.in_err-collect_if.ensures (missing_trait_impl c.args.t c.args.end) refl in
+    grind (arith, err_from_is_err_and, collects_before, reported)
 
 pub returns-then-not-any_lacks : goal.returns-then-not-any_lacks
 returns-then-not-any_lacks g c = grind (arith, shown_right, collects_nothing)

@@ -2,7 +2,8 @@ use Rattle.std.proofs.Common.{rules, arith, ◌≡◌, ◌∷◌, ◌∙◌, tru
 use Rattle.std.proofs.lemmas.Result.{err_from_is_err_and}
 use Rattle.interpolator_syntax.specs.Nodes.{as_forest, nodes_and}
 use Rattle.interpolator_eval.specs.Meaning.Sources.{first_holds}
-use Rattle.interpolator_eval.proofs.MeaningLemmas.FirstPieceLemmas.{first_stops, first_list, first_on}
+use Rattle.interpolator_eval.proofs.MeaningLemmas.FirstPieceLemmas.{first_stops, first_list}
+use Rattle.interpolator_eval.proofs.MeaningLemmas.FirstPieceLemmas.{first_on}
 use Rattle.interpolator_pieces.specs.Stored.{content_of, forest_whole, node_of, nodes_of}
 use Rattle.interpolator_pieces.specs.declared.piece.Piece.{Piece}
 use Rattle.interpolator_pieces.proofs.RunLemmas.{asks_form, first_list as list_first}
@@ -29,7 +30,7 @@ returns-in_err-run_piece g c =
     fits.holds c.in_err-run_piece.ensures.outcome in
     let err = err_from_is_err_and c.from_residual.result c.from_residual.ensures.1 in
     rw (err.1, err.2)
-    (record { outcome = stops.0; met = tt; gone = omega (arith, stops.1); exact = tt })
+    (record { outcome = stops.0; met = tt; visited = omega (arith, stops.1); exact = tt })
 
 pub returns-then-branch : goal.returns-then-branch
 returns-then-branch g c =
@@ -42,7 +43,7 @@ returns-then-branch g c =
     record {
       outcome = list.0;
       met = (rw split form, rw (list.1, split) (list_first bs _ _ form fits.held));
-      gone = omega (arith, list.2);
+      visited = omega (arith, list.2);
       exact = list.2;
     }
 

@@ -2,14 +2,15 @@ use Rattle.std.proofs.Common.{◌≡◌, arith, refl, sym}
 use Rattle.std.proofs.lemmas.Result.{err_from_is_err_and}
 use Rattle.interpolator_render.specs.declared.view.Trait.TheVariants.{Display}
 use Rattle.interpolator_syntax.specs.Arguments.{kind_of_request, list_of}
-use Rattle.interpolator_syntax.specs.{At.at, SpecTexts.of_list, Tokens.argument}
+use Rattle.interpolator_syntax.specs.{Places.at, SpecTexts.of_list, Tokens.argument}
 use Rattle.interpolator_syntax.proofs.PieceLemmas.{read_alone}
 use Rattle.interpolator_syntax.proofs.TokenLemmas.{scan_shorter, token_shorter}
 use Rattle.interpolator_eval.proofs.MeaningLemmas.GroupSizeLemmas.{groups_within}
 use Rattle.interpolator_eval.proofs.MeaningLemmas.LookUpLemmas.{value_asked}
 use Rattle.interpolator_eval.proofs.MeaningLemmas.ScanLemmas.{asked_broken, asked_ok}
-use Rattle.interpolator_pieces.proofs.TextCheckLemmas.{broken_faults, faults_next, first_told}
-use Rattle.interpolator_pieces.proofs.TextCheckLemmas.{list_told, none_left, none_told, rest_after}
+use Rattle.interpolator_pieces.proofs.TextCheckLemmas.{broken_faults, faults_next, first_reported}
+use Rattle.interpolator_pieces.proofs.TextCheckLemmas.{list_reported, none_left, none_reported}
+use Rattle.interpolator_pieces.proofs.TextCheckLemmas.{rest_after}
 use Rattle.interpolator_pieces.proofs.TextCheckLemmas.{rest_read, text_passed, value_faults}
 use Rattle.interpolator_pieces.proofs.text_check.+check.Goals as goal
 
@@ -28,7 +29,7 @@ check_text-returns-in_err-here-in-Argument t c =
     let next = faults_next here (argument, at c.in-Some.rest) token in
     record {
       first = rw (err.1, err.2, c.loop-token.invariant.same, next)
-          (sym (first_told _ _ _ (sym (c.in_err-here-in-Argument.ensures.first here.place))));
+          (sym (first_reported _ _ _ (sym (c.in_err-here-in-Argument.ensures.first here.place))));
     }
 
 pub check_text-loop-token-smaller-in-Literals : goal.check_text-loop-token-smaller-in-Literals
@@ -64,7 +65,7 @@ pub check_text-loop-token-preserved : goal.check_text-loop-token-preserved
 check_text-loop-token-preserved t c =
     let here = at c.loop-token.here in
     let token = rw c.in-Argument.is at (sym c.in-Some.ensures.token) in
-    let none = none_told _ (sym (c.in_ok-here-in-Argument.ensures.first here.place)) in
+    let none = none_reported _ (sym (c.in_ok-here-in-Argument.ensures.first here.place)) in
     rw c.in_ok-here-in-Argument.ensures.rest
     (text_passed _ _ _ c.loop-token.invariant token none)
 
@@ -108,8 +109,8 @@ check_asked-returns-in_err-check_list-in-Iter-clause-first t c p =
     let read = asked_ok (at c.args.here) c.args.named c.requires.named _ _ c.in-Ok.ensures in
     let list : kind_of_request asked ≡ of_list (list_of asked.list) = rw c.in-Iter.is refl in
     let err = err_from_is_err_and c.from_residual.result c.from_residual.ensures.1 in
-    rw (err.1, err.2, list_told (at c.args.here) p _ _ read _ list)
-    (sym (first_told _ _ _ (sym c.in_err-check_list-in-Iter.ensures.first)))
+    rw (err.1, err.2, list_reported (at c.args.here) p _ _ read _ list)
+    (sym (first_reported _ _ _ (sym c.in_err-check_list-in-Iter.ensures.first)))
 
 pub check_asked-returns-in_ok-check_list-in-Iter-clause-first :
     goal.check_asked-returns-in_ok-check_list-in-Iter-clause-first
@@ -117,8 +118,8 @@ check_asked-returns-in_ok-check_list-in-Iter-clause-first t c p =
     let asked = c.take_request.new.asked in
     let read = asked_ok (at c.args.here) c.args.named c.requires.named _ _ c.in-Ok.ensures in
     let list : kind_of_request asked ≡ of_list (list_of asked.list) = rw c.in-Iter.is refl in
-    let none = none_told _ (sym c.in_ok-check_list-in-Iter.ensures.first) in
-    rw (list_told (at c.args.here) p _ _ read _ list, none) c.require_brace.ensures.first
+    let none = none_reported _ (sym c.in_ok-check_list-in-Iter.ensures.first) in
+    rw (list_reported (at c.args.here) p _ _ read _ list, none) c.require_brace.ensures.first
 
 pub check_asked-returns-in_ok-check_list-in-Iter-clause-rest :
     goal.check_asked-returns-in_ok-check_list-in-Iter-clause-rest

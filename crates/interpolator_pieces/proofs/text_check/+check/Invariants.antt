@@ -1,5 +1,5 @@
 use Rattle.std.proofs.Common.{length, ◌+◌, ◌*◌, option_map, chars}
-use Rattle.interpolator_syntax.specs.{Arguments.list_of, At.at, Groups.group_of}
+use Rattle.interpolator_syntax.specs.{Arguments.list_of, Places.at, Groups.group_of}
 use Rattle.interpolator_eval.proofs.MeaningLemmas.GroupSizeLemmas.{group_size, list_size}
 use Rattle.interpolator_pieces.proofs.TextCheckLemmas.{Passed}
 use Rattle.interpolator_pieces.proofs.text_check.+check.Given as goal

@@ -1,6 +1,6 @@
 use Rattle.std.proofs.Common.{arith, rules, ◌^◌, ◌<◌, length, chars}
 use Rattle.std.proofs.lemmas.Str.{length-le-encodes, encodes-chars}
-use Rattle.interpolator_pieces.proofs.{DepthLemmas.nodes_shallow, WholeLemmas.nodes_whole}
+use Rattle.interpolator_pieces.proofs.{NodeDepthLemmas.nodes_shallow, WholeLemmas.nodes_whole}
 use Rattle.interpolator_pieces.proofs.walk.walk_text.Goals as goal
 
 pub walk-requires-clause-whole : goal.walk-requires-clause-whole

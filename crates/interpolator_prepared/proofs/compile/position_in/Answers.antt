@@ -14,7 +14,7 @@ returns g c = record {
       let x = c.args.piece.now in
       let whole : stored_part c.args.text.now x ≡ Some name =
       named_part (nat_lt (out-Piece x).place (detail_of x).from) (stored_part c.args.text.now x) name is in
-      let told : Some (chars bytes) ≡ Some name = c.text_of.ensures.text ∙ whole in
+      let reported : Some (chars bytes) ≡ Some name = c.text_of.ensures.text ∙ whole in
       let same : chars bytes ≡ name = cc in
       c.find.ensures
       ∙ ap (last_position (g.N.Names.known c.args.names))

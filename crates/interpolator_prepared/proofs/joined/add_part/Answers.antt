@@ -1,7 +1,7 @@
 use Rattle.std.proofs.Common.{◌≡◌, ◌-◌, arith, length}
 use Rattle.std.proofs.lemmas.Str.{IsUtf8-string_bytes}
 use Rattle.std.specs.{Prelude.string_bytes, Str.chars}
-use Rattle.interpolator_syntax.specs.At.{size}
+use Rattle.interpolator_syntax.specs.Places.{size}
 use Rattle.interpolator_syntax.proofs.CharacterLemmas.{size-chars}
 use Rattle.interpolator_prepared.proofs.JoinedLemmas.{part_added}
 use Rattle.interpolator_prepared.proofs.joined.add_part.Goals as goal

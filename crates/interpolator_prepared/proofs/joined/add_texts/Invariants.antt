@@ -1,5 +1,5 @@
 use Rattle.std.proofs.Common.{drop, ◌++◌}
-use Rattle.interpolator_syntax.specs.At.{Placed}
+use Rattle.interpolator_syntax.specs.Places.{Placed}
 use Rattle.interpolator_prepared.specs.StoredSteps.{texts_placed}
 use Rattle.interpolator_prepared.proofs.JoinedLemmas.{Joins, Stands}
 use Rattle.interpolator_prepared.proofs.joined.add_texts.Given as goal

@@ -1,6 +1,6 @@
 use Rattle.std.proofs.Common.{◌∙◌, ap, map, Some}
 use Rattle.std.specs.Str.{chars}
-use Rattle.interpolator_syntax.specs.At.{outermost}
+use Rattle.interpolator_syntax.specs.Places.{outermost}
 use Rattle.interpolator_prepared.specs.{Programs.program, Rows.name_bytes}
 use Rattle.interpolator_pieces.specs.Stored.{nodes_of}
 use Rattle.interpolator_pieces.proofs.RunLemmas.{text_whole}

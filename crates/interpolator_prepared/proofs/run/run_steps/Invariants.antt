@@ -3,7 +3,7 @@ use Rattle.std.specs.List.{All}
 use Rattle.interpolator_syntax.specs.Faults.{Answer}
 use Rattle.interpolator_eval.specs.{Meaning.Environments.environment, Escaping.shows_by}
 use Rattle.interpolator_eval.specs.Meaning.Outcomes.{Outcome}
-use Rattle.interpolator_render.specs.Written.{Written}
+use Rattle.interpolator_render.specs.Writers.{Written}
 use Rattle.interpolator_prepared.specs.Rows.{name_bytes}
 use Rattle.interpolator_prepared.specs.StoredSteps.{Fit, steps_of, stored_steps_mean}
 use Rattle.interpolator_prepared.proofs.run.run_steps.Given as goal

@@ -1,5 +1,5 @@
 use Rattle.std.proofs.Common.{◌≤◌, ◌-◌, replicate}
-use Rattle.interpolator_render.specs.Written.{Appends}
+use Rattle.interpolator_render.specs.Writers.{Appends}
 use Rattle.interpolator_render.proofs.copies.put_runs.Given as goal
 
 abbrev pub invariant-loop-left : goal.invariant-loop-left

@@ -1,5 +1,5 @@
 use Rattle.std.proofs.Common.{◌≡◌, ◌-◌, ◌^◌, min, take}
-use Rattle.interpolator_render.specs.{Written.Appends, Written.byte_count, Layout.text_of_parts}
+use Rattle.interpolator_render.specs.{Writers.Appends, Writers.byte_count, Layout.text_of_parts}
 use Rattle.interpolator_render.proofs.layout.put_parts.Given as goal
 
 abbrev pub invariant-loop-part : goal.invariant-loop-part

@@ -1,5 +1,5 @@
 use Rattle.std.proofs.Common.{arith, sym}
-use Rattle.interpolator_syntax.specs.At.{at}
+use Rattle.interpolator_syntax.specs.Places.{at}
 use Rattle.interpolator_syntax.proofs.GroupLemmas.{next_shorter, reached_end, reached_bracket}
 use Rattle.interpolator_syntax.proofs.GroupLemmas.{reached_past, reached_close}
 use Rattle.interpolator_syntax.proofs.bracket.find_close.Goals as goal

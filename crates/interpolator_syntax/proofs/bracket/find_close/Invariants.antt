@@ -1,5 +1,5 @@
 use Rattle.std.proofs.Common.{length, chars}
-use Rattle.interpolator_syntax.specs.At.{at}
+use Rattle.interpolator_syntax.specs.Places.{at}
 use Rattle.interpolator_syntax.specs.Groups.{Reached}
 use Rattle.interpolator_syntax.proofs.bracket.find_close.Given as goal
 

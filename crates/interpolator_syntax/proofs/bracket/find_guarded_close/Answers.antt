@@ -1,5 +1,5 @@
 use Rattle.std.proofs.Common.{arith}
-use Rattle.interpolator_syntax.specs.At.{at}
+use Rattle.interpolator_syntax.specs.Places.{at}
 use Rattle.interpolator_syntax.proofs.GroupLemmas.{candidate, reached_end}
 use Rattle.interpolator_syntax.proofs.GroupLemmas.{reached_bracket, reached_past, reached_close}
 use Rattle.interpolator_syntax.proofs.GroupLemmas.{shorter_reached}

@@ -1,5 +1,5 @@
 use Rattle.std.proofs.Common.{arith, sym}
-use Rattle.interpolator_syntax.specs.At.{at}
+use Rattle.interpolator_syntax.specs.Places.{at}
 use Rattle.interpolator_syntax.proofs.GroupLemmas.{at_first, next_shorter, past_near}
 use Rattle.interpolator_syntax.proofs.bracket.next_candidate.Goals as goal
 

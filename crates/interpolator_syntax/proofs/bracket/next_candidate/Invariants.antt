@@ -1,5 +1,5 @@
 use Rattle.std.proofs.Common.{Some, chars, length}
-use Rattle.interpolator_syntax.specs.At.{at}
+use Rattle.interpolator_syntax.specs.Places.{at}
 use Rattle.interpolator_syntax.specs.Groups.{ReachesNext}
 use Rattle.interpolator_syntax.proofs.bracket.next_candidate.Given as goal
 

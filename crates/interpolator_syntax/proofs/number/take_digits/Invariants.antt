@@ -1,5 +1,5 @@
 use Rattle.std.proofs.Common.{◌≡◌, ◌≤◌, ◌+◌, length}
-use Rattle.interpolator_syntax.specs.{At.at, At.after, Classes.front_of, Classes.in_class}
+use Rattle.interpolator_syntax.specs.{Places.at, Places.after, Classes.front_of, Classes.in_class}
 use Rattle.interpolator_syntax.specs.{Numbers.digits_after, declared.class.Class.TheVariants.Number}
 use Rattle.interpolator_syntax.proofs.number.take_digits.Given as goal
 

@@ -17,12 +17,12 @@ loop-before-preserved c =
     let pushed = c.in_ok-push_repeat.ensures in record {
       knows = knows_next name_of c.args.columns.now c.loop-before.before _
           c.push_repeat.new.seen within (pushed.seen names c.loop-before.invariant.knows);
-      told = rw (pushed.faults names c.loop-before.invariant.knows count)
+      reported = rw (pushed.faults names c.loop-before.invariant.knows count)
           (repeats_next name_of c.args.columns.now c.loop-before.before _
-          c.loop-before.faults.items _ within c.loop-before.invariant.told);
+          c.loop-before.faults.items _ within c.loop-before.invariant.reported);
     }
 
 pub returns : goal.returns
 returns c =
     let end = drop_all c.loop-before.before c.args.columns.now c.loop-before-test.false in
-    rw (end, append-nil) at c.loop-before.invariant.told
+    rw (end, append-nil) at c.loop-before.invariant.reported

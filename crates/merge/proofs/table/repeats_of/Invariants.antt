@@ -5,7 +5,7 @@ use Rattle.merge.proofs.table.repeats_of.Given as goal
 abbrev pub invariant-loop-before : goal.invariant-loop-before
 invariant-loop-before l = record {
   knows : Knows l.seen (map (λ column. column.name.now) (take l.before l.columns));
-  told : l.faults.items
+  reported : l.faults.items
       ++ repeats_after (map (λ column. column.name.now) (take l.before l.columns))
       (map (λ column. column.name.now) (drop l.before l.columns))
       ≡ repeats (map (λ column. column.name.now) l.columns);

@@ -1,5 +1,5 @@
 use Rattle.std.proofs.Common.{ap, sym, ◌∙◌, ◌+◌}
-use Rattle.interpolator_syntax.specs.{At.size, At.outermost, Grammar.from_place}
+use Rattle.interpolator_syntax.specs.{Places.size, Places.outermost, Grammar.from_place}
 use Rattle.interpolator_eval.specs.Meaning.Meanings.{chain, means}
 use Rattle.interpolator_eval.proofs.MeaningLemmas.MovedLemmas.{means_from}
 use Rattle.interpolator_eval.proofs.MeaningLemmas.MeaningLemmas.{nothing_last}

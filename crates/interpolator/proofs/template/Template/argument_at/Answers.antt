@@ -1,6 +1,6 @@
 use Rattle.std.proofs.Common.{ap, ◌∙◌}
 use Rattle.std.specs.{Prelude.string_bytes, Str.chars}
-use Rattle.interpolator_syntax.specs.{At.outermost, Nodes.nodes}
+use Rattle.interpolator_syntax.specs.{Places.outermost, Nodes.nodes}
 use Rattle.interpolator_pieces.specs.Stored.{nodes_of}
 use Rattle.interpolator.proofs.template.Template.argument_at.Goals as goal
 

@@ -1,8 +1,8 @@
-use Rattle.interpolator_syntax.specs.At.{outermost}
+use Rattle.interpolator_syntax.specs.Places.{outermost}
 use Rattle.std.specs.Str.{chars}
 use Rattle.interpolator_escapes.specs.RecordFormats.{after_record}
 use Rattle.interpolator.specs.contracts.record_template.RecordTemplate as RecordTemplate
-use Rattle.interpolator.proofs.RecordPlaceLemmas.{stands, told_within}
+use Rattle.interpolator.proofs.RecordPlaceLemmas.{stands, reported_within}
 use Rattle.interpolator.proofs.template.Template.as_record.Goals as goal
 
 pub invariant_of-result : goal.invariant_of-result
@@ -17,6 +17,6 @@ returns-in-Ok-clause-stand c =
 
 pub returns-in-Err-clause-within : goal.returns-in-Err-clause-within
 returns-in-Err-clause-within c =
-    told_within RecordTemplate.the_row.Denot c.args.self
+    reported_within RecordTemplate.the_row.Denot c.args.self
     (rw c.text.ensures.text at c.text.utf8) c.in-Err.error
     (rw c.text.ensures.text at c.in-Err.ensures)

@@ -1,7 +1,7 @@
 use Rattle.std.proofs.Common.{ap, ◌∙◌, subst, rules, ◌<◌, ◌^◌, length}
 use Rattle.std.proofs.lemmas.Str.{IsUtf8-string_bytes}
 use Rattle.std.specs.{Prelude.string_bytes, Str.chars, Str.IsUtf8}
-use Rattle.interpolator_syntax.specs.{At.outermost, Faults.result_answer, Nodes.nodes}
+use Rattle.interpolator_syntax.specs.{Places.outermost, Faults.result_answer, Nodes.nodes}
 use Rattle.interpolator_eval.specs.Meaning.Samples.{sample_of, level_in}
 use Rattle.interpolator_pieces.specs.{NodeSamples.faults_over, Stored.nodes_of}
 use Rattle.interpolator.proofs.SamplePlaceLemmas.{first_lies_over}

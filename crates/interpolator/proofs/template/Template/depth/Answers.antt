@@ -1,6 +1,6 @@
 use Rattle.std.proofs.Common.{refl, ◌∙◌}
 use Rattle.std.specs.Str.{chars}
-use Rattle.interpolator_syntax.specs.At.{outermost}
+use Rattle.interpolator_syntax.specs.Places.{outermost}
 use Rattle.interpolator_pieces.specs.{NodeExtents.visit_depth, declared.extent.Deepest.Deepest}
 use Rattle.interpolator_pieces.proofs.{ExtentLemmas.text_greatest, VisitLemmas.text_depth}
 use Rattle.interpolator.proofs.template.Template.depth.Goals as goal

@@ -1,11 +1,11 @@
 use Rattle.std.proofs.Common.{ap, ◌∙◌, subst, rules, ◌<◌, ◌^◌, length, None}
 use Rattle.std.proofs.{lemmas.Result.err_from_is_err_and, lemmas.Str.IsUtf8-string_bytes}
 use Rattle.std.specs.{Prelude.string_bytes, Str.chars, Str.IsUtf8}
-use Rattle.interpolator_syntax.specs.{At.outermost, Faults.answer_of, Nodes.nodes}
+use Rattle.interpolator_syntax.specs.{Places.outermost, Faults.answer_of, Nodes.nodes}
 use Rattle.interpolator_eval.specs.Meaning.Samples.{sample_of, level_in}
 use Rattle.interpolator_pieces.specs.{NodeSamples.faults_over, Stored.nodes_of}
 use Rattle.interpolator.proofs.SampleWalkLemmas.{walk_whole, walk_deep, walk_tells}
-use Rattle.interpolator.proofs.SamplePlaceLemmas.{told_lie_over}
+use Rattle.interpolator.proofs.SamplePlaceLemmas.{reported_lie_over}
 use Rattle.interpolator_pieces.proofs.CollectLemmas.{all_kept, only_memory}
 use Rattle.interpolator.proofs.template.Template.faults_in.Goals as goal
 
@@ -47,5 +47,5 @@ returns-in_err-collect_pieces-clause-refused g c =
 pub returns-clause-places : goal.returns-clause-places
 returns-clause-places g c =
     let utf8 = subst IsUtf8 c.self.view_is (IsUtf8-string_bytes c.self.inside.text) in
-    told_lie_over g.C.Object.Value.shows (g.C.Context.finds c.args.sample.now) c.args.self.now utf8 _
+    reported_lie_over g.C.Object.Value.shows (g.C.Context.finds c.args.sample.now) c.args.self.now utf8 _
     (returns-clause-all g c)

@@ -1,6 +1,6 @@
 use Rattle.std.proofs.Common.{◌++◌, ap, ◌∙◌}
 use Rattle.std.specs.Str.{chars}
-use Rattle.interpolator_syntax.specs.At.{outermost}
+use Rattle.interpolator_syntax.specs.Places.{outermost}
 use Rattle.interpolator_eval.specs.Meaning.AskedNames.{asked_names}
 use Rattle.interpolator_pieces.specs.{NodeNames.name_texts, declared.names.Names.Names}
 use Rattle.interpolator_pieces.proofs.StoredNameLemmas.{text_names}

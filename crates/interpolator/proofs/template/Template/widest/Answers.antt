@@ -1,6 +1,6 @@
 use Rattle.std.proofs.Common.{refl, ◌∙◌}
 use Rattle.std.specs.Str.{chars}
-use Rattle.interpolator_syntax.specs.At.{outermost}
+use Rattle.interpolator_syntax.specs.Places.{outermost}
 use Rattle.interpolator_pieces.specs.{NodeExtents.visit_extent, declared.extent.Widest.Widest}
 use Rattle.interpolator_pieces.proofs.{ExtentLemmas.text_greatest, VisitLemmas.text_extent}
 use Rattle.interpolator.proofs.template.Template.widest.Goals as goal

@@ -1,6 +1,6 @@
 use Rattle.std.proofs.Common.{◌≡◌, ◌∙◌, ap, sym, arith, List, ℕ, ◌++◌, length-append, chars}
 use Rattle.std.proofs.lemmas.List.{length-take-le, take_at}
-use Rattle.interpolator_render.specs.Written.{byte_count}
+use Rattle.interpolator_render.specs.Writers.{byte_count}
 use Rattle.interpolator_escapes.proofs.RoomLemmas.{held_size, holds_more, laid_text, grown}
 use Rattle.interpolator_escapes.proofs.room.Room.lay.Goals as goal
 

@@ -1,7 +1,7 @@
 use Rattle.std.proofs.Common.{◌≡◌, ◌∙◌, ap, ap₂, sym, arith, List, ℕ, ◌+◌, ◌++◌, encode_utf8}
 use Rattle.std.proofs.lemmas.Str.{encode_ascii, IsUtf8-encode}
 use Rattle.std.proofs.{lemmas.Bool.Decides.nat_tests, lemmas.List.take_more_set}
-use Rattle.interpolator_render.specs.Written.{byte_count}
+use Rattle.interpolator_render.specs.Writers.{byte_count}
 use Rattle.interpolator_render.proofs.WrittenLemmas.{chars-encode}
 use Rattle.interpolator_escapes.proofs.RoomLemmas.{held_size, holds_more, laid_text, grown}
 use Rattle.interpolator_escapes.proofs.room.Room.lay_ascii.Goals as goal

@@ -1,6 +1,6 @@
 use Rattle.std.proofs.Common.{◌≡◌, ◌∙◌, ap, sym, arith, List, ℕ, ◌+◌, ◌++◌, chars, take}
 use Rattle.std.proofs.{lemmas.List.length-take-le, lemmas.Str.IsUtf8-take}
-use Rattle.interpolator_render.specs.Written.{byte_count}
+use Rattle.interpolator_render.specs.Writers.{byte_count}
 use Rattle.interpolator_escapes.proofs.RoomLemmas.{held_size, holds_more, laid_text, grown}
 use Rattle.interpolator_escapes.proofs.RoomLemmas.{front_laid}
 use Rattle.interpolator_escapes.proofs.room.Room.lay_front.Goals as goal

@@ -1,5 +1,5 @@
 use Rattle.std.proofs.Common.{◌∙◌, ap, sym}
-use Rattle.interpolator_render.specs.Written.{byte_count}
+use Rattle.interpolator_render.specs.Writers.{byte_count}
 use Rattle.interpolator_escapes.proofs.RoomLemmas.{held_size}
 use Rattle.interpolator_escapes.proofs.room.Room.len.Goals as goal
 

@@ -1,5 +1,5 @@
 use Rattle.std.proofs.Common.{arith, subst}
-use Rattle.interpolator_syntax.specs.At.{at}
+use Rattle.interpolator_syntax.specs.Places.{at}
 use Rattle.interpolator_eval.specs.Meaning.ScannedLists.{ListAt}
 use Rattle.interpolator_eval.proofs.MeaningLemmas.ListPlaceLemmas.{list_found}
 use Rattle.interpolator_eval.proofs.evaluate.scan.write_before_list_on.Goals as goal

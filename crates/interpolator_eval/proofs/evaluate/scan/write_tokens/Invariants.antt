@@ -1,5 +1,5 @@
 use Rattle.std.proofs.Common.{length, chars}
-use Rattle.interpolator_syntax.specs.At.{at}
+use Rattle.interpolator_syntax.specs.Places.{at}
 use Rattle.interpolator_eval.specs.{Escaping.shows_by, Meaning.CodeEnvironments.environment_of}
 use Rattle.interpolator_eval.specs.Meaning.ScannedLists.{text_forest}
 use Rattle.interpolator_eval.proofs.MeaningLemmas.FirstPieceLemmas.{Passed}

@@ -1,7 +1,7 @@
 use Rattle.std.proofs.{Common.refl, Common.sym, lemmas.Result.err_from_is_err_and}
-use Rattle.interpolator_syntax.specs.At.{at}
+use Rattle.interpolator_syntax.specs.Places.{at}
 use Rattle.interpolator_syntax.proofs.PieceLemmas.{read_alone}
-use Rattle.interpolator_eval.proofs.MeaningLemmas.ScanLemmas.{value_told, value_means_so}
+use Rattle.interpolator_eval.proofs.MeaningLemmas.ScanLemmas.{value_reported, value_means_so}
 use Rattle.interpolator_eval.proofs.evaluate.scanned_argument.write_argument.Goals as goal
 
 pub returns-in_err-write_plain_value-in-Some-clause-outcome :
@@ -22,5 +22,5 @@ returns-in_ok-write_plain_value-in-Some g c =
     record {
       outcome = λ p. rw (value_means_so here p _ _ read _ refl, closed)
           c.in_ok-write_plain_value-in-Some.ensures.outcome;
-      rest = λ p. value_told here p _ _ read _ refl _ closed;
+      rest = λ p. value_reported here p _ _ read _ refl _ closed;
     }

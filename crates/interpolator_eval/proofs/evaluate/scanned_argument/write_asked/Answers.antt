@@ -1,10 +1,11 @@
 use Rattle.std.proofs.Common.{refl, ◌≡◌}
 use Rattle.std.proofs.lemmas.Result.{err_from_is_err_and}
 use Rattle.interpolator_syntax.specs.Arguments.{list_of, kind_of_request}
-use Rattle.interpolator_syntax.specs.{At.at, SpecTexts.of_list}
+use Rattle.interpolator_syntax.specs.{Places.at, SpecTexts.of_list}
 use Rattle.interpolator_eval.proofs.MeaningLemmas.LookUpLemmas.{value_asked}
 use Rattle.interpolator_eval.proofs.MeaningLemmas.ScanLemmas.{asked_ok, asked_broken, broken_writes}
-use Rattle.interpolator_eval.proofs.MeaningLemmas.ScanLemmas.{list_told, list_writes, value_told}
+use Rattle.interpolator_eval.proofs.MeaningLemmas.ScanLemmas.{list_reported, list_writes}
+use Rattle.interpolator_eval.proofs.MeaningLemmas.ScanLemmas.{value_reported}
 use Rattle.interpolator_eval.proofs.MeaningLemmas.ScanLemmas.{value_means_so}
 use Rattle.interpolator_eval.proofs.evaluate.scanned_argument.write_asked.Goals as goal
 
@@ -20,7 +21,7 @@ returns-in-Iter g c =
     let list : kind_of_request asked ≡ of_list (list_of asked.list) = rw c.in-Iter.is refl in
     record {
       outcome = λ p. list_writes (at c.args.here) p _ _ read _ list _ _ _;
-      rest = λ p. list_told (at c.args.here) p _ _ read _ list;
+      rest = λ p. list_reported (at c.args.here) p _ _ read _ list;
     }
 
 pub returns-in_err-after : goal.returns-in_err-after
@@ -43,5 +44,5 @@ returns g c =
     record {
       outcome = λ p. rw (value_means_so (at c.args.here) p _ _ read _ value)
           c.in_ok-after.ensures.outcome;
-      rest = λ p. value_told (at c.args.here) p _ _ read _ value _ c.in_ok-after.ensures.rest;
+      rest = λ p. value_reported (at c.args.here) p _ _ read _ value _ c.in_ok-after.ensures.rest;
     }

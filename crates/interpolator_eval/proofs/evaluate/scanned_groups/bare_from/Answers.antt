@@ -1,5 +1,5 @@
 use Rattle.std.proofs.Common.{refl, sym}
-use Rattle.interpolator_syntax.specs.At.{at}
+use Rattle.interpolator_syntax.specs.Places.{at}
 use Rattle.interpolator_eval.proofs.MeaningLemmas.ScanLemmas.{text_next}
 use Rattle.interpolator_eval.proofs.evaluate.scanned_groups.bare_from.Goals as goal
 

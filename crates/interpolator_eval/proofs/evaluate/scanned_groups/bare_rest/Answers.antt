@@ -1,6 +1,6 @@
 use Rattle.std.proofs.Common.{◌≡◌, [], arith, chars, refl, sym}
 use Rattle.std.proofs.{lemmas.Grind.common_steps, lemmas.Str.chars-nil}
-use Rattle.interpolator_syntax.specs.At.{at}
+use Rattle.interpolator_syntax.specs.Places.{at}
 use Rattle.interpolator_syntax.proofs.PieceLemmas.{read_alone}
 use Rattle.interpolator_eval.proofs.MeaningLemmas.PlainItemLemmas.{bare_here, rest_here}
 use Rattle.interpolator_eval.proofs.evaluate.scanned_groups.bare_rest.Goals as goal

@@ -1,5 +1,5 @@
 use Rattle.std.proofs.Common.{refl, sym}
-use Rattle.interpolator_syntax.specs.At.{at}
+use Rattle.interpolator_syntax.specs.Places.{at}
 use Rattle.interpolator_eval.proofs.MeaningLemmas.PlainItemLemmas.{group_framed}
 use Rattle.interpolator_eval.proofs.evaluate.scanned_groups.plain_group.Goals as goal
 

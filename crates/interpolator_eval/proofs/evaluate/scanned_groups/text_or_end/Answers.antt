@@ -1,5 +1,5 @@
 use Rattle.std.proofs.Common.{sym}
-use Rattle.interpolator_syntax.specs.At.{at}
+use Rattle.interpolator_syntax.specs.Places.{at}
 use Rattle.interpolator_eval.proofs.MeaningLemmas.{PlainItemLemmas.run_alone, ScanLemmas.text_none}
 use Rattle.interpolator_eval.proofs.evaluate.scanned_groups.text_or_end.Goals as goal
 

@@ -1,7 +1,7 @@
 use Rattle.std.proofs.Common.{◌∙◌, ap, inl, sym, refl, arith, string_bytes, encode_utf8}
 use Rattle.std.specs.Str.{chars}
 use Rattle.std.proofs.lemmas.Str.{IsUtf8-string_bytes}
-use Rattle.interpolator_render.specs.Written.{Written}
+use Rattle.interpolator_render.specs.Writers.{Written}
 use Rattle.interpolator_render.proofs.WrittenLemmas.{buffer_appends, chars-encode, may_refuse}
 use Rattle.interpolator_render.proofs.WrittenLemmas.{refuses_all}
 use Rattle.interpolator_vectors.proofs.limited.LimitedTextWrite.write_char.Goals as goal

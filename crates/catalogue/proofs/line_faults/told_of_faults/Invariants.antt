@@ -1,9 +1,0 @@
-use Rattle.std.proofs.Common.{◌≡◌, ◌++◌, drop, map, string_bytes}
-use Rattle.interpolator.specs.Faults.{answer_of}
-use Rattle.catalogue.specs.{Files.as_line, Told.told_of_faults}
-use Rattle.catalogue.proofs.line_faults.told_of_faults.Given as goal
-
-abbrev pub invariant-loop-error : goal.invariant-loop-error
-invariant-loop-error l = string_bytes l.told ++ told_of_faults (as_line l.line) l.format
-    (map answer_of (drop l.error-index l.errors))
-    ≡ told_of_faults (as_line l.line) l.format (map answer_of l.errors)

@@ -1,9 +1,0 @@
-use Rattle.catalogue.specs.{Files.as_page, Told.told_absent}
-use Rattle.catalogue.proofs.FirstLemmas.{drop_item, told_rest}
-use Rattle.catalogue.proofs.messages.told_of_absent.Goals as goal
-
-pub loop-page-preserved : goal.loop-page-preserved
-loop-page-preserved c = told_rest (told_absent c.args.objects.now c.args.key.now) _ _ _ _ _ _ _
-    (drop_item as_page c.args.pages.now c.loop-page.page-index c.page-item.result
-    c.loop-page-test.true c.page-item.is) c.loop-page.invariant c.in_ok-more.ensures.told
-    (rw c.as_str.ensures.value at c.in_ok-push_str.ensures.bytes)

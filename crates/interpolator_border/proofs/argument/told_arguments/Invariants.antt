@@ -1,8 +1,0 @@
-use Rattle.std.proofs.Common.{◌≡◌, map, take}
-use Rattle.interpolator_syntax.specs.Arguments.{argument_of}
-use Rattle.interpolator_border.specs.Arguments.{told_argument}
-use Rattle.interpolator_border.proofs.argument.told_arguments.Given as goal
-
-abbrev pub invariant-loop-argument : goal.invariant-loop-argument
-invariant-loop-argument l =
-    l.told.items ≡ map told_argument (map argument_of (take l.argument-index l.arguments))

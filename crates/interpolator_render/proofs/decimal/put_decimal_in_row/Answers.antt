@@ -1,0 +1,7 @@
+use Rattle.std.proofs.Common.{arith}
+use Rattle.interpolator_render.proofs.ExponentRowLemmas.{grown_alone}
+use Rattle.interpolator_render.proofs.decimal.put_decimal_in_row.Goals as goal
+
+pub returns : goal.returns
+returns g c = let body = grown_alone _ _ c.new-buffer.result (grind arith) c.put_split.ensures in
+    grind arith
