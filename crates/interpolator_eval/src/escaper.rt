@@ -58,7 +58,9 @@ impl Escaper for Unescaped {
     ghost shown = { λ shown _ _. shown };
 
     #[inline(always)]
-    fn writes_as_it_is() -> bool {
+    fn writes_as_it_is() -> bool
+        ensures { result ≡ true }
+    {
         true
     }
 

@@ -1,5 +1,6 @@
 //! Writes lists of a prepared format whose items are one value each, between texts.
-ghost use Rattle.std.specs.Prelude.{◌≡◌, ℕ, IfSome, IsSome, Option, map, true};
+ghost use Rattle.std.specs.Prelude.{◌≡◌, ℕ, IsSome, MatchOption, Option, false, map};
+ghost use Rattle.std.specs.Prelude.{true};
 ghost use Rattle.interpolator_render.specs.declared.view.Trait.TheVariants.{Display};
 ghost use Rattle.interpolator_syntax.specs.{Faults.result_answer, SpecTexts.plain_spec};
 ghost use Rattle.interpolator_eval.specs.Meaning.Meanings.{chain, items_mean, text_alone};
@@ -7,7 +8,7 @@ ghost use Rattle.interpolator_eval.specs.Slots.{Slots, slots_of};
 ghost use Rattle.interpolator_eval.specs.{Escaping.shows_by, Meaning.Environments.environment};
 ghost use Rattle.interpolator_eval.specs.{Meaning.Outcomes.Outcome, Meaning.Sinks.write_answered};
 ghost use Rattle.interpolator_prepared.specs.{Items.items_within, Items.value_under};
-ghost use Rattle.interpolator_prepared.specs.NumberRows.{HasDigits, HasText};
+ghost use Rattle.interpolator_prepared.specs.NumberRows.{HasDigits, HasText, is_put};
 ghost use Rattle.interpolator_prepared.specs.{Rows.name_bytes, StoredSteps.compiled_list};
 ghost use Rattle.interpolator_prepared.specs.{StoredSteps.fitting_means, StoredSteps.joined_text};
 
@@ -156,8 +157,10 @@ fn put_behind<'a, V: Value>(
 ) -> Option<usize>
     requires row { HasText between.now row.old }
     ensures row { HasText between.now row.new }
-    ensures both { IfSome result (λ count. HasDigits V.shows between.now (slots_of item.now) count
-        row.new) }
+    ensures both { MatchOption result
+        (is_put V.shows between.now (slots_of item.now) ≡ false)
+        (λ count. (is_put V.shows between.now (slots_of item.now) ≡ true)
+        × HasDigits V.shows between.now (slots_of item.now) count row.new) }
 {
     let size = between.text.len();
     if size > MOST_BETWEEN {
@@ -188,7 +191,7 @@ fn put_next<'a, W: TextWrite, V: Value, E: Escaper, const PLAIN: bool>(
 {
     if PLAIN && E::writes_as_it_is() {
         if let Some(count) = put_behind(row, between, item) {
-            return put_row(out, between, &row[..count], value.end);
+            return put_row(out, between, row, count, value.end);
         }
     }
     put_joined(out, between)?;

@@ -1,6 +1,6 @@
 //! Text of several parts of a format.
-ghost use Rattle.std.specs.Prelude.{◌≡◌, ◌+◌, ℕ, List, [], ◌∷◌, ◌++◌, IfOk, IsSome, Some, length};
-ghost use Rattle.std.specs.Prelude.{string_bytes};
+ghost use Rattle.std.specs.Prelude.{◌≡◌, ◌+◌, ◌≤◌, ℕ, List, [], ◌∷◌, ◌++◌, IfOk, IsSome, Some};
+ghost use Rattle.std.specs.Prelude.{length, string_bytes, take};
 ghost use Rattle.std.specs.{List.All, Str.chars, Str.IsAscii, Str.IsUtf8};
 ghost use Rattle.interpolator_syntax.specs.Places.{Placed, placed_at, placed_from};
 ghost use Rattle.interpolator_eval.specs.{Meaning.Meanings.text_alone, Meaning.Outcomes.Outcome};
@@ -151,22 +151,24 @@ fn place_behind(joined: &JoinedText, offset: usize, end: usize) -> usize
     end
 }
 
-/// Writes joined text and the value behind it, which lie in a row, by one call of the writer.
+/// Writes joined text and the value behind it, the first `count` bytes of a row, by one call of the
+/// writer.
 #[inline(always)]
 pub fn put_row<W: TextWrite>(
     out: &mut W,
     joined: &JoinedText,
-    row: &[u8],
+    row: &[u8; 16],
+    count: usize,
     end: usize,
 ) -> Result<(), WriteFault>
-    requires utf8 { IsUtf8 row.now }
+    requires fits { count ≤ 16 }
+    requires utf8 { IsUtf8 (take count row.now) }
     ensures outcome { (digits : List ℕ) → IsAscii digits
-        → row.now ≡ string_bytes joined.now.text ++ digits
+        → take count row.now ≡ string_bytes joined.now.text ++ digits
         → Outcome (text_alone (joined_text joined.now ++ placed_at end digits))
         (W.written out.old) (W.written out.new) (write_answered result) }
 {
-    let text = unsafe { str::from_utf8_unchecked(row) };
-    match out.write_str(text) {
+    match out.write_short(row, count) {
         Ok(()) => Ok(()),
         Err(refusal) => Err(WriteFault::Fmt(place_behind(joined, refusal.taken, end))),
     }

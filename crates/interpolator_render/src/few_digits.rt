@@ -1,8 +1,9 @@
 //! Whole numbers of few digits, put into a row behind what lies there.
-ghost use Rattle.std.specs.Prelude.{◌≡◌, ◌+◌, ◌<◌, ◌≤◌, ◌++◌, IfSome, None, false, length};
+ghost use Rattle.std.specs.Prelude.{◌≡◌, ◌+◌, ◌<◌, ◌≤◌, ◌++◌, MatchOption, false, true, length};
 ghost use Rattle.std.specs.Prelude.{drop, take};
 ghost use Rattle.interpolator_digits.specs.Digits.{digit_text};
-ghost use Rattle.interpolator_render.specs.{FewDigits.PutsFew, Padding.unset_spec, Texts.view_text};
+ghost use Rattle.interpolator_render.specs.FewDigits.{PutsFew, is_few};
+ghost use Rattle.interpolator_render.specs.{Padding.unset_spec, Texts.view_text};
 ghost use Rattle.interpolator_render.specs.Views.{IsInRange, shown_by};
 ghost use Rattle.interpolator_render.specs.declared.view.Trait.TheVariants.{Display};
 
@@ -73,9 +74,10 @@ fn put_digits_at(row: &mut [u8], at: usize, n: u64) -> usize
 pub fn put_few_digits(row: &mut [u8], at: usize, view: View<'_>) -> Option<usize>
     requires in_range { IsInRange (shown_by view) }
     requires room { at + 4 ≤ length row.old }
-    ensures some { IfSome result (λ count.
-        PutsFew (view_text (shown_by view.entry) Display unset_spec) at count row.old row.new) }
-    ensures none { result ≡ None → row.new ≡ row.old }
+    ensures answer { MatchOption result
+        ((is_few (shown_by view.entry) ≡ false) × (row.new ≡ row.old))
+        (λ count. (is_few (shown_by view.entry) ≡ true)
+        × PutsFew (view_text (shown_by view.entry) Display unset_spec) at count row.old row.new) }
     ensures size { length row.new ≡ length row.old }
     ensures front { take at row.new ≡ take at row.old }
 {

@@ -1,7 +1,8 @@
 //! A writer that keeps its text in memory.
 ghost use Rattle.std.specs.Prelude.{◌≡◌, ◌+◌, ◌<◌, ◌≤◌, ◌∷◌, [], false, length, encode_utf8};
 ghost use Rattle.std.specs.Prelude.{string_bytes, string_capacity, MatchResult, OnOk, OnErr, None};
-ghost use Rattle.std.specs.Str.{chars};
+ghost use Rattle.std.specs.Prelude.{take};
+ghost use Rattle.std.specs.Str.{chars, IsUtf8};
 ghost use Rattle.interpolator_render.specs.Writers.{Appends, Refuses, RefusesWhole, as_writer};
 ghost use Rattle.interpolator_render.specs.Writers.{byte_count, MayRefuse, plain};
 
@@ -205,6 +206,27 @@ impl TextWrite for TextBuffer {
             return Ok(());
         }
         self.append_slowly(text)
+    }
+
+    #[inline(always)]
+    fn write_short(&mut self, row: &[u8; 16], count: usize) -> Result<(), Refusal>
+        requires fits { count ≤ 16 }
+        requires utf8 { IsUtf8 (take count row.now) }
+        ensures written { MatchResult result
+            (λ _. Appends (as_writer self.old) (chars (take count row.now)) (as_writer self.new))
+            (λ refusal. Refuses (as_writer self.old) (chars (take count row.now)) refusal.taken
+            (as_writer self.new)) }
+        ensures whole { MatchResult result (λ _. Unit {0})
+            (λ refusal. RefusesWhole (as_writer self.old) refusal.taken (as_writer self.new)) }
+        ensures full { OnErr result (MayRefuse self.old count) }
+        ensures room { self.old.room ≤ self.new.room }
+    {
+        if row.len() <= self.bytes.len() - self.len {
+            put_at(&mut self.bytes, self.len, row);
+            self.len += count;
+            return Ok(());
+        }
+        self.write_str(unsafe { str::from_utf8_unchecked(&row[..count]) })
     }
 
     #[inline(always)]

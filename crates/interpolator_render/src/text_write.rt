@@ -1,6 +1,7 @@
 //! Writers of text, which may refuse what they are given.
-ghost use Rattle.std.specs.Prelude.{◌≡◌, ℕ, ◌∷◌, [], MatchOption, MatchResult, Option, None, Some};
-ghost use Rattle.std.specs.Str.{chars};
+ghost use Rattle.std.specs.Prelude.{◌≡◌, ◌≤◌, ℕ, ◌∷◌, [], MatchOption, MatchResult, Option};
+ghost use Rattle.std.specs.Prelude.{None, Some, take};
+ghost use Rattle.std.specs.Str.{chars, IsUtf8};
 ghost use Rattle.interpolator_render.specs.Writers.{Written, AppendsWithin, StaysWithin};
 ghost use Rattle.interpolator_render.specs.Texts.{render_answer};
 ghost use Rattle.interpolator_render.specs.Writers.{Refuses, RefusesWhole};
@@ -61,6 +62,26 @@ pub trait TextWrite {
             (λ _. AppendsWithin (limit self.old) (limit self.new) (written self.old) (c ∷ [])
             (written self.new))
             (λ refusal. Refuses (written self.old) (c ∷ []) refusal.taken (written self.new)) };
+
+    /// Appends a text that is the first `count` bytes of a row, as [`TextWrite::write_str`] does. A
+    /// writer that has room for the row may copy all of it, which is faster than to copy a text whose
+    /// length is not known beforehand.
+    ///
+    /// ```text
+    /// out.write_short(b", 70............", 4)?;   // appends ", 70"
+    /// ```
+    #[inline(always)]
+    fn write_short(&mut self, row: &[u8; 16], count: usize) -> Result<(), Refusal>
+        requires fits { count ≤ 16 }
+        requires utf8 { IsUtf8 (take count row.now) }
+        ensures { MatchResult result
+            (λ _. AppendsWithin (limit self.old) (limit self.new) (written self.old)
+            (chars (take count row.now)) (written self.new))
+            (λ refusal. Refuses (written self.old) (chars (take count row.now)) refusal.taken
+            (written self.new)) }
+    {
+        self.write_str(unsafe { str::from_utf8_unchecked(&row[..count]) })
+    }
 
     /// Whether the writer has refused a text.
     fn refused(&self) -> bool

@@ -79,6 +79,24 @@ fn bounded(report: &mut Report) {
     report.text("its text", "abï", out.into_string().as_str());
 }
 
+/// Beginnings of a row as texts, which fit where the row does not.
+fn beginnings_of_a_row(report: &mut Report) {
+    let row = b"ab--------------";
+    let mut out = Bounded::new(report.alloc, 3);
+    report.holds("two bytes fit", out.write_short(row, 2).is_ok());
+    let second = out.write_short(row, 2);
+    report.holds("of two more, one fits", second == Err(Refusal { taken: 1 }));
+    report.text("the three", "aba", out.as_str());
+    let mut out = TextBuffer::new(report.alloc);
+    let mut is_taken = true;
+    for _ in 0..1100 {
+        is_taken = out.write_short(row, 2).is_ok() && is_taken;
+    }
+    report.holds("each is taken", is_taken);
+    report.number("the bytes of all", 2200, out.as_str().len());
+    report.holds("no byte of a row is left", !out.as_str().contains('-'));
+}
+
 /// A bounded writer that takes its memory at once. `naï` has four bytes.
 fn bounded_with_room(report: &mut Report) -> Result<(), Error> {
     let mut out = Bounded::with_room(report.alloc, 4)?;
@@ -154,6 +172,7 @@ fn is_written_by(report: &mut Report, format: &str, text: &str, most: usize) -> 
 pub fn run(report: &mut Report) -> Result<(), Error> {
     report.begin("writers");
     bounded(report);
+    beginnings_of_a_row(report);
     bounded_with_room(report)?;
     great_widths(report);
     asked_room(report)?;

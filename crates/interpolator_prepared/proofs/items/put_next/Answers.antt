@@ -4,7 +4,9 @@ use Rattle.interpolator_prepared.proofs.NumberRowLemmas.{row_utf8}
 use Rattle.interpolator_prepared.proofs.items.put_next.Goals as goal
 
 pub put_row-requires : goal.put_row-requires
-put_row-requires g c = record { utf8 = row_utf8 _ _ _ _ _ c.in-Some.ensures.both }
+put_row-requires g c =
+    let digits = c.in-Some.ensures.both.1 in
+    record { fits = digits.fits; utf8 = row_utf8 _ _ _ _ _ digits }
 
 pub returns-in_err-put_joined-clause-outcome : goal.returns-in_err-put_joined-clause-outcome
 returns-in_err-put_joined-clause-outcome g c =

@@ -1,4 +1,4 @@
-use Rattle.std.proofs.Common.{ap, arith, ◌≡◌, ◌∙◌, ◌+◌}
+use Rattle.std.proofs.Common.{ap, arith, take, ◌≡◌, ◌+◌}
 use Rattle.std.proofs.lemmas.Str.{IsUtf8-string_bytes}
 use Rattle.std.specs.Str.{chars}
 use Rattle.interpolator_render.proofs.WrittenLemmas.{appended_within}
@@ -10,20 +10,22 @@ use Rattle.interpolator_prepared.proofs.joined.put_row.Goals as goal
 
 pub returns-in-Ok : goal.returns-in-Ok
 returns-in-Ok g c =
+    let text = take c.args.count c.args.row.now in
     record {
       outcome = λ digits ascii row. row_writes c.args.joined.now.parts.items _ digits c.args.end
-          (IsUtf8-string_bytes c.args.joined.now.text) ascii c.from_utf8_unchecked-text.result.now _ _ (c.from_utf8_unchecked-text.ensures ∙ row)
-          (wrote_from 0 (chars c.from_utf8_unchecked-text.result.now) _ _ (appended_within _ _ _ _ _ c.in-Ok.ensures));
+          (IsUtf8-string_bytes c.args.joined.now.text) ascii text _ _ row
+          (wrote_from 0 (chars text) _ _ (appended_within _ _ _ _ _ c.in-Ok.ensures));
     }
 
 pub returns-in-Err : goal.returns-in-Err
 returns-in-Err g c =
     let e = c.in-Err in
+    let text = take c.args.count c.args.row.now in
     let from_first : 0 + e.refusal.taken ≡ e.refusal.taken = omega arith in
-    let refused = refused_from 0 (chars c.from_utf8_unchecked-text.result.now) e.refusal.taken _ _ e.ensures in
+    let refused = refused_from 0 (chars text) e.refusal.taken _ _ e.ensures in
     record {
       outcome = λ digits ascii row. row_refused c.args.joined.now.parts.items _ digits c.args.end
-          (IsUtf8-string_bytes c.args.joined.now.text) ascii c.from_utf8_unchecked-text.result.now _ _ (c.from_utf8_unchecked-text.ensures ∙ row)
+          (IsUtf8-string_bytes c.args.joined.now.text) ascii text _ _ row
           (faults.Fmt e.refusal.taken) _ (ap (λ p. fault (fmt p)) c.place_behind.ensures)
           (rw from_first at refused);
     }
