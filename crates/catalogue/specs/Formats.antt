@@ -9,12 +9,12 @@ use Rattle.catalogue.specs.{Files.Line, Reports.lent, Reports.reported_at}
 use Rattle.words.specs.Words.{is_equals}
 
 -- what the line of a message writes of its format, after the first `=`
-abbrev pub first_of : List ℕ → List ℕ
-first_of line = trim_start (after_first is_equals line)
+abbrev pub text_on_line : List ℕ → List ℕ
+text_on_line line = trim_start (after_first is_equals line)
 
 -- what that line and those after it write
 abbrev pub written_of : Line → List ℕ
-written_of line = first_of line.text ++ folded line.rest
+written_of line = text_on_line line.text ++ folded line.rest
 
 -- the format, or the byte of what is written at which a backslash is wrong
 abbrev pub format_of : Line → Result (List ℕ) ℕ
@@ -23,7 +23,7 @@ format_of line = text_in (written_of line)
 -- where a byte of what is written stands
 abbrev pub spot_in : Line → ℕ → Spot
 spot_in line place =
-    spot_of line.text (length line.text - length (first_of line.text)) line.rest place
+    spot_of line.text (length line.text - length (text_on_line line.text)) line.rest place
 
 -- the line of that
 abbrev pub line_of_spot : Line → Spot → Line

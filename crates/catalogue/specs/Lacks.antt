@@ -94,9 +94,9 @@ abbrev pub what_is_lacking : (key first : List ℕ) → List (List ℕ) → List
 what_is_lacking key first more = codes "`" ++ (key
     ++ (codes "` lacks forms that the rule can choose: " ++ all_quoted first more))
 
-abbrev pub report_of_lacking : Line → (head key : List ℕ) → List (List ℕ) → List ℕ
-report_of_lacking line head key [] = []
-report_of_lacking line head key (first ∷ more) =
+abbrev pub lacking_at_key : Line → (head key : List ℕ) → List (List ℕ) → List ℕ
+lacking_at_key line head key [] = []
+lacking_at_key line head key (first ∷ more) =
     reported_at line (begin_of 0 head) (what_is_lacking key first more)
 
 -- what is reported of a key in the first line that has one of its forms
@@ -104,18 +104,18 @@ abbrev pub report_of_first : List Line → (forms : List (List ℕ)) → Line �
 report_of_first lines forms line None = []
 report_of_first lines forms line (Some key) =
     if has_before lines line.number key forms then []
-    else report_of_lacking line (head_of line.text) key (lacking lines key forms)
+    else lacking_at_key line (head_of line.text) key (lacking lines key forms)
 
 -- what is reported of a line
-abbrev pub report_of_line : List Line → (forms : List (List ℕ)) → Line → List ℕ
-report_of_line lines forms line =
+abbrev pub lacking_in_line : List Line → (forms : List (List ℕ)) → Line → List ℕ
+lacking_in_line lines forms line =
     if has_message line.text
     then report_of_first lines forms line (key_with_forms lines forms (key_of line.text)) else []
 
 -- what is reported of a file: each key of which it has some of the forms that its rule can choose,
 -- but neither all of them nor the key itself
-abbrev pub report_of_file : Page → List ℕ
-report_of_file page = concat (map (report_of_line (lines_of page) (forms_in page.1)) (lines_of page))
+abbrev pub lacking_in_file : Page → List ℕ
+lacking_in_file page = concat (map (lacking_in_line (lines_of page) (forms_in page.1)) (lines_of page))
 
-abbrev pub report_of_files : List Page → List ℕ
-report_of_files pages = concat (map report_of_file pages)
+abbrev pub lacking_in_files : List Page → List ℕ
+lacking_in_files pages = concat (map lacking_in_file pages)

@@ -9,7 +9,7 @@ use Rattle.interpolator.specs.{Meaning.Meanings.means, Meaning.Outcomes.Formats,
 use Rattle.interpolator.specs.{declared.Spec.Spec, declared.Trait.Trait}
 use Rattle.interpolator_escapes.specs.{Formats.escaped_shows, declared.escape.Escape.Escape}
 use Rattle.catalogue.specs.Entries.{Held, found_by, held_by}
-use Rattle.catalogue.specs.Picks.{ArePicked, IsLacking, report_of_lacking}
+use Rattle.catalogue.specs.Picks.{ArePicked, IsLacking, report_of_missing_word}
 use Rattle.catalogue.specs.FileReports.{report_of_absent, report_of_fault, report_of_files}
 use Rattle.catalogue.specs.declared.messages.Answer.TheVariants.{Message, Faults, Absent, BadWord}
 use Rattle.catalogue.specs.{Declarations.Declared, Declarations.nothing, Examples.view_shows}
@@ -57,7 +57,7 @@ pub record IsReportedLacking (line : Line) (key : List ℕ) (declared : Declared
     (objects : List Object) (reported : List ℕ) : Type 0 where
   pub lacking : List ℕ × Kind
   pub first : IsLacking declared objects lacking
-  pub says : reported ≡ report_of_lacking line key lacking
+  pub says : reported ≡ report_of_missing_word line key lacking
 
 -- what the line that was found comes to: the message; the value that it lacks, or its fault, if it
 -- declares nothing; or that what chooses its form is missing
@@ -70,7 +70,7 @@ Replies escape (Faults reported) None line key declared format objects =
     ⊎ ((declared ≡ nothing)
     × IsReportedOf escape line format (map held_by objects) (string_bytes reported))
 Replies escape (Faults reported) (Some lacking) line key declared format objects =
-    string_bytes reported ≡ report_of_lacking line key lacking
+    string_bytes reported ≡ report_of_missing_word line key lacking
 Replies escape (Message message) (Some lacking) line key declared format objects = ⊥
 Replies escape (Absent reported) lacks line key declared format objects = ⊥
 Replies escape (BadWord word) lacks line key declared format objects = ⊥

@@ -59,7 +59,7 @@ shape_of kinds.List = codes "[]=ITEM,ITEM"
 
 -- what is reported of a line's message that lacks a value: the file, the line's number, the key,
 -- and which word is missing
-abbrev pub report_of_lacking : Line → List ℕ → List ℕ × Kind → List ℕ
-report_of_lacking line key lacking =
+abbrev pub report_of_missing_word : Line → List ℕ → List ℕ × Kind → List ℕ
+report_of_missing_word line key lacking =
     line.file ++ (codes ":" ++ (decimal line.number ++ (codes ": `" ++ (key ++ (codes "` wants `"
     ++ (lacking.0 ++ (shape_of lacking.1 ++ codes "`\n")))))))

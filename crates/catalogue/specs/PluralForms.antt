@@ -7,13 +7,13 @@ use Rattle.po.specs.{Entries.Entry, declared.token.Placed.Placed}
 use Rattle.catalogue.specs.{Forms.first_given, Translations.is_head, Translations.is_translated}
 
 -- the first of some texts
-abbrev pub first_of : List (List Placed) → Option (List Placed)
-first_of [] = None
-first_of (text ∷ more) = Some text
+abbrev pub first_text : List (List Placed) → Option (List Placed)
+first_text [] = None
+first_text (text ∷ more) = Some text
 
 -- the header of a file: the translation of the first head that has one
 abbrev pub header_in : Entry → Option (List Placed)
-header_in entry = if is_head entry then first_of entry.texts else None
+header_in entry = if is_head entry then first_text entry.texts else None
 
 abbrev pub header_of : List Entry → List Placed
 header_of entries = unwrap_or (first_given header_in entries) []

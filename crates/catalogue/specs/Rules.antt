@@ -22,14 +22,14 @@ abbrev pub rule_in : List ℕ → Option (List ℕ)
 rule_in line = if bytes_eq (take 7 line) rule_head then Some (drop 7 line) else None
 
 -- the whole number that a view has
-abbrev pub number_of : View → Option ℤ
-number_of (Signed number bits) = Some number
-number_of _ = None
+abbrev pub whole_number : View → Option ℤ
+whole_number (Signed number bits) = Some number
+whole_number _ = None
 
 -- the number of an object, if there is one, and if it is a number
 abbrev pub number_in : Option Object → Option ℤ
 number_in None = None
-number_in (Some object) = number_of object.value
+number_in (Some object) = whole_number object.value
 
 -- the number under a name: that of the last object of the name
 abbrev pub number_under : List Object → List ℕ → Option ℤ

@@ -57,8 +57,8 @@ what_is_other is_there name =
     then codes "the message has `{" ++ (encode_utf8_all name ++ codes "}` otherwise")
     else codes "the message has no `{" ++ (encode_utf8_all name ++ codes "}`")
 
-abbrev pub what_is_lacking : (name : List ℕ) → List ℕ
-what_is_lacking name = codes "the translation lacks `{" ++ (encode_utf8_all name ++ codes "}`")
+abbrev pub lacking_name : (name : List ℕ) → List ℕ
+lacking_name name = codes "the translation lacks `{" ++ (encode_utf8_all name ++ codes "}`")
 
 module _ (file : File) where
   -- what is reported of an argument of a translation: nothing, if it is known
@@ -69,7 +69,7 @@ module _ (file : File) where
   -- what is reported of an argument of a message: that the translation, which has these, lacks it
   abbrev pub TellsLacking : (found : List Argument) → Argument → List ℕ → Type 0
   TellsLacking found one =
-      When (not (has_name found one.name)) (IsReportedAt file (what_is_lacking one.name))
+      When (not (has_name found one.name)) (IsReportedAt file (lacking_name one.name))
 
   -- what is reported of a fault of a format
   abbrev pub TellsFault : Answer → List ℕ → Type 0

@@ -7,10 +7,10 @@ ghost use Rattle.interpolator_syntax.specs.Arguments.{argument_of};
 ghost use Rattle.catalogue.specs.Reported.{Each};
 ghost use Rattle.catalogue.specs.Translations.{HasSame, IsKnown, IsPlainItem, IsSame, TellsLacking};
 ghost use Rattle.catalogue.specs.Translations.{TellsOther, arguments_in, has_name};
-ghost use Rattle.catalogue.specs.Translations.{what_is_lacking, what_is_other};
+ghost use Rattle.catalogue.specs.Translations.{lacking_name, what_is_other};
 
 use crate::files::File;
-use crate::po_reports::reported_in;
+use crate::po_reports::reported_in_strings;
 use crate::translations::template_of;
 use crate::unused::is_name;
 use interpolator::{Argument, Error, Kind, Trait};
@@ -91,8 +91,8 @@ fn what_is_other(alloc: Global, is_there: bool, name: &str) -> Result<String, Al
 }
 
 /// What is reported of a name that a translation lacks.
-fn what_is_lacking(alloc: Global, name: &str) -> Result<String, AllocError>
-    ensures { IfOk result (λ what. string_bytes what ≡ what_is_lacking (chars name.now)) }
+fn lacking_name(alloc: Global, name: &str) -> Result<String, AllocError>
+    ensures { IfOk result (λ what. string_bytes what ≡ lacking_name (chars name.now)) }
 {
     let what = format!(in alloc; "the translation lacks `{{{name}}}`")?;
     Ok(what)
@@ -115,7 +115,7 @@ fn report_of_other(
         return Ok(String::new(alloc));
     }
     let what = what_is_other(alloc, is_named(id, plural, one.name), one.name)?;
-    let reported = reported_in(alloc, file, strings, one.name_place, what.as_str())?;
+    let reported = reported_in_strings(alloc, file, strings, one.name_place, what.as_str())?;
     Ok(reported)
 }
 
@@ -156,13 +156,13 @@ fn report_of_name(
     if has_name(found, one.name) {
         return Ok(String::new(alloc));
     }
-    let what = what_is_lacking(alloc, one.name)?;
-    let reported = reported_in(alloc, file, strings, 0, what.as_str())?;
+    let what = lacking_name(alloc, one.name)?;
+    let reported = reported_in_strings(alloc, file, strings, 0, what.as_str())?;
     Ok(reported)
 }
 
 /// Reports the names of a message that its translation lacks.
-pub fn report_of_lacking(
+pub fn report_of_lacking_names(
     alloc: Global,
     file: &File,
     strings: &[Placed],

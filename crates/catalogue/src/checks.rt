@@ -19,7 +19,7 @@ use crate::entries::Object;
 use crate::files::{File, Line, Page, lines_of, pages_of};
 use crate::formats::format_of;
 use crate::forms::Sought;
-use crate::keys::{add, no_keys, report_of_key};
+use crate::keys::{add_key, no_keys, report_of_key};
 use crate::line_faults::{report_of_message, report_of_rule};
 use crate::lines::{head_of, is_key, is_passed_over, opens, sought};
 use crate::reports::reported_at;
@@ -194,7 +194,7 @@ fn checked_lines<'p, 'a>(
     for line in lines {
         let checked = checked_line(alloc, line, is_open, &keys, wanted)?;
         reported.push_str(checked.reported.as_str())?;
-        add(&mut keys, line.number, checked.key)?;
+        add_key(&mut keys, line.number, checked.key)?;
         found = found.or(checked.found);
         is_open = opens(is_open, line.text);
     }

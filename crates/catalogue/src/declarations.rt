@@ -82,7 +82,10 @@ fn broken_at(place: usize, found: &[Declaration<'_>], part: &str) -> Option<usiz
 }
 
 /// Adds a declaration, if there is one.
-fn add<'a>(found: &mut Vec<Declaration<'a>>, one: Option<Declaration<'a>>) -> Result<(), AllocError>
+fn add_declaration<'a>(
+    found: &mut Vec<Declaration<'a>>,
+    one: Option<Declaration<'a>>,
+) -> Result<(), AllocError>
     ensures { OnOk result (map as_declaration found.new.items
         ≡ map as_declaration found.old.items ++ as_list (option_map as_declaration one.entry)) }
 {
@@ -118,7 +121,7 @@ fn declared_between<'a>(
         if let Some(place) = broken_at(at, found.as_slice(), part) {
             return Ok(Heading::Broken(place));
         }
-        add(&mut found, part_of(part))?;
+        add_declaration(&mut found, part_of(part))?;
         at = after_part(at, part);
     }
     Ok(Heading::Declares(found))

@@ -4,7 +4,7 @@ ghost use Rattle.std.specs.Prelude.{◌≡◌, IfOk, IfErr, Some, string_bytes};
 ghost use Rattle.interpolator.specs.Faults.{answer_of, no_memory};
 ghost use Rattle.catalogue.specs.Files.{as_line};
 ghost use Rattle.std.specs.List.{after_first};
-ghost use Rattle.catalogue.specs.Formats.{first_of, format_of, reported_in, report_of_place};
+ghost use Rattle.catalogue.specs.Formats.{text_on_line, format_of, reported_in, report_of_place};
 ghost use Rattle.catalogue.specs.Formats.{written_of};
 ghost use Rattle.words.specs.Words.{is_equals};
 
@@ -25,8 +25,8 @@ fn after_equals(text: &str) -> &str
 }
 
 /// What the line of a message writes of its format.
-fn first_of(text: &str) -> &str
-    ensures { result.now ≡ first_of text.now }
+fn text_on_line(text: &str) -> &str
+    ensures { result.now ≡ text_on_line text.now }
 {
     after_equals(text).trim_start()
 }
@@ -35,7 +35,7 @@ fn first_of(text: &str) -> &str
 fn written_of(alloc: Global, line: &Line<'_, '_>) -> Result<String, AllocError>
     ensures { IfOk result (λ all. string_bytes all ≡ written_of (as_line line.now)) }
 {
-    written(alloc, first_of(line.text), line.rest)
+    written(alloc, text_on_line(line.text), line.rest)
 }
 
 /// The format of a line's message, or the byte of what its lines write at which a backslash is
@@ -63,7 +63,10 @@ pub fn reported_in(
         string_bytes reported ≡ reported_in (as_line line.now) place what.now) }
     ensures refused { IfErr result (λ error. answer_of error ≡ no_memory) }
 {
-    let begin = line.text.len().saturating_sub(first_of(line.text).len());
+    let begin = line
+        .text
+        .len()
+        .saturating_sub(text_on_line(line.text).len());
     let spot = spot_of(line.text, begin, line.rest, place);
     let its_line = Line {
         file: line.file,

@@ -103,13 +103,21 @@ pub fn text_of_form(alloc: Global, form: Form<'_>) -> Result<String, AllocError>
     }
 }
 
-/// A key with a form.
-fn key_of_form(alloc: Global, key: &str, form: Form<'_>) -> Result<String, AllocError>
-    ensures { IfOk result (λ whole. string_bytes whole ≡ key_of_form key.now (as_form form.entry)) }
+/// A key with the text of a form.
+pub fn key_of_form(alloc: Global, key: &str, form: &str) -> Result<String, AllocError>
+    ensures { IfOk result (λ whole. string_bytes whole ≡ key_of_form key.now form.now) }
 {
-    let form = text_of_form(alloc, form)?;
     let whole = format!(in alloc; "{key}.{form}")?;
     Ok(whole)
+}
+
+/// A key with the form of a choice.
+fn key_chosen(alloc: Global, key: &str, choice: &Choice<'_>) -> Result<String, AllocError>
+    ensures { IfOk result (λ whole.
+        string_bytes whole ≡ key_of_form key.now (as_form choice.now.form)) }
+{
+    let form = text_of_form(alloc, choice.form)?;
+    key_of_form(alloc, key, form.as_str())
 }
 
 /// The key that is looked up: the key itself, or the form of it that is chosen.
@@ -127,7 +135,7 @@ pub fn key_by<'a>(
             lacks: None,
         }),
         Some(choice) => Ok(Sought {
-            key: key_of_form(alloc, key, choice.form)?,
+            key: key_chosen(alloc, key, &choice)?,
             lacks: choice.lacks,
         }),
     }
@@ -141,7 +149,7 @@ pub fn or_form(alloc: Global, key: &str, choice: Option<Choice<'_>>) -> Result<S
     let Some(choice) = choice else {
         return Ok(String::new(alloc));
     };
-    let whole = key_of_form(alloc, key, choice.form)?;
+    let whole = key_chosen(alloc, key, &choice)?;
     let reported = format!(in alloc; " or `{whole}`")?;
     Ok(reported)
 }

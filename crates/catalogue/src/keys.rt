@@ -23,7 +23,7 @@ pub fn no_keys<'a>(alloc: Global) -> HashMap<&'a str, usize>
 }
 
 /// Adds the key of a line, if it has one that no line before it has.
-pub fn add<'a>(
+pub fn add_key<'a>(
     keys: &mut HashMap<&'a str, usize>,
     number: usize,
     key: Option<&'a str>,

@@ -6,17 +6,16 @@ ghost use Rattle.interpolator.specs.Faults.{answer_of, no_memory};
 ghost use Rattle.plurals.specs.{Trees.tree_of, Values.forms};
 ghost use Rattle.words.specs.Items.{texts_of};
 ghost use Rattle.catalogue.specs.Files.{Line as PlainLine, as_line, page_of};
-ghost use Rattle.catalogue.specs.Forms.{key_of_form};
 ghost use Rattle.catalogue.specs.Lacks.{HasFirsts, all_quoted, each_once, first_of, forms_in};
 ghost use Rattle.catalogue.specs.Lacks.{has_before, is_before, is_form, is_one_of, key_if_message};
-ghost use Rattle.catalogue.specs.Lacks.{key_with_forms, lacking, report_of_file, report_of_files};
-ghost use Rattle.catalogue.specs.Lacks.{report_of_lacking, report_of_line, what_is_lacking};
+ghost use Rattle.catalogue.specs.Lacks.{key_with_forms, lacking, lacking_in_file, lacking_in_files};
+ghost use Rattle.catalogue.specs.Lacks.{lacking_at_key, lacking_in_line, what_is_lacking};
 ghost use Rattle.catalogue.specs.Lacks.{with_text};
 
 use crate::declarations::{begin_of, key_in};
 use crate::files::{File, Line, lines_of, page_of};
-use crate::forms::{rule_of, text_of_form};
-use crate::keys::{add, no_keys};
+use crate::forms::{key_of_form, rule_of, text_of_form};
+use crate::keys::{add_key, no_keys};
 use crate::lines::message_of;
 use crate::reports::reported_at;
 use interpolator::Error;
@@ -40,7 +39,7 @@ fn keys_of<'a>(alloc: Global, lines: &[Line<'_, 'a>]) -> Result<HashMap<&'a str,
 {
     let mut keys = no_keys(alloc);
     for line in lines {
-        add(&mut keys, line.number, key_of(line.text))?;
+        add_key(&mut keys, line.number, key_of(line.text))?;
     }
     Ok(keys)
 }
@@ -54,7 +53,7 @@ fn first_of(keys: &HashMap<&str, usize>, key: &str) -> Option<usize>
 }
 
 /// Whether one of some texts is this one.
-fn has(texts: &[String], text: &str) -> bool
+fn has_text(texts: &[String], text: &str) -> bool
     ensures { result ≡ is_one_of (map string_bytes texts.now) text.now }
 {
     for one in texts {
@@ -70,7 +69,7 @@ fn add_once(found: &mut Vec<String>, text: String) -> Result<(), AllocError>
     ensures { OnOk result (map string_bytes found.new.items
         ≡ with_text (map string_bytes found.old.items) (string_bytes text)) }
 {
-    if !has(found.as_slice(), text.as_str()) {
+    if !has_text(found.as_slice(), text.as_str()) {
         found.push(text)?;
     }
     Ok(())
@@ -102,14 +101,6 @@ fn forms_in(alloc: Global, lines: &[&str]) -> Result<Vec<String>, AllocError>
         Err(ParseError::Broken(_)) => Ok(Vec::new(alloc)),
         Err(ParseError::NoMemory) => Err(AllocError),
     }
-}
-
-/// A key with a form.
-fn key_of_form(alloc: Global, key: &str, form: &str) -> Result<String, AllocError>
-    ensures { IfOk result (λ whole. string_bytes whole ≡ key_of_form key.now form.now) }
-{
-    let whole = format!(in alloc; "{key}.{form}")?;
-    Ok(whole)
 }
 
 /// The forms of a key of which no line has a message.
@@ -174,7 +165,7 @@ fn is_form(key: &str, form: &str, forms: &[String], keys: &HashMap<&str, usize>)
     ensures { (lines : List PlainLine) → HasFirsts lines keys.now
         → result ≡ is_form lines (map string_bytes forms.now) key.now form.now }
 {
-    has(forms, form) && first_of(keys, key).is_none()
+    has_text(forms, form) && first_of(keys, key).is_none()
 }
 
 /// The key of which this is one of some forms, if no line has the key itself.
@@ -220,7 +211,7 @@ fn what_is_lacking(
 }
 
 /// Reports the forms that a key lacks, if it lacks any.
-fn report_of_lacking(
+fn lacking_at_key(
     alloc: Global,
     line: &Line<'_, '_>,
     head: &str,
@@ -228,7 +219,7 @@ fn report_of_lacking(
     lacks: &[&str],
 ) -> Result<String, Error>
     ensures reported { IfOk result (λ reported. string_bytes reported
-        ≡ report_of_lacking (as_line line.now) head.now key.now (texts_of lacks.now)) }
+        ≡ lacking_at_key (as_line line.now) head.now key.now (texts_of lacks.now)) }
     ensures refused { IfErr result (λ error. answer_of error ≡ no_memory) }
 {
     let Some((first, more)) = lacks.split_first() else {
@@ -239,7 +230,7 @@ fn report_of_lacking(
 }
 
 /// Reports the forms that a key lacks, in the first line that has one of them.
-fn report_of_line(
+fn lacking_in_line(
     alloc: Global,
     line: &Line<'_, '_>,
     forms: &[String],
@@ -247,7 +238,7 @@ fn report_of_line(
 ) -> Result<String, Error>
     ensures reported { IfOk result (λ reported. (lines : List PlainLine) → HasFirsts lines keys.now
         → string_bytes reported
-        ≡ report_of_line lines (map string_bytes forms.now) (as_line line.now)) }
+        ≡ lacking_in_line lines (map string_bytes forms.now) (as_line line.now)) }
     ensures refused { IfErr result (λ error. answer_of error ≡ no_memory) }
 {
     let Some(head) = message_of(line.text) else {
@@ -260,34 +251,38 @@ fn report_of_line(
         return Ok(String::new(alloc));
     }
     let lacks = lacking(alloc, key, forms, keys)?;
-    report_of_lacking(alloc, line, head, key, lacks.as_slice())
+    lacking_at_key(alloc, line, head, key, lacks.as_slice())
 }
 
 /// Reports the forms that the keys of some lines lack.
-fn report_of_lines(alloc: Global, lines: &[Line<'_, '_>], forms: &[String]) -> Result<String, Error>
+fn lacking_in_lines(
+    alloc: Global,
+    lines: &[Line<'_, '_>],
+    forms: &[String],
+) -> Result<String, Error>
     ensures reported { IfOk result (λ reported. string_bytes reported ≡ concat (map
-        (report_of_line (map as_line lines.now) (map string_bytes forms.now))
+        (lacking_in_line (map as_line lines.now) (map string_bytes forms.now))
         (map as_line lines.now))) }
     ensures refused { IfErr result (λ error. answer_of error ≡ no_memory) }
 {
     let keys = keys_of(alloc, lines)?;
     let mut reported = String::new(alloc);
     for line in lines {
-        let more = report_of_line(alloc, line, forms, &keys)?;
+        let more = lacking_in_line(alloc, line, forms, &keys)?;
         reported.push_str(more.as_str())?;
     }
     Ok(reported)
 }
 
 /// Reports the forms that the keys of a file lack.
-fn report_of_file(alloc: Global, file: &File) -> Result<String, Error>
-    ensures reported { IfOk result (λ reported. string_bytes reported ≡ report_of_file (page_of file.now)) }
+fn lacking_in_file(alloc: Global, file: &File) -> Result<String, Error>
+    ensures reported { IfOk result (λ reported. string_bytes reported ≡ lacking_in_file (page_of file.now)) }
     ensures refused { IfErr result (λ error. answer_of error ≡ no_memory) }
 {
     let page = page_of(alloc, file)?;
     let lines = lines_of(alloc, &page)?;
     let forms = forms_in(alloc, page.texts.as_slice())?;
-    report_of_lines(alloc, lines.as_slice(), forms.as_slice())
+    lacking_in_lines(alloc, lines.as_slice(), forms.as_slice())
 }
 
 /// Reports the keys of some files that lack a form which the rule of their file can choose, though
@@ -298,12 +293,12 @@ fn report_of_file(alloc: Global, file: &File) -> Result<String, Error>
 /// `NoMemory`.
 pub fn lacking_forms(alloc: Global, files: &[File]) -> Result<String, Error>
     ensures reported { IfOk result (λ reported.
-        string_bytes reported ≡ report_of_files (map page_of files.now)) }
+        string_bytes reported ≡ lacking_in_files (map page_of files.now)) }
     ensures refused { IfErr result (λ error. answer_of error ≡ no_memory) }
 {
     let mut reported = String::new(alloc);
     for file in files {
-        let more = report_of_file(alloc, file)?;
+        let more = lacking_in_file(alloc, file)?;
         reported.push_str(more.as_str())?;
     }
     Ok(reported)

@@ -19,7 +19,7 @@ use crate::files::{File, Page, pages_of};
 use crate::forms::{choice_in, or_form};
 use crate::line_faults::report_of_fault;
 use crate::objects::objects_of;
-use crate::picks::{Picked, picks_of, report_of_lacking};
+use crate::picks::{Picked, picks_of, report_of_missing_word};
 use interpolator::{Error, Escape, Formattable, Interpolate, Pairs, Template, Value, View};
 use interpolator_escapes::laws::escapes_make_no_fault;
 use interpolator_escapes::{CsvEscaper, HtmlEscaper, JsonEscaper, LineEscaper, ShellEscaper};
@@ -159,7 +159,7 @@ fn message(
     match picks_of(alloc, objects, &found.heading)? {
         Picked::Values(entries) => said(alloc, escape, found, entries.as_slice()),
         Picked::Lacks(lacking) => {
-            let reported = report_of_lacking(alloc, &found.line, key, &lacking)?;
+            let reported = report_of_missing_word(alloc, &found.line, key, &lacking)?;
             Ok(Answer::Faults(reported))
         }
     }
@@ -183,7 +183,7 @@ fn reply(
     let Some(lacking) = found.lacks else {
         return message(alloc, escape, key, found, objects);
     };
-    let reported = report_of_lacking(alloc, &found.line, key, &lacking)?;
+    let reported = report_of_missing_word(alloc, &found.line, key, &lacking)?;
     Ok(Answer::Faults(reported))
 }
 

@@ -4,7 +4,7 @@ ghost use Rattle.std.specs.Prelude.{◌≡◌, ◌↔◌, IfOk, IfErr, IsTrue, M
 ghost use Rattle.std.specs.Option.{option_copied};
 ghost use Rattle.interpolator.specs.Faults.{answer_of, no_memory};
 ghost use Rattle.catalogue.specs.Picks.{HasPick, IsPicked, IsPickedOrLacks, last_named, shape_of};
-ghost use Rattle.catalogue.specs.Picks.{report_of_lacking};
+ghost use Rattle.catalogue.specs.Picks.{report_of_missing_word};
 ghost use Rattle.catalogue.specs.{Declarations.declared_by, Declarations.these, Files.as_line};
 ghost use Rattle.words.specs.Declarations.{as_declaration};
 
@@ -103,14 +103,14 @@ fn shape_of(kind: Kind) -> &'static str
 }
 
 /// Reports which word is missing for a declaration of a line.
-pub fn report_of_lacking(
+pub fn report_of_missing_word(
     alloc: Global,
     line: &Line<'_, '_>,
     key: &str,
     lacking: &Declaration<'_>,
 ) -> Result<String, AllocError>
     ensures { IfOk result (λ reported. string_bytes reported
-        ≡ report_of_lacking (as_line line.now) key.now (as_declaration lacking.now)) }
+        ≡ report_of_missing_word (as_line line.now) key.now (as_declaration lacking.now)) }
 {
     let file = line.file;
     let number = line.number;

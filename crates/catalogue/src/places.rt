@@ -28,7 +28,7 @@ fn report_of_value(
 }
 
 /// Reports the first value of a line's format that is in no place of an escape, if there is one.
-fn report_of_format(
+fn misplaced_in_format(
     alloc: Global,
     line: &Line<'_, '_>,
     template: &Template,
@@ -47,7 +47,7 @@ fn report_of_format(
 
 /// Reports the first value of a line that is in no place of an escape, if the line has a message
 /// with such a value.
-fn report_of_line(alloc: Global, line: &Line<'_, '_>, escape: Escape) -> Result<String, Error>
+fn misplaced_in_line(alloc: Global, line: &Line<'_, '_>, escape: Escape) -> Result<String, Error>
     ensures { IfOk result (λ reported. length (string_bytes reported) ≡ 0
         → IsPlacedLine escape (as_line line.now)) }
 {
@@ -55,31 +55,35 @@ fn report_of_line(alloc: Global, line: &Line<'_, '_>, escape: Escape) -> Result<
         return Ok(String::new(alloc));
     }
     match format_of(alloc, line)? {
-        Ok(template) => report_of_format(alloc, line, &template, escape),
+        Ok(template) => misplaced_in_format(alloc, line, &template, escape),
         Err(_) => Ok(String::new(alloc)),
     }
 }
 
 /// Reports such values of the lines of a file.
-fn report_of_lines(alloc: Global, lines: &[Line<'_, '_>], escape: Escape) -> Result<String, Error>
+fn misplaced_in_lines(
+    alloc: Global,
+    lines: &[Line<'_, '_>],
+    escape: Escape,
+) -> Result<String, Error>
     ensures { IfOk result (λ reported. length (string_bytes reported) ≡ 0
         → AllPlaced escape (map as_line lines.now)) }
 {
     let mut reported = String::new(alloc);
     for line in lines {
-        let more = report_of_line(alloc, line, escape)?;
+        let more = misplaced_in_line(alloc, line, escape)?;
         reported.push_str(more.as_str())?;
     }
     Ok(reported)
 }
 
 /// Reports such values of a file.
-fn report_of_file(alloc: Global, page: &Page<'_>, escape: Escape) -> Result<String, Error>
+fn misplaced_in_file(alloc: Global, page: &Page<'_>, escape: Escape) -> Result<String, Error>
     ensures { IfOk result (λ reported. length (string_bytes reported) ≡ 0
         → IsPlacedFile escape (as_page page.now)) }
 {
     let lines = lines_of(alloc, page)?;
-    report_of_lines(alloc, lines.as_slice(), escape)
+    misplaced_in_lines(alloc, lines.as_slice(), escape)
 }
 
 /// Reports such values of some files.
@@ -89,7 +93,7 @@ fn misplaced_in(alloc: Global, pages: &[Page<'_>], escape: Escape) -> Result<Str
 {
     let mut reported = String::new(alloc);
     for page in pages {
-        let more = report_of_file(alloc, page, escape)?;
+        let more = misplaced_in_file(alloc, page, escape)?;
         reported.push_str(more.as_str())?;
     }
     Ok(reported)

@@ -7,7 +7,7 @@ ghost use Rattle.plurals.specs.Trees.{tree_of};
 ghost use Rattle.catalogue.specs.PluralForms.{AreBelow, IsFirstBeyond, header_in, header_of};
 
 use crate::files::File;
-use crate::po_reports::reported_in;
+use crate::po_reports::reported_in_strings;
 use crate::rules::problem_text;
 use crate::translations::is_head;
 use interpolator::Error;
@@ -55,7 +55,7 @@ pub fn plural_forms<'h>(header: &'h [Placed], text: &'h str) -> PluralForms<'h> 
     match reported {
         Some((count, (before, rest))) => PluralForms {
             count,
-            rule: rule_in(rest),
+            rule: front_of_rule(rest),
             place: before.len().saturating_add(7),
             header,
         },
@@ -69,7 +69,7 @@ pub fn plural_forms<'h>(header: &'h [Placed], text: &'h str) -> PluralForms<'h> 
 }
 
 /// The front of a text before a `;` or the end of its line.
-fn rule_in(text: &str) -> &str {
+fn front_of_rule(text: &str) -> &str {
     let line = text.lines().next().unwrap_or("");
     match line.split_once(';') {
         Some((rule, _)) => rule,
@@ -80,7 +80,7 @@ fn rule_in(text: &str) -> &str {
 /// The number behind `nplurals=`.
 fn count_in(text: &str) -> Option<usize> {
     let (_, rest) = text.split_once("nplurals=")?;
-    rule_in(rest).trim().parse::<usize>().ok()
+    front_of_rule(rest).trim().parse::<usize>().ok()
 }
 
 /// The first number up to 1000 for which a rule chooses no form that there is, with what it
@@ -111,21 +111,21 @@ fn report_of_choices(
 ) -> Result<String, Error> {
     // A number alone is given for each name, so only a text can be missing.
     if read.missing_for(&0u128).is_some() {
-        return reported_in(alloc, file, forms.header, forms.place, NO_TEXTS);
+        return reported_in_strings(alloc, file, forms.header, forms.place, NO_TEXTS);
     }
     match beyond(read, forms.count) {
         None => Ok(String::new(alloc)),
         Some((n, value)) => {
             let count = forms.count;
             let what = format!(in alloc; "the rule chooses form {value} of {count} for {n}")?;
-            reported_in(alloc, file, forms.header, forms.place, what.as_str())
+            reported_in_strings(alloc, file, forms.header, forms.place, what.as_str())
         }
     }
 }
 
 /// Reports what is wrong with the rule of a file: it is none, compares a text, or chooses a form
 /// that is not there for a number up to 1000.
-pub fn report_of_rule(
+pub fn report_of_plural_forms(
     alloc: Global,
     file: &File,
     forms: &PluralForms<'_>,
@@ -134,7 +134,7 @@ pub fn report_of_rule(
         Ok(read) => report_of_choices(alloc, file, forms, &read),
         Err(ParseError::Broken(fault)) => {
             let place = forms.place.saturating_add(fault.place);
-            reported_in(
+            reported_in_strings(
                 alloc,
                 file,
                 forms.header,
@@ -157,9 +157,9 @@ pub fn report_of_charset(
     let Some((before, rest)) = text.split_once("charset=") else {
         return Ok(String::new(alloc));
     };
-    if rule_in(rest).trim().eq_ignore_ascii_case("utf-8") || file.text.as_str().is_ascii() {
+    if front_of_rule(rest).trim().eq_ignore_ascii_case("utf-8") || file.text.as_str().is_ascii() {
         return Ok(String::new(alloc));
     }
     let place = before.len().saturating_add(8);
-    reported_in(alloc, file, header, place, "a PO file is read as UTF-8")
+    reported_in_strings(alloc, file, header, place, "a PO file is read as UTF-8")
 }

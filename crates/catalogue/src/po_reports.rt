@@ -47,7 +47,7 @@ pub fn reported_at_byte(
 }
 
 /// Reports something at a byte of the text that strings of a file make.
-pub fn reported_in(
+pub fn reported_in_strings(
     alloc: Global,
     file: &File,
     strings: &[Placed],
@@ -74,5 +74,5 @@ pub fn report_of_error(
 {
     let what = format!(in alloc; "{error}")?;
     let byte = error.place().unwrap_or(0);
-    reported_in(alloc, file, strings, byte, what.as_str())
+    reported_in_strings(alloc, file, strings, byte, what.as_str())
 }

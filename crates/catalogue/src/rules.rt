@@ -2,7 +2,7 @@
 
 ghost use Rattle.std.specs.Prelude.{◌≡◌, IfOk};
 ghost use Rattle.std.specs.Option.{option_map};
-ghost use Rattle.catalogue.specs.Rules.{as_wrong, counted, declared_for, number_of};
+ghost use Rattle.catalogue.specs.Rules.{as_wrong, counted, declared_for, whole_number};
 ghost use Rattle.catalogue.specs.Rules.{number_under, numbers_of, problem_text, rule_in, text_of};
 ghost use Rattle.catalogue.specs.Rules.{texts_of, wrong_in};
 ghost use Rattle.plurals.specs.Values.{as_lack};
@@ -33,8 +33,8 @@ pub fn rule_in(line: &str) -> Option<&str>
 }
 
 /// The whole number that a view has. A decimal or a float is none.
-fn number_of(view: &View<'_>) -> Option<i128>
-    ensures { result ≡ number_of view.now }
+fn whole_number(view: &View<'_>) -> Option<i128>
+    ensures { result ≡ whole_number view.now }
 {
     match view {
         View::Signed(number, _) => Some(*number),
@@ -47,7 +47,7 @@ fn number_under(objects: &[Object<'_>], name: &str) -> Option<i128>
     ensures { result ≡ number_under objects.now name.now }
 {
     match last_named(objects, name) {
-        Some(object) => number_of(&object.value),
+        Some(object) => whole_number(&object.value),
         None => None,
     }
 }

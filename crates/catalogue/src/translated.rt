@@ -115,7 +115,7 @@ fn form_of<'t>(
 }
 
 /// The text of a format that strings make, with the values of objects; or its fault.
-fn said(
+fn text_of_strings(
     alloc: Global,
     file: &File,
     escape: Option<Escape>,
@@ -133,7 +133,7 @@ fn said(
 }
 
 /// The message that is looked up among those of a file without a fault; or what is missing for it.
-fn message(
+fn translation(
     alloc: Global,
     file: &File,
     escape: Option<Escape>,
@@ -159,7 +159,7 @@ fn message(
         }
         number => {
             let strings = form_of(alloc, forms.rule, entry, number.unwrap_or(1))?;
-            said(alloc, file, escape, strings, objects)
+            text_of_strings(alloc, file, escape, strings, objects)
         }
     }
 }
@@ -194,7 +194,7 @@ pub fn in_po(
     reported.push_str(more.as_str())?;
     match sought {
         Some(sought) if reported.is_empty() => {
-            message(alloc, file, escape, &forms, entries.as_slice(), &sought)
+            translation(alloc, file, escape, &forms, entries.as_slice(), &sought)
         }
         _ => Ok(Answer::Faults(reported)),
     }

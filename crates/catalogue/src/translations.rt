@@ -11,13 +11,13 @@ ghost use Rattle.catalogue.specs.Translations.{TellsFormat, TellsFormats, TellsP
 ghost use Rattle.catalogue.specs.Translations.{TellsText, TellsTexts, is_empty, arguments_in};
 ghost use Rattle.catalogue.specs.Translations.{is_head, is_translated};
 
-use crate::arguments::{report_of_lacking, report_of_others};
+use crate::arguments::{report_of_lacking_names, report_of_others};
 use crate::declarations::Heading;
 use crate::examples::faults_of;
 use crate::files::File;
-use crate::keys::{add, no_keys};
-use crate::plural_forms::{PluralForms, report_of_rule};
-use crate::po_reports::{report_of_error, reported_in};
+use crate::keys::{add_key, no_keys};
+use crate::plural_forms::{PluralForms, report_of_plural_forms};
+use crate::po_reports::{report_of_error, reported_in_strings};
 use interpolator::{Argument, Error, Escape, PlaceError, Position, Template};
 use interpolator_escapes::check_format;
 use po::{Entry, Placed, Token, place_of, text_of};
@@ -25,7 +25,7 @@ use std::alloc::Global;
 use std::collections::HashMap;
 
 /// Reports some faults of the format that strings make.
-fn report_of_faults(
+fn report_of_string_faults(
     alloc: Global,
     file: &File,
     strings: &[Placed],
@@ -63,7 +63,13 @@ fn report_of_places(
         Ok(_) => Ok(String::new(alloc)),
         Err(PlaceError::Misplaced(misplaced)) => {
             let what = format!(in alloc; "{}", misplaced.why)?;
-            let reported = reported_in(alloc, file, strings, misplaced.place, what.as_str())?;
+            let reported = reported_in_strings(
+                alloc,
+                file,
+                strings,
+                misplaced.place,
+                what.as_str(),
+            )?;
             Ok(reported)
         }
         Err(PlaceError::NoMemory) => Err(Error::NoMemory),
@@ -84,7 +90,7 @@ fn report_of_format(
     ensures refused { IfErr result (λ error. answer_of error ≡ no_memory) }
 {
     let errors = faults_of(alloc, template, &Heading::Plain)?;
-    let mut reported = report_of_faults(alloc, file, strings, errors.as_slice())?;
+    let mut reported = report_of_string_faults(alloc, file, strings, errors.as_slice())?;
     let more = report_of_places(alloc, file, escape, strings, template.text())?;
     reported.push_str(more.as_str())?;
     Ok(reported)
@@ -191,7 +197,7 @@ fn report_of_single(
 {
     match entry.texts.as_slice() {
         [text] if entry.plural.is_empty() => {
-            let reported = report_of_lacking(alloc, file, text, id)?;
+            let reported = report_of_lacking_names(alloc, file, text, id)?;
             Ok(reported)
         }
         _ => Ok(String::new(alloc)),
@@ -291,7 +297,7 @@ fn report_of_count(
     if has_other_count(wanted, entry) {
         let count = entry.texts.len();
         let what = format!(in alloc; "{count} of {wanted} forms that Plural-Forms tells")?;
-        let reported = reported_in(alloc, file, entry.id, 0, what.as_str())?;
+        let reported = reported_in_strings(alloc, file, entry.id, 0, what.as_str())?;
         return Ok(reported);
     }
     Ok(String::new(alloc))
@@ -314,12 +320,12 @@ fn report_of_twice(
     let text = file.text.as_str();
     let line = Position::of(text, place_of(text, before.id, 0)).line;
     let what = format!(in alloc; "line {line} has this message too")?;
-    let reported = reported_in(alloc, file, entry.id, 0, what.as_str())?;
+    let reported = reported_in_strings(alloc, file, entry.id, 0, what.as_str())?;
     Ok(reported)
 }
 
 /// What tells a message from others: its text, behind its context, if it has one.
-fn key_of(alloc: Global, entry: &Entry<'_>) -> Result<String, Error> {
+fn identity_of(alloc: Global, entry: &Entry<'_>) -> Result<String, Error> {
     let mut key = text_of(alloc, entry.context)?;
     if !entry.context.is_empty() {
         key.push('\u{4}')?;
@@ -334,7 +340,7 @@ fn firsts_of(alloc: Global, keys: &[String]) -> Result<HashMap<&str, usize>, Err
     let mut firsts = no_keys(alloc);
     let mut index = 0usize;
     for key in keys {
-        add(&mut firsts, index, Some(key.as_str()))?;
+        add_key(&mut firsts, index, Some(key.as_str()))?;
         index = index.saturating_add(1);
     }
     Ok(firsts)
@@ -351,10 +357,10 @@ pub fn report_of_entries(
 ) -> Result<String, Error> {
     let mut keys = Vec::with_capacity(alloc, entries.len())?;
     for entry in entries {
-        keys.push(key_of(alloc, entry)?)?;
+        keys.push(identity_of(alloc, entry)?)?;
     }
     let firsts = firsts_of(alloc, keys.as_slice())?;
-    let mut reported = report_of_rule(alloc, file, forms)?;
+    let mut reported = report_of_plural_forms(alloc, file, forms)?;
     let mut index = 0usize;
     for (entry, key) in entries.iter().zip(keys.as_slice()) {
         let before = match firsts.get(key.as_str()).copied() {

@@ -35,7 +35,7 @@ fn name_of(word: &str) -> Option<&str>
 }
 
 /// Whether one of some names is this one.
-fn has(names: &[&str], name: &str) -> bool
+fn has_name(names: &[&str], name: &str) -> bool
     ensures { result ≡ is_one_of (texts_of names.now) name.now }
 {
     for one in names {
@@ -52,7 +52,7 @@ fn add_name<'a>(names: &mut Vec<&'a str>, name: Option<&'a str>) -> Result<(), A
         ≡ with_name (texts_of names.old.items) (option_map (λ x. x.now) name.entry)) }
 {
     match name {
-        Some(name) if !has(names.as_slice(), name) => {
+        Some(name) if !has_name(names.as_slice(), name) => {
             names.push(name)?;
             Ok(())
         }

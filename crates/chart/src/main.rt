@@ -85,7 +85,7 @@ fn numbers_of_range(name: &str, range: Range) -> usize {
 }
 
 /// How many numbers of each row an argument draws by an index, as `{:i5({})}`.
-fn numbers_of(argument: &Argument<'_>) -> usize {
+fn numbers_of_argument(argument: &Argument<'_>) -> usize {
     match argument.kind {
         Kind::List { range, .. } => match range {
             Some(range) => numbers_of_range(argument.name, range),
@@ -100,7 +100,7 @@ fn numbers_drawn(alloc: Global, template: &Template) -> Result<usize, Error> {
     let arguments = template.arguments(alloc)?;
     let mut drawn = 0usize;
     for argument in &arguments {
-        drawn = drawn.max(numbers_of(argument));
+        drawn = drawn.max(numbers_of_argument(argument));
     }
     Ok(drawn)
 }

@@ -20,7 +20,7 @@ fn main(rt: HostRuntime) -> ExitCode {
     let mut out = rt.stdout();
     let mut err = rt.stderr();
     let status = match arguments(&rt) {
-        Ok(line) => answer(rt.alloc(), line.as_slice(), &mut out, &mut err),
+        Ok(line) => answer_line(rt.alloc(), line.as_slice(), &mut out, &mut err),
         Err(error) if error.kind() == io::ErrorKind::OutOfMemory => {
             run::report(Err(Error::NoMemory), &mut out, &mut err)
         }
@@ -31,7 +31,7 @@ fn main(rt: HostRuntime) -> ExitCode {
 }
 
 // Does what a command line asks for, and returns the status.
-fn answer<O: Write, E: Write>(alloc: Global, line: &[String], out: &mut O, err: &mut E) -> u8 {
+fn answer_line<O: Write, E: Write>(alloc: Global, line: &[String], out: &mut O, err: &mut E) -> u8 {
     match asked_by(line) {
         Asked::Reported(text) => run::status_of(run::put_text(text, out), WRITTEN),
         Asked::Explained(words) => explained::answer_explained(alloc, words, out, err),

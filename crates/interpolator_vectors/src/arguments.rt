@@ -45,7 +45,7 @@ pub fn placed_text(facts: &mut Facts<'_>, key: &str) -> Read<Option<Placed>> {
 }
 
 /// What a row without a fault says is read.
-fn wanted_of(facts: &mut Facts<'_>) -> Read<Parsed> {
+fn wanted_argument(facts: &mut Facts<'_>) -> Read<Parsed> {
     let name = placed_text(facts, "name")?;
     Ok(Parsed {
         name: name.ok_or(facts.trouble("a `name` or a fault is wanted"))?,
@@ -94,7 +94,7 @@ pub fn run_argument(report: &mut Report<'_>, facts: &mut Facts<'_>, start: &Plac
         report.compare("parse_argument", &Some(fault), &came.err());
         return Ok(());
     }
-    let wanted = wanted_of(facts)?;
+    let wanted = wanted_argument(facts)?;
     match &came {
         Ok((argument, end)) => {
             let came = came_of(report.alloc, argument, *end)?;

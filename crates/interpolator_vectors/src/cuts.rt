@@ -27,7 +27,7 @@ fn without_names(report: &Report<'_>, beginning: &str) -> Outcome {
 
 /// The fault of the argument at the start of the beginning, if it begins with one: if it is not
 /// broken, its name is the first that is looked up. The second is whether it is broken.
-fn fault_of(alloc: Global, beginning: &str) -> Result<Option<(Error, bool)>, AllocError> {
+fn fault_of_beginning(alloc: Global, beginning: &str) -> Result<Option<(Error, bool)>, AllocError> {
     let is_one = beginning.starts_with('{') && !beginning.starts_with("{{");
     if !is_one || !beginning.is_char_boundary(1) {
         return Ok(None);
@@ -43,12 +43,12 @@ fn fault_of(alloc: Global, beginning: &str) -> Result<Option<(Error, bool)>, All
 
 /// Checks that an argument at the start of the beginning is read in the same way when it is
 /// written: if it is broken, its fault is the only outcome, and else that its name is missing.
-fn run_argument(
+fn run_cut_argument(
     report: &mut Report<'_>,
     beginning: &str,
     outcome: &Outcome,
 ) -> Result<(), AllocError> {
-    let Some((fault, is_broken)) = fault_of(report.alloc, beginning)? else {
+    let Some((fault, is_broken)) = fault_of_beginning(report.alloc, beginning)? else {
         return Ok(());
     };
     let run = written(beginning);
@@ -88,7 +88,7 @@ fn run_beginning(
     if let Room::All = room {
         run_makings(report, context, beginning, run.part, &outcome);
     }
-    run_argument(report, beginning, &outcome)
+    run_cut_argument(report, beginning, &outcome)
 }
 
 /// Runs each beginning of a format.

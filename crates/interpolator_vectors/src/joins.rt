@@ -8,7 +8,7 @@ use crate::ways::{Outcome, PART_WAYS, Room, WAYS};
 use interpolator::{ContextMap, seam};
 
 /// What a row says is written and returned, if it can be joined.
-fn wanted_of<'a>(row: &'a FormatRow<'_>) -> Option<&'a Outcome> {
+fn wanted_if_joined<'a>(row: &'a FormatRow<'_>) -> Option<&'a Outcome> {
     match row.room {
         Room::Bytes(_) => None,
         _ if row.kind != Kind::Format => None,
@@ -17,7 +17,7 @@ fn wanted_of<'a>(row: &'a FormatRow<'_>) -> Option<&'a Outcome> {
 }
 
 /// What a writer of both takes: all of the first, and of the second what that row's writer takes.
-fn room_of(text: &str, second: Room) -> Room {
+fn room_of_both(text: &str, second: Room) -> Room {
     match second {
         Room::Characters(count) => Room::Characters(text.chars().count().saturating_add(count)),
         _ => Room::All,
@@ -33,7 +33,7 @@ fn join(
     first: &Outcome,
     next: &FormatRow<'_>,
 ) -> Read<()> {
-    let Some(second) = wanted_of(next) else {
+    let Some(second) = wanted_if_joined(next) else {
         return Ok(());
     };
     let (front, back) = (row.format(), next.format());
@@ -46,7 +46,7 @@ fn join(
         text: format!(in report.alloc; "{head}{tail}")?,
         fault: next.moved_fault(front.len())?,
     };
-    let room = room_of(head, next.room);
+    let room = room_of_both(head, next.room);
     let part = Part::Joined(next.row.number);
     let as_one = Trial {
         ways: &WAYS,
@@ -72,7 +72,7 @@ pub fn run_joins(
     row: &FormatRow<'_>,
     rows: &[FormatRow<'_>],
 ) -> Read<()> {
-    let Some(first) = wanted_of(row) else {
+    let Some(first) = wanted_if_joined(row) else {
         return Ok(());
     };
     if first.fault.is_some() {

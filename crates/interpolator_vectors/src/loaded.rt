@@ -30,7 +30,7 @@ pub fn run_check(
 
 /// Writes a prepared format to a writer of `count` characters, fewer than the text has: it gets so
 /// many of the row's text, and the fault is `Fmt` at a place within the format.
-fn run_refused(
+fn write_refused(
     report: &mut Report<'_>,
     prepared: &Prepared,
     row: &[Formattable<'_, Cell>],
@@ -76,7 +76,7 @@ pub fn run_prepared(
     let all = wanted.text.chars().count();
     for count in 0..all {
         if is_tried(count, all) {
-            run_refused(report, &prepared, row, count, wanted);
+            write_refused(report, &prepared, row, count, wanted);
         }
     }
 }

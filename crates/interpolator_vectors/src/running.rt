@@ -30,7 +30,7 @@ fn holding_of(alloc: Global, block: &Block) -> Read<Holding> {
 }
 
 /// The rows of formats among those of a context.
-fn formats_of(alloc: Global, rows: &[Row]) -> Read<Vec<FormatRow<'_>>> {
+fn format_rows_of(alloc: Global, rows: &[Row]) -> Read<Vec<FormatRow<'_>>> {
     let mut formats = Vec::new(alloc);
     for row in rows {
         let mut facts = Facts::new(alloc, row)?;
@@ -192,7 +192,7 @@ fn run_block(report: &mut Report<'_>, block: &Block) -> Read<()> {
     let values = values_of(alloc, &holding, 0, &items)?;
     let pairs = pairs_of(alloc, &holding, &values)?;
     let context = context_of(alloc, &pairs)?;
-    let formats = formats_of(alloc, &block.rows)?;
+    let formats = format_rows_of(alloc, &block.rows)?;
     run_costs(report, &context, &formats, &holding.limits())?;
     run_loaded(report, &context, &formats, &pairs, &values)?;
     let pairs = turned(alloc, &pairs)?;

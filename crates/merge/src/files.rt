@@ -106,7 +106,7 @@ fn text_by(
 }
 
 /// The names of the files of the records that begin before a line; or all of these that give none.
-fn names_of(
+fn file_names_of(
     alloc: Global,
     pattern: &str,
     names: &Letters,
@@ -238,7 +238,7 @@ fn write_framed(
     )?;
     let end = faults.first().map_or(usize::MAX, |fault| fault.line);
     if is_partial || is_clean(&faults) {
-        match names_of(alloc, named.pattern, &names, frame, records, end)? {
+        match file_names_of(alloc, named.pattern, &names, frame, records, end)? {
             Ok(names) => write_all(rt, &by, frame, &names, records, progress)?,
             Err(faults) => return Err(FileFault::Names(faults)),
         }

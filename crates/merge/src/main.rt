@@ -208,7 +208,7 @@ fn write_named(rt: &HostRuntime, files: Files<'_>, pattern: &str) -> ExitCode {
 }
 
 /// Writes the letters of templates and a table, or why they are missing.
-fn write_letters(rt: &HostRuntime, files: Files<'_>) -> ExitCode {
+fn print_letters(rt: &HostRuntime, files: Files<'_>) -> ExitCode {
     let alloc = rt.alloc();
     let mut out = IoWriter::new(alloc, Output::new(rt));
     let mut progress = Progress::of_output(rt);
@@ -282,7 +282,7 @@ fn merge_texts(
     };
     match asked.out {
         Some(pattern) => write_named(rt, files, pattern),
-        None => write_letters(rt, files),
+        None => print_letters(rt, files),
     }
 }
 

@@ -27,7 +27,7 @@ pub struct Files<'a> {
 }
 
 /// Fills in the fields of the header; none, if it has a fault. Returns the line in which it begins.
-fn read_header<'a>(
+fn header_line<'a>(
     alloc: Global,
     files: Files<'a>,
     fields: &mut Vec<Field<'a>>,
@@ -63,7 +63,7 @@ fn tell_line(faults: &mut Faults<'_>, fault: LineFault, wanted: usize) -> Result
 fn reported_lines(alloc: Global, files: Files<'_>, found: &[LineFault]) -> Result<String, Error> {
     let mut fields = Vec::new(alloc);
     let mut faults = Faults::new(alloc, files.table_name);
-    faults.header = read_header(alloc, files, &mut fields)?;
+    faults.header = header_line(alloc, files, &mut fields)?;
     for fault in found {
         tell_line(&mut faults, *fault, fields.len())?;
     }
@@ -79,7 +79,7 @@ fn reported_template(
     faults: &[Error],
 ) -> Result<String, Error> {
     let mut fields = Vec::new(alloc);
-    read_header(alloc, files, &mut fields)?;
+    header_line(alloc, files, &mut fields)?;
     let columns = columns_of(alloc, fields.as_slice())?;
     let names = names_of(alloc, columns.as_slice())?;
     let source = source_of(name, text);
@@ -93,7 +93,7 @@ fn reported_template(
 }
 
 /// What a value of an escape stands in.
-fn place_of(escape: Escape) -> &'static str {
+fn place_words(escape: Escape) -> &'static str {
     match escape {
         Escape::Line => "a line",
         Escape::Html => "an attribute",
@@ -127,7 +127,7 @@ fn reported_unfit(
             reported_at(alloc, &source, misplaced.place, why.as_str())
         }
         Unfit::EndsInPlace => {
-            let place = place_of(escape);
+            let place = place_words(escape);
             let why = format!(in alloc;
                 "this template ends in {place}, and the next letter would begin there"
             )?;
@@ -177,7 +177,7 @@ pub fn reported(alloc: Global, files: Files<'_>, fault: &Fault) -> Result<String
         }
         Fault::Table(faults) => reported_lines(alloc, files, faults.as_slice()),
         Fault::NoColumn => {
-            let line = read_header(alloc, files, &mut Vec::new(alloc))?;
+            let line = header_line(alloc, files, &mut Vec::new(alloc))?;
             let table = files.table_name;
             let name = files.column.unwrap_or("");
             Ok(format!(in alloc; "{table}:{line}: no column has the name `{name}`\n")?)

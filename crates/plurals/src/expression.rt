@@ -96,7 +96,7 @@ fn remainder(number: u128, divisor: u64) -> u128
 }
 
 /// Appends a form.
-fn push<'a>(found: &mut Vec<Form<'a>>, form: Form<'a>) -> Result<(), AllocError>
+fn push_form<'a>(found: &mut Vec<Form<'a>>, form: Form<'a>) -> Result<(), AllocError>
     ensures { IfOk result (λ _. map as_form found.new.items
         ≡ map as_form found.old.items ++ (as_form form.entry ∷ [])) }
 {
@@ -180,8 +180,8 @@ impl<'a> Expression<'a> {
             ≡ map as_form found.old.items ++ forms (tree_of self.now)) }
     {
         match self {
-            Expression::Name(name) => push(found, Form::Name(*name)),
-            Expression::Number(number) => push(found, Form::Number(*number)),
+            Expression::Name(name) => push_form(found, Form::Name(*name)),
+            Expression::Number(number) => push_form(found, Form::Number(*number)),
             Expression::Group(a) => a.push_forms(found),
             Expression::Choice(_, a, b) => {
                 a.push_forms(found)?;

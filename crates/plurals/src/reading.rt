@@ -8,7 +8,7 @@ ghost use Rattle.plurals.specs.Trees.{Tree, tree_of};
 
 use crate::expression::Expression;
 use crate::fault::{Fault, ParseError, Problem};
-use crate::reduce::{Frame, close_from, grouped, pop, push, remainder, strength};
+use crate::reduce::{Frame, close_from, grouped, pop, push_frame, remainder_of, strength};
 use crate::token::{Placed, Token, tokens_of};
 use std::alloc::Global;
 
@@ -33,11 +33,11 @@ fn operand_step<'a>(
         Token::Is(name, text) => Ok(Some(Expression::Is(name, text))),
         Token::IsNot(name, text) => Ok(Some(Expression::IsNot(name, text))),
         Token::Not => {
-            push(stack, Frame::Not)?;
+            push_frame(stack, Frame::Not)?;
             Ok(None)
         }
         Token::Open => {
-            push(stack, Frame::Open)?;
+            push_frame(stack, Frame::Open)?;
             Ok(None)
         }
         _ => Err(broken(next.place, Problem::Operand)),
@@ -55,7 +55,7 @@ fn after_colon<'a>(
 {
     match pop(stack) {
         Some(Frame::Asking(test)) => {
-            push(stack, Frame::Choosing(test, first))?;
+            push_frame(stack, Frame::Choosing(test, first))?;
             Ok(None)
         }
         _ => Err(broken(place, Problem::Operator)),
@@ -92,16 +92,16 @@ fn operator_step<'a>(
     match next.token {
         Token::Remainder(divisor) => {
             let first = close_from(alloc, stack, 6, last)?;
-            Ok(Some(remainder(alloc, first, divisor)?))
+            Ok(Some(remainder_of(alloc, first, divisor)?))
         }
         Token::Binary(operator) => {
             let first = close_from(alloc, stack, strength(operator), last)?;
-            push(stack, Frame::Joining(first, operator))?;
+            push_frame(stack, Frame::Joining(first, operator))?;
             Ok(None)
         }
         Token::Question => {
             let test = close_from(alloc, stack, 2, last)?;
-            push(stack, Frame::Asking(test))?;
+            push_frame(stack, Frame::Asking(test))?;
             Ok(None)
         }
         Token::Colon => {

@@ -62,7 +62,7 @@ pub(crate) fn grouped<'a>(
 }
 
 /// What is left of an expression after a division.
-pub(crate) fn remainder<'a>(
+pub(crate) fn remainder_of<'a>(
     alloc: Global,
     first: Expression<'a>,
     divisor: u64,
@@ -109,7 +109,7 @@ pub(crate) fn pop<'a>(stack: &mut Vec<Frame<'a>>) -> Option<Frame<'a>>
 
 /// Adds what waits for its last part.
 #[tactic(auto, using(crate::proofs::ReadingLemmas::one_more_frame))]
-pub(crate) fn push<'a>(stack: &mut Vec<Frame<'a>>, frame: Frame<'a>) -> Result<(), AllocError>
+pub(crate) fn push_frame<'a>(stack: &mut Vec<Frame<'a>>, frame: Frame<'a>) -> Result<(), AllocError>
     ensures { IfOk result (λ _.
         frames stack.new.items ≡ as_frame frame.entry ∷ frames stack.old.items) }
 {
@@ -130,7 +130,7 @@ pub(crate) fn close_from<'a>(
     let mut whole = last;
     while let Some(frame) = pop(stack) {
         if grip(&frame) < least {
-            push(stack, frame)?;
+            push_frame(stack, frame)?;
             return Ok(whole);
         }
         whole = closed(alloc, frame, whole)?;

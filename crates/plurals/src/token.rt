@@ -352,7 +352,7 @@ fn long(next: Result<Option<(Placed<'_>, Rest<'_>)>, Fault>) -> Result<(), Fault
 }
 
 /// Appends a token.
-fn push<'a>(tokens: &mut Vec<Placed<'a>>, token: Placed<'a>) -> Result<(), AllocError>
+fn push_token<'a>(tokens: &mut Vec<Placed<'a>>, token: Placed<'a>) -> Result<(), AllocError>
     ensures { IfOk result (λ _. map as_spot tokens.new.items
         ≡ map as_spot tokens.old.items ++ (as_spot token.entry ∷ [])) }
 {
@@ -374,7 +374,7 @@ pub(crate) fn tokens_of<'a>(alloc: Global, rule: &'a str) -> Result<Vec<Placed<'
             Err(fault) => return Err(ParseError::Broken(fault)),
             Ok(None) => return Ok(tokens),
             Ok(Some((token, after))) => {
-                push(&mut tokens, token)?;
+                push_token(&mut tokens, token)?;
                 rest = after;
             }
         }

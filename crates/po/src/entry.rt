@@ -44,7 +44,7 @@ const FORMS: [&str; 10] = [
 ];
 
 /// Appends a form.
-fn push<'t>(forms: &mut Vec<&'t [Placed]>, form: &'t [Placed]) -> Result<(), AllocError>
+fn push_form<'t>(forms: &mut Vec<&'t [Placed]>, form: &'t [Placed]) -> Result<(), AllocError>
     ensures { IfOk result (λ _. lists_of forms.new.items
         ≡ lists_of forms.old.items ++ (form.now ∷ [])) }
 {
@@ -69,7 +69,7 @@ fn forms_by<'t>(
         if form.is_empty() {
             return Ok((forms, after));
         }
-        push(&mut forms, form)?;
+        push_form(&mut forms, form)?;
         rest = after;
     }
     Ok((forms, rest))
@@ -82,7 +82,7 @@ fn one_form<'t>(alloc: Global, end: usize, tokens: &'t [Placed]) -> Result<Forms
 {
     let (form, rest) = section(end, "msgstr", tokens)?;
     let mut forms = Vec::new(alloc);
-    push(&mut forms, form)?;
+    push_form(&mut forms, form)?;
     Ok((forms, rest))
 }
 

@@ -104,7 +104,7 @@ fn special_at(text: &str) -> Result<(Option<u8>, &str), Problem>
 }
 
 /// Appends a byte below 128.
-fn push(value: &mut String, byte: u8) -> Result<(), AllocError>
+fn push_byte(value: &mut String, byte: u8) -> Result<(), AllocError>
     requires ascii { byte < 128 }
     ensures { IfOk result (λ _. string_bytes value.new ≡ string_bytes value.old ++ (byte ∷ [])) }
 {
@@ -125,7 +125,7 @@ pub(crate) fn take_string<'a>(alloc: Global, from: At<'a>) -> Result<(String, &'
         match special_at(tail) {
             Ok((None, rest)) => return Ok((value, rest)),
             Ok((Some(byte), rest)) => {
-                push(&mut value, byte)?;
+                push_byte(&mut value, byte)?;
                 at = At {
                     text: rest,
                     end: at.end,

@@ -140,7 +140,7 @@ fn next<'a>(alloc: Global, from: At<'a>) -> Result<Option<(Placed, At<'a>)>, Rea
 }
 
 /// Appends a token.
-fn push(tokens: &mut Vec<Placed>, token: Placed) -> Result<(), AllocError>
+fn push_token(tokens: &mut Vec<Placed>, token: Placed) -> Result<(), AllocError>
     ensures { IfOk result (λ _. map as_spot tokens.new.items
         ≡ map as_spot tokens.old.items ++ (as_spot token ∷ [])) }
 {
@@ -168,7 +168,7 @@ pub fn tokens_of(alloc: Global, text: &str) -> Result<Vec<Placed>, ReadError>
             Err(error) => return Err(error),
             Ok(None) => return Ok(tokens),
             Ok(Some((token, after))) => {
-                push(&mut tokens, token)?;
+                push_token(&mut tokens, token)?;
                 at = after;
             }
         }

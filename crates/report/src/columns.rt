@@ -1,7 +1,7 @@
 //! The columns: their names, and their totals.
 
 use crate::asked::Asked;
-use crate::rows::{Group, entries_of, entry_in};
+use crate::rows::{Group, entries_in_column, entry_in};
 use crate::totals::{Cell, NoTotal, Total, cells_of, first_large, has_codes, total_of};
 use crate::widths::width;
 use interpolator::Error;
@@ -152,7 +152,7 @@ fn column_of<'a>(
 ) -> Result<Column<'a>, Error> {
     let alloc = faults.alloc;
     let (name, is_marked) = name_of(entry_in(header, index));
-    let entries = entries_of(alloc, records, index)?;
+    let entries = entries_in_column(alloc, records, index)?;
     let cells = cells_of(alloc, &entries)?;
     let (has_decimals, has_numbers_alone) = numbers_in(&cells);
     let is_summed = match asked.totals {
@@ -200,7 +200,7 @@ pub fn is_shown_as_numbers(
     index: usize,
 ) -> Result<bool, Error> {
     let (name, is_marked) = name_of(entry_in(header, index));
-    let entries = entries_of(faults.alloc, records, index)?;
+    let entries = entries_in_column(faults.alloc, records, index)?;
     let cells = cells_of(faults.alloc, &entries)?;
     let (has_decimals, has_numbers_alone) = numbers_in(&cells);
     if !is_marked && !has_decimals {

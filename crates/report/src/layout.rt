@@ -149,7 +149,7 @@ fn record_of<V: Value>(
 }
 
 /// The entries as what a row has.
-fn views_of<'a>(alloc: Global, entries: &[&'a str]) -> Result<Vec<View<'a>>, Error> {
+fn texts_as_views<'a>(alloc: Global, entries: &[&'a str]) -> Result<Vec<View<'a>>, Error> {
     let mut views = Vec::with_capacity(alloc, entries.len())?;
     for entry in entries {
         views.push(View::Text(entry))?;
@@ -174,7 +174,7 @@ impl Page {
                 push_shown(&mut self.out, line.trim_end())?;
             }
             Form::Record(record) => {
-                let views = views_of(self.alloc, entries)?;
+                let views = texts_as_views(self.alloc, entries)?;
                 let text = record_of(self.alloc, record, &views)?;
                 self.out.push_str(text.as_str())?;
             }

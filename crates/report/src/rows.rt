@@ -19,7 +19,7 @@ pub fn entry_in<'a>(record: &'a Record<'_>, index: usize) -> &'a str
 }
 
 /// The entries of records in the column at this index.
-pub fn entries_of<'a>(
+pub fn entries_in_column<'a>(
     alloc: Global,
     records: &'a [Record<'_>],
     index: usize,

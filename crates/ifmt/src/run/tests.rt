@@ -74,7 +74,7 @@ fn run_on<O: Write, E: Write>(alloc: Global, format: &str, out: &mut O, err: &mu
 }
 
 /// Makes the call, with the writer that it goes to and the other one.
-fn status_of(alloc: Global, call: Call, to: &mut Spy, other: &mut Spy) -> u8 {
+fn status_of_call(alloc: Global, call: Call, to: &mut Spy, other: &mut Spy) -> u8 {
     match call {
         Call::Text => run_on(alloc, "Hi", to, other),
         Call::Fault => run_on(alloc, "{q}", other, to),
@@ -89,7 +89,7 @@ fn each_line_is_flushed_after_its_end(rt: HostRuntime) {
     for (call, wanted) in CALLS {
         let mut to = Spy::new(0);
         let mut other = Spy::new(0);
-        let status = status_of(rt.alloc(), call, &mut to, &mut other);
+        let status = status_of_call(rt.alloc(), call, &mut to, &mut other);
         assert_eq!(rt; status, wanted, "{call:?}");
         assert!(rt; to.calls >= 2, "{call:?} writes and flushes");
         assert!(rt; to.flushed, "{call:?} ends with a flush");
@@ -105,7 +105,7 @@ fn each_refused_call_shows(rt: HostRuntime) {
         for refuses in 1..64 {
             let mut to = Spy::new(refuses);
             let mut other = Spy::new(0);
-            let status = status_of(rt.alloc(), call, &mut to, &mut other);
+            let status = status_of_call(rt.alloc(), call, &mut to, &mut other);
             assert_eq!(rt; other.calls, 0, "{call:?} leaves the other writer alone");
             if to.calls < refuses {
                 assert_eq!(rt; status, wanted, "{call:?} with no call refused");

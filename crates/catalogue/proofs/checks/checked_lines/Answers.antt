@@ -31,7 +31,7 @@ loop-line-preserved c =
     record {
       reported = (
         _,
-        rw c.in_ok-checked.ensures.key at (c.in_ok-add.ensures seen so_far.reported.1),
+        rw c.in_ok-checked.ensures.key at (c.in_ok-add_key.ensures seen so_far.reported.1),
         rw c.opens-is_open.ensures (reported_next seen c.loop-line.is_open _ _ _ _ _ _ _ (next _)
             so_far.reported.2 (rw c.as_str.ensures.value at c.in_ok-push_str.ensures.bytes)
             (c.in_ok-checked.ensures.reported seen so_far.reported.1)),

@@ -10,6 +10,6 @@ loop-line-preserved c =
     let next = λ (d : LentLine). at_drop_more (map as_line) c.args.lines.now
     c.loop-line.line-index d c.loop-line-test.true in (
       _,
-      rw c.key_of.ensures at (c.in_ok-add.ensures seen so_far.1),
+      rw c.key_of.ensures at (c.in_ok-add_key.ensures seen so_far.1),
       λ key. one_more_key seen _ _ _ _ key (next _) (so_far.2 key),
     )

@@ -29,9 +29,9 @@ loop-taken-preserved c = λ left e.
     rw c.in-Ok-Some.field-0-is at c.in-Ok-Some.ensures.end in
     rw ends (one_more_word (map as_spot c.loop-taken.tokens.items)
     c.loop-taken.rest.end c.loop-taken.rest.text.now _ left c.in-Ok-Some.after.text.now
-    (as_spot c.in-Ok-Some.token) (map as_spot c.push.new.tokens.items)
+    (as_spot c.in-Ok-Some.token) (map as_spot c.push_token.new.tokens.items)
     (c.loop-taken.invariant (suc left) (omega (arith, e)))
-    (rw c.in-Ok-Some.field-0-is at c.in-Ok-Some.ensures.next) c.in_ok-push-in-Ok-Some.ensures)
+    (rw c.in-Ok-Some.field-0-is at c.in-Ok-Some.ensures.next) c.in_ok-push_token-in-Ok-Some.ensures)
 
 pub returns-in-Ok : goal.returns-in-Ok
 returns-in-Ok c =

@@ -24,10 +24,10 @@ pieces-preserved c =
         c.in-Ok-Some-default.ensures.shorter,
       );
       read = escape_read c.args.from.text.now _ c.split_plain.result.1.now
-          c.in-Ok-Some-default.rest.now (string_bytes c.push.new.value) c.in-Ok-Some-default.byte
+          c.in-Ok-Some-default.rest.now (string_bytes c.push_byte.new.value) c.in-Ok-Some-default.byte
           so_far
           (rw c.in-Ok-Some-default.field-0-0-is at c.in-Ok-Some-default.ensures.special)
-          (rw c.in-Ok-Some-default.field-0-0-is at c.in_ok-push-in-Ok-Some-default.ensures);
+          (rw c.in-Ok-Some-default.field-0-0-is at c.in_ok-push_byte-in-Ok-Some-default.ensures);
     }
 
 pub returns-in-Err-clause-string : goal.returns-in-Err-clause-string

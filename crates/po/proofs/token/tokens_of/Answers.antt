@@ -19,7 +19,7 @@ returns-in-Ok-None c = (
 pub tokens-preserved : goal.tokens-preserved
 tokens-preserved c = record {
   end = (rw c.in-Ok-Some.field-0-is at c.in-Ok-Some.ensures.end) ∙ c.tokens.invariant.end;
-  read = rw c.in_ok-push-in-Ok-Some.ensures
+  read = rw c.in_ok-push_token-in-Ok-Some.ensures
       (one_more (ReadsSpot (length c.args.text.now)) c.args.text.now
       (map as_spot c.tokens.tokens.items) c.tokens.at.text.now (as_spot c.in-Ok-Some.token)
       c.in-Ok-Some.after.text.now c.tokens.invariant.read

@@ -1,7 +1,7 @@
 use Rattle.std.proofs.Common.{◌≡◌, length, string_bytes, take}
 use Rattle.std.specs.List.{All}
 use Rattle.catalogue.specs.{Files.as_line, Places.IsPlacedLine}
-use Rattle.catalogue.proofs.places.report_of_lines.Given as goal
+use Rattle.catalogue.proofs.places.misplaced_in_lines.Given as goal
 
 abbrev pub invariant-loop-line : goal.invariant-loop-line
 invariant-loop-line l = length (string_bytes l.reported) ≡ 0

@@ -1,7 +1,7 @@
 use Rattle.std.proofs.{lemmas.List.take_all, lemmas.List.Elements.All-map}
 use Rattle.catalogue.specs.{Files.as_line, Places.IsPlacedLine}
 use Rattle.catalogue.proofs.PlaceLemmas.{placed_more}
-use Rattle.catalogue.proofs.places.report_of_lines.Goals as goal
+use Rattle.catalogue.proofs.places.misplaced_in_lines.Goals as goal
 
 pub loop-line-preserved : goal.loop-line-preserved
 loop-line-preserved c =

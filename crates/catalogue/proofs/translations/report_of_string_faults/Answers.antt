@@ -1,7 +1,7 @@
 use Rattle.interpolator.specs.Faults.{answer_of}
 use Rattle.catalogue.specs.Translations.{TellsFault}
 use Rattle.catalogue.proofs.ReportLemmas.{each_last, each_next}
-use Rattle.catalogue.proofs.translations.report_of_faults.Goals as goal
+use Rattle.catalogue.proofs.translations.report_of_string_faults.Goals as goal
 
 pub loop-error-preserved : goal.loop-error-preserved
 loop-error-preserved c = each_next answer_of

@@ -2,7 +2,7 @@ use Rattle.std.proofs.Common.{map}
 use Rattle.interpolator_syntax.specs.Arguments.{argument_of}
 use Rattle.catalogue.specs.Translations.{TellsLacking}
 use Rattle.catalogue.proofs.ReportLemmas.{each_last, each_next}
-use Rattle.catalogue.proofs.arguments.report_of_lacking.Goals as goal
+use Rattle.catalogue.proofs.arguments.report_of_lacking_names.Goals as goal
 
 pub loop-one-preserved : goal.loop-one-preserved
 loop-one-preserved c = each_next argument_of

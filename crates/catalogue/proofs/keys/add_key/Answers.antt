@@ -1,7 +1,7 @@
 use Rattle.std.proofs.Common.{◌≡◌, ◌∙◌, sym, None, rules, ◌+◌}
 use Rattle.std.specs.{HashMap.get_by, HashMap.hash_map_len, Str.bytes_eq}
 use Rattle.catalogue.proofs.KeyLemmas.{remembers_new}
-use Rattle.catalogue.proofs.keys.add.Goals as goal
+use Rattle.catalogue.proofs.keys.add_key.Goals as goal
 
 pub returns-in_ok-insert : goal.returns-in_ok-insert
 returns-in_ok-insert c seen so_far =
